@@ -6,12 +6,12 @@ use crate::heads::heads_in;
 use crate::lookup::key;
 use crate::outlines::entries_in;
 use crate::outputs::outputs_in;
-use crate::store_fault::trees::{Form, check_place, has_row, rows_behind, rows_of};
+use crate::store_fault::trees::{Form, check_until, has_row, rows_behind, rows_of};
 use crate::value::int;
 use crate::{CaseOutputs, RunHead, StoreFault};
 use kt_base::{Entry, NoMemory};
 use sqlite::Row;
-use sqlite_trees::store::{Direction, Store};
+use sqlite_trees::store::Store;
 use sqlite_value::row;
 use std::alloc::Global;
 
@@ -91,8 +91,8 @@ pub(crate) fn look<S: Store>(store: &mut S, alloc: Global, run: u64) -> Result<(
     Ok(())
 }
 
-/// Reads the places beside those of a run: a place of the run that was damaged may stand there.
-fn look_beside<S: Store>(
+/// Reads the last place before those of a run: it may be one of these that was damaged.
+fn look_before<S: Store>(
     store: &mut S,
     alloc: Global,
     table: u32,
@@ -100,36 +100,18 @@ fn look_beside<S: Store>(
     form: &Form,
     run: u64,
 ) -> Result<(), StoreFault>
-    requires { run ≤ last_run }
+    requires { run < 2 ^ 63 }
     ensures failed { IfErr result IsStoreFault }
     ensures looks { Looks S.Store store.old store.new }
 {
-    let before = run_key(alloc, run.saturating_sub(1))?;
-    check_place(
-        store,
-        alloc,
-        table,
-        index,
-        form,
-        &before,
-        Direction::Backward,
-    )?;
-    let behind = run_key(alloc, run + 1)?;
-    check_place(
-        store,
-        alloc,
-        table,
-        index,
-        form,
-        &behind,
-        Direction::Forward,
-    )?;
+    let key = run_key(alloc, run.saturating_sub(1))?;
+    check_until(store, alloc, table, index, form, &key)?;
     Ok(())
 }
 
 /// The rows of a run's entries without their outputs, by position.
 fn entry_rows<S: Store>(store: &mut S, alloc: Global, run: u64) -> Result<Vec<Row>, StoreFault>
-    requires { run ≤ last_run }
+    requires { run < 2 ^ 63 }
     ensures all { (runs : _) → HasRuns (S.Store.view store.old) runs
         → IsClean (S.Store.view store.new)
         → IfOk result (λ rows. rows.items ≡ map entry_columns (entries_of (run_at runs run))) }
@@ -139,7 +121,7 @@ fn entry_rows<S: Store>(store: &mut S, alloc: Global, run: u64) -> Result<Vec<Ro
     ensures failed { IfErr result IsStoreFault }
     ensures looks { Looks S.Store store.old store.new }
 {
-    look_beside(store, alloc, ENTRIES, ENTRIES_BY_KEY, &ENTRY, run)?;
+    look_before(store, alloc, ENTRIES, ENTRIES_BY_KEY, &ENTRY, run)?;
     let key = run_key(alloc, run)?;
     let rows = rows_behind(
         store,
@@ -160,7 +142,7 @@ fn pair_rows<S: Store>(
     run: u64,
     pairs: bool,
 ) -> Result<Vec<Row>, StoreFault>
-    requires { run ≤ last_run }
+    requires { run < 2 ^ 63 }
     ensures all { (runs : _) → HasRuns (S.Store.view store.old) runs
         → IsClean (S.Store.view store.new) → IfOk result (λ rows. rows.items
         ≡ pairs_shown (map (with_pairs pairs) (entries_of (run_at runs run)))) }
@@ -171,7 +153,7 @@ fn pair_rows<S: Store>(
     if !pairs {
         return Ok(Vec::new(alloc));
     }
-    look_beside(store, alloc, PAIRS, PAIRS_BY_KEY, &PAIR, run)?;
+    look_before(store, alloc, PAIRS, PAIRS_BY_KEY, &PAIR, run)?;
     let key = run_key(alloc, run)?;
     let rows = rows_behind(store, alloc, PAIRS, PAIRS_BY_KEY, &PAIR, &key, &[2, 4, 5])?;
     Ok(rows)
@@ -184,7 +166,7 @@ pub(crate) fn all_entries<S: Store>(
     run: u64,
     pairs: bool,
 ) -> Result<Vec<Entry>, StoreFault>
-    requires { run ≤ last_run }
+    requires { run < 2 ^ 63 }
     ensures all { (runs : _) → HasRuns (S.Store.view store.old) runs
         → IsClean (S.Store.view store.new) → IfOk result (λ found. found.items
         ≡ map (outlined pairs) (entries_of (run_at runs run))) }

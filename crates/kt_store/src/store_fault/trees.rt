@@ -167,15 +167,14 @@ fn read_row<S: Store>(
     Ok(())
 }
 
-/// Reads the first place of an index from a key on, in this direction, and its row: it is damage if that is another's.
-pub(crate) fn check_place<S: Store>(
+/// Reads the last place of an index up to a key, and its row: it is damage if that is another's.
+pub(crate) fn check_until<S: Store>(
     store: &mut S,
     alloc: Global,
     table: u32,
     index: u32,
     form: &Form,
     key: &row::Row,
-    direction: Direction,
 ) -> Result<(), StoreFault>
     ensures failed { IfErr result IsStoreFault }
     ensures looks { Looks S.Store store.old store.new }
@@ -185,9 +184,30 @@ pub(crate) fn check_place<S: Store>(
     }
     let mut place = row::Row::new(alloc);
     let mut row = row::Row::new(alloc);
-    store.seek(0, index, key, direction)?;
+    store.seek(0, index, key, Direction::Backward)?;
     if store.next(0, &mut place)? {
         read_row(store, alloc, table, form, &place, &mut row)?;
+    }
+    Ok(())
+}
+
+/// Reads the row of a place, if there is one.
+fn check_last<S: Store>(
+    store: &mut S,
+    alloc: Global,
+    table: u32,
+    form: &Form,
+    place: &row::Row,
+    row: &mut row::Row,
+) -> Result<(), StoreFault>
+    requires { (S.Store.view store.old).shape table ≡ kind.Table }
+    ensures same { OnOk result (IsClean (S.Store.view store.new)
+        → S.Store.view store.new ≡ S.Store.view store.old) }
+    ensures failed { IfErr result IsStoreFault }
+    ensures looks { Looks S.Store store.old store.new }
+{
+    if place.len() > 0 {
+        read_row(store, alloc, table, form, place, row)?;
     }
     Ok(())
 }
@@ -224,6 +244,8 @@ pub(crate) fn rows_behind<S: Store>(
     // A disk that lies could keep a cursor going, so the loop counts.
     'places: for _ in 0..u64::MAX {
         if !next_place(store, &mut place, key)? {
+            // The place behind is read too: it may be one of these that was damaged.
+            check_last(store, alloc, table, form, &place, &mut row)?;
             return Ok(rows);
         }
         read_row(store, alloc, table, form, &place, &mut row)?;

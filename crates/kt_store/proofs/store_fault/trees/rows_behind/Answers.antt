@@ -7,10 +7,11 @@ use Rattle.kt_store.proofs.store_fault.trees.rows_behind.Goals as goal
 pub returns-then-not-branch-clause-all : goal.returns-then-not-branch-clause-all
 returns-then-not-branch-clause-all g c clean cs mine has =
     let old = g.S.Store.view c.args.store.now in
-    let early : IsClean (g.S.Store.view c.places.store) = c.next_place.ensures.looks.clean clean in
+    let late : IsClean (g.S.Store.view c.next_place.new.store) = c.check_last.ensures.looks.clean clean in
+    let early : IsClean (g.S.Store.view c.places.store) = c.next_place.ensures.looks.clean late in
     let order = g.met.S.Store.ordered c.args.store.now (c.places.invariant.5 early) in
     let p = has (subst (λ s. IsShaped s (old.trees c.args.table)) (c.are_shaped.ensures.table (search rules)) (order c.args.table)) (subst (λ s. IsShaped s (old.trees c.args.index)) (c.are_shaped.ensures.index (search rules)) (order c.args.index)) in
-    lemma.halfway_end c.args.columns.now cs c.args.key.now mine _ _ p _ c.places.rows.items (c.places.invariant.3 early cs mine p) (rw c.if-not-branch.true at (c.in_ok-next_place.ensures.goes clean))
+    lemma.halfway_end c.args.columns.now cs c.args.key.now mine _ _ p _ c.places.rows.items (c.places.invariant.3 early cs mine p) (rw c.if-not-branch.true at (c.in_ok-next_place.ensures.goes late))
 
 pub places-preserved : goal.places-preserved
 places-preserved g c = (
