@@ -850,6 +850,7 @@ class Tested:
         self.is_cut = MEMORY in lines[:behind]
         entries = [re.fullmatch(r"\d+ ([^ ]+) (.*), started \d+, took \d+", line) for line in lines[behind:]]
         self.entries = [match.groups() for match in entries if match][1 if row.has("^old") else 0:]
+        self.outputs = OUTPUT.findall("\n".join(lines[behind:]))
 
     def is_recorded(self):
         """Whether each case that was printed is recorded, and at the most one more."""
@@ -858,7 +859,7 @@ class Tested:
 
 def are_told(row, due, got):
     """Whether of the `test` without a failure of the disk and the one with it one was refused memory once: it ended there, or has a case
-    that says so. They differ in that, and in the lives of the children behind it."""
+    that says so, or an output that is empty. They differ in that, and in the lives of the children behind it."""
     if "whole" not in got or "cut" not in got or not set(re.findall(STOPS, got[0].split(", and then ")[0])) <= set(re.findall(STOPS, due[0])):
         return False
     at, behind = got.index("whole"), got.index("cut")
@@ -869,7 +870,9 @@ def are_told(row, due, got):
         lives.add(f"failed: Returned non-success exit status {number}" if word == "exited" else f"broken: Received signal {number}")
     all_entries = whole.entries + cut.entries
     refused = [entry for entry in all_entries if entry[1] in programs.reasons(entry[0])]
-    return len(refused) + whole.is_cut + cut.is_cut == 1 and all(entry[1] in lives for entry in all_entries if entry not in refused) and \
+    emptied = [pair for pair in zip(whole.outputs, cut.outputs) if pair[0] != pair[1]]
+    has_lost = not refused and len(emptied) == 1 and any(text == "" for _, text in emptied[0])
+    return len(refused) + whole.is_cut + cut.is_cut + has_lost == 1 and all(entry[1] in lives for entry in all_entries if entry not in refused) and \
         whole.is_recorded() and (whole.is_cut or len(whole.cases) == len(whole.entries)) and cut.is_recorded() and \
         all(one[0] == other[0] for one, other in zip(whole.entries, cut.entries))
 
