@@ -838,6 +838,9 @@ def are_stops(due, got):
     if match:
         return due[0].startswith(match.group(1))
     one, other = (re.findall(STOPS, line) for line in (due[0], got[0]))
+    # The command without a failure of the disk ended there itself.
+    if other == one[:len(other) - 1] + [", then not"]:
+        return True
     return any(other == one[:at] + [other[at]] + one[back:] for at in range(1, min(len(one), len(other))) for back in (at - 1, at))
 
 
@@ -848,9 +851,10 @@ class Tested:
         behind = next((at for at, line in enumerate(lines) if re.fullmatch(r"run \d+ at \d+, \d+ cases", line)), len(lines))
         self.cases = [case_of(line)[:2] for line in lines[:behind] if case_of(line)]
         self.is_cut = MEMORY in lines[:behind]
+        self.has_failed = STORE in lines[:behind]
         entries = [re.fullmatch(r"\d+ ([^ ]+) (.*), started \d+, took \d+", line) for line in lines[behind:]]
         self.entries = [match.groups() for match in entries if match][1 if row.has("^old") else 0:]
-        self.outputs = OUTPUT.findall("\n".join(lines[behind:]))
+        self.outputs = [(name, re.split(r"\n(\d+ |unfinished|finished)", text)[0]) for name, text in OUTPUT.findall("\n".join(lines[behind:]))]
 
     def is_recorded(self):
         """Whether each case that was printed is recorded, and at the most one more."""
@@ -870,10 +874,12 @@ def are_told(row, due, got):
         lives.add(f"failed: Returned non-success exit status {number}" if word == "exited" else f"broken: Received signal {number}")
     all_entries = whole.entries + cut.entries
     refused = [entry for entry in all_entries if entry[1] in programs.reasons(entry[0])]
+    # A disk in memory fails where it is refused memory, without another failure.
+    has_ended = whole.is_cut or whole.has_failed
     emptied = [pair for pair in zip(whole.outputs, cut.outputs) if pair[0] != pair[1]]
     has_lost = not refused and len(emptied) == 1 and any(text == "" for _, text in emptied[0])
-    return len(refused) + whole.is_cut + cut.is_cut + has_lost == 1 and all(entry[1] in lives for entry in all_entries if entry not in refused) and \
-        whole.is_recorded() and (whole.is_cut or len(whole.cases) == len(whole.entries)) and cut.is_recorded() and \
+    return len(refused) + has_ended + cut.is_cut + has_lost == 1 and all(entry[1] in lives for entry in all_entries if entry not in refused) and \
+        whole.is_recorded() and (has_ended or len(whole.cases) == len(whole.entries)) and cut.is_recorded() and \
         all(one[0] == other[0] for one, other in zip(whole.entries, cut.entries))
 
 
