@@ -239,25 +239,24 @@ let moment = world.now();
 BODY
 
 rule 'says that a file could not be read' lines \
-  '((Claim|TapFault|ListBytes|ReadEnd|Self)::Unreadable|(NextPart|Self)::Failed)($|[^ ]| [^=])' <<'PLACES'
+  '(Claim|TapFault|ListBytes|ReadEnd|Self)::Unreadable($|[^ ]| [^=])' <<'PLACES'
 # A part that is missing after another one, and an empty one that others follow.
-kt_child/src/ending/parts.rt: NextPart::Failed
-kt_child/src/ending/parts.rt: return NextPart::Failed;
+kt_child/src/ending/parts.rt: Some(ReadEnd::Unreadable)
+kt_child/src/ending/parts.rt: return Some(ReadEnd::Unreadable);
 # A read that failed, and bytes for which memory was refused.
-kt_child/src/ending/parts.rt: Err(_) => NextPart::Failed,
-kt_child/src/ending/parts.rt: Err(_) => NextPart::Failed,
+kt_child/src/ending/parts.rt: Err(_) => Some(ReadEnd::Unreadable),
+kt_child/src/ending/parts.rt: Err(_) => Some(ReadEnd::Unreadable),
 kt_child/src/ending/ends.rt: Ok(FileRead::Missing) | Err(_) => ListBytes::Unreadable,
 # What is made of these, and of readers that were refused memory.
-kt_child/src/ending/parts.rt: NextPart::Failed => return ReadEnd::Unreadable,
 kt_child/src/ending/gathering.rt: Err(_) => Claim::Unreadable,
 kt_child/src/ending/gathering.rt: Err(_) => Tap::Invalid(TapFault::Unreadable),
 kt_child/src/ending/gathering.rt: ReadEnd::Missing => Tap::Invalid(TapFault::Unreadable),
 kt_child/src/ending/gathering.rt: ReadEnd::Unreadable => Claim::Unreadable,
 kt_child/src/ending/gathering.rt: ReadEnd::Unreadable => Tap::Invalid(TapFault::Unreadable),
 PLACES
-body kt_child/src/ending/parts.rt 'match hand(reader, bytes) {' <<'BODY'
-if bytes.as_slice().last() == Some(&b'\r') { return NextPart::Failed; }
-match hand(reader, bytes) {
+body kt_child/src/ending/parts.rt 'FileRead::Part(bytes, follows) => match hand(reader, &bytes) {' <<'BODY'
+FileRead::Part(bytes, _) if bytes.as_slice().last() == Some(&b'\r') => Some(ReadEnd::Unreadable),
+FileRead::Part(bytes, follows) => match hand(reader, &bytes) {
 BODY
 body kt_child/src/ending/gathering.rt 'Ok(tap) => tap,' <<'BODY'
 Ok(Tap::Counted(_, 50_001..)) => Tap::Invalid(TapFault::Unreadable),
@@ -376,16 +375,16 @@ kt_store/src/runs_file.rt: use std::rt::Files as FileSystem;
 kt_atflist/src/list_fault.rt: use std::fmt::{Formatter, Result as Shown, Write};
 kt_suite/src/fault.rt: use std::fmt::{Display, Formatter, Result as Shown, Write as FormatWrite};
 PLACES
-body kt_child/src/driving/starts.rt 'use kt_sched::Job;' <<'BODY'
+body kt_child/src/driving/starts.rt 'use kt_sched::{Job, StartAnswer};' <<'BODY'
 use kt_base::Refused as Cause;
 BODY
-body kt_child/src/driving/starts.rt 'use kt_sched::Job;' <<'BODY'
+body kt_child/src/driving/starts.rt 'use kt_sched::{Job, StartAnswer};' <<'BODY'
 use kt_base::Refused::{Memory};
 BODY
-body kt_child/src/driving/starts.rt 'use kt_sched::Job;' <<'BODY'
+body kt_child/src/driving/starts.rt 'use kt_sched::{Job, StartAnswer};' <<'BODY'
 type Cause = Refused;
 BODY
-body kt_child/src/driving/starts.rt 'use kt_sched::Job;' <<'BODY'
+body kt_child/src/driving/starts.rt 'use kt_sched::{Job, StartAnswer};' <<'BODY'
 use kt_base::{
 Refused as Cause,
 };

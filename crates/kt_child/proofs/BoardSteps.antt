@@ -1,11 +1,11 @@
 -- The board after a start, and what its children hear of polls, turns and waits.
 use Rattle.std.proofs.Common.{if◌then◌else◌, ◌≡◌, ℕ, zero, suc, List, [], ◌∷◌, ◌++◌, Bool, true, false, Some, Result, map, slice_get, refl, sym, ◌∙◌, ap, subst, append_assoc, remove}
-use Rattle.kt_child.proofs.Common.{All, All-cons, All-head, All-nil, All-tail, Case, Job, Outcome, StartAnswer, Ended, Polled, OsFault, Watched, ChildrenState, Waited, Chain, Call, Kill, Pause, Poll, IsOn, answered, heard_of, Heard, HeardKill, HeardPoll, Leaves, Alive, Ends, Hears, IsOver, alive_after, alive_of, board_of, state_after_start, watched_of, asked_by_poll, is_killed, child_of, pending_with, PolledAll, PolledUntil, Rounds, WaitedOn, advanced, advanced_below, after_turns}
+use Rattle.kt_child.proofs.Common.{All, All-cons, All-head, All-nil, All-tail, Case, Job, Outcome, StartAnswer, Ended, Polled, OsFault, Watched, ChildrenState, Chain, Call, Kill, Pause, Poll, IsOn, answered, heard_of, Heard, HeardKill, HeardPoll, Leaves, Alive, Hears, IsOver, alive_after, alive_of, board_of, limit_of, spawned, state_after_start, asked_by_poll, is_killed, child_of, pending_with, PolledAll, PolledUntil, Waited, WaitedOn, advanced, advanced_below, last_turn, whole_turn}
 use Rattle.kt_sched.specs.declared.job.StartAnswer.TheVariants.{Started as StartedAt, Refused as RefusedFor}
 use Rattle.kt_child.specs.Driving.Board.{killed, later, paused, polled}
 use Rattle.kt_child.proofs.Chains.{chain_append}
 use Rattle.kt_child.proofs.Outcomes.{goes_on}
-use Rattle.kt_child.proofs.CaseSteps.{some_is}
+use Rattle.kt_child.proofs.CaseSteps.{Left, some_is}
 
 -- a child with these answers
 abbrev answering : Watched → List Heard → Alive
@@ -13,12 +13,12 @@ answering k heard = record { case = k.case; limit = k.limit; heard = heard }
 
 -- the children after a start, and the cases that are owed
 pub alive_started : (b : ChildrenState) (job : Job) (c : Case) (answer : StartAnswer)
-    → alive_of (state_after_start b (watched_of job c) answer).children ≡ alive_after (alive_of b.children) job c answer
+    → alive_of (state_after_start b (spawned (limit_of job c.role) c) answer).children ≡ alive_after (alive_of b.children) job c answer
 alive_started b job c (RefusedFor cause) = refl
 alive_started b job c (StartedAt moment) = by b.children
   where
     k : Watched
-    k = watched_of job c
+    k = spawned (limit_of job c.role) c
 
     by : (ks : List Watched) → alive_of (ks ++ k ∷ []) ≡ alive_of ks ++ answering k [] ∷ []
     by [] = refl
@@ -106,45 +106,40 @@ until_heard (k ∷ ks) (suc place) calls outcome on (before, last, e, (answer, d
     let same = e ∙ ap (λ t. t ++ last) f ∙ append_assoc (asked k answer done) more last in
     (now ∷ r.0, r.1, (first_heard k ks answer done (more ++ last) calls r.0 g.0 same r.2.0, r.2.1, r.2.2), ap (λ t. now ∷ t) r.3, r.4)
 
--- whole turns
-rounds_heard : (n : ℕ) (ks : List Watched) (calls : List Call) → All IsOn ks → Rounds n ks calls → Chain Hears (alive_of ks) calls (alive_of (after_turns n ks)) × All IsOn (after_turns n ks)
-rounds_heard zero ks calls on h = let C : List Call → Type 0 = λ t. Chain Hears (alive_of ks) t (alive_of ks) in (subst C (sym h) refl, on)
-rounds_heard (suc n) ks calls on (turn, done, more, e, all, rounds) =
-    let t = turn_heard ks turn on all in
-    let r = rounds_heard n (map advanced ks) more t.1 rounds in
-    let C : List Call → Type 0 = λ t. Chain Hears (alive_of ks) t (alive_of (after_turns (suc n) ks)) in
-    let now = alive_of (map advanced ks) in
-    (subst C (sym e) (chain_append Hears (alive_of ks) now (alive_of (after_turns (suc n) ks)) turn (Pause done ∷ more) t.0 (now, paused now done, r.0)), r.1)
-
 -- a wait
 pub wait_heard : (ks : List Watched) (calls : List Call) (place : ℕ) (outcome : Outcome) (after : List Watched) → All IsOn ks → WaitedOn ks calls place outcome after
     → OverAt ks calls after place outcome
-wait_heard ks calls place outcome after on (turns, (rounds, last, e, waited, until), same) =
-    let r = rounds_heard turns ks rounds on waited in
-    let u = until_heard (after_turns turns ks) place last outcome r.1 until in
-    let C : List Call → Type 0 = λ t. Chain Hears (alive_of ks) t u.0 in
-    let P : List Watched → Type 0 = λ t. OverAt ks calls t place outcome in
-    subst P (sym same) (u.0, u.1, (subst C (sym e) (chain_append Hears (alive_of ks) (alive_of (after_turns turns ks)) u.0 rounds last r.0 u.2.0), u.2.1, u.2.2), u.3, u.4)
+wait_heard _ _ _ _ _ on (last_turn ks calls place outcome until) = until_heard ks place calls outcome on until
+wait_heard _ _ _ _ _ on (whole_turn ks after turn more done place outcome all waited) =
+    let t = turn_heard ks turn on all in
+    let u = wait_heard (map advanced ks) more place outcome after t.1 waited in
+    let now = alive_of (map advanced ks) in
+    (u.0, u.1, (chain_append Hears (alive_of ks) now u.0 turn (Pause done ∷ more) t.0 (now, paused now done, u.2.0), u.2.1, u.2.2), u.3, u.4)
 
 -- an end on the board
-pub waited_ends : (old new : ChildrenState) (calls : List Call) (e : Ended) → All IsOn old.children → Waited old calls e new
-    → (next : ℕ) → Ends (board_of old next) calls e (board_of new next)
+pub waited_ends : (old new : ChildrenState) (calls : List Call) (e : Ended) → All IsOn old.children → Left old calls e new
+    → (next : ℕ) → Waited old.children (board_of old next) calls e new.children (board_of new next)
 waited_ends old new calls e on w next =
     let o = wait_heard old.children w.polls w.place w.outcome w.after on w.waited in
     let case : o.1.case ≡ w.over.case = o.4 w.over w.there in
     let T : Outcome → Type 0 = λ t. IsOver (alive_of old.children) w.polls o.0 w.place o.1 t in
     let L : Outcome → Type 0 = λ t. Leaves w.over.case w.rest t e in
     let M : Case → Type 0 = λ t. Leaves t w.rest e.outcome e in
-    record {
-      polls = w.polls;
-      leaving = w.rest;
-      asked = w.asked;
-      after = o.0;
-      place = w.place;
-      over = o.1;
-      told = subst T (sym w.left.10) o.2;
-      left = subst M (sym case) (subst L (sym w.left.10) w.left);
-      alive = ap alive_of w.children ∙ sym o.3;
-      owed = w.pending ∙ ap (λ t. pending_with t old.pending) (sym case);
-      next = refl;
-    }
+    let W : Outcome → Type 0 = λ t. WaitedOn old.children w.polls w.place t w.after in (
+      record {
+        polls = w.polls;
+        leaving = w.rest;
+        asked = w.asked;
+        after = o.0;
+        place = w.place;
+        over = o.1;
+        told = subst T (sym w.left.10) o.2;
+        left = subst M (sym case) (subst L (sym w.left.10) w.left);
+        alive = ap alive_of w.children ∙ sym o.3;
+        owed = w.pending ∙ ap (λ t. pending_with t old.pending) (sym case);
+        next = refl;
+      },
+      w.after,
+      subst W (sym w.left.10) w.waited,
+      w.children,
+    )

@@ -1,6 +1,6 @@
 -- The cases of children, which no poll changes.
-use Rattle.std.proofs.Common.{◌≡◌, ℕ, zero, suc, List, [], ◌∷◌, Some, map, slice_get, refl, sym, ◌∙◌, ap, remove}
-use Rattle.kt_child.proofs.Common.{Outcome, Ended, Watched, ChildrenState, Waited, Call, cases_of, WaitedOn, advanced, advanced_below, after_turns}
+use Rattle.std.proofs.Common.{◌≡◌, ℕ, zero, suc, List, [], ◌∷◌, ◌++◌, Some, map, slice_get, refl, sym, ◌∙◌, ap, remove}
+use Rattle.kt_child.proofs.Common.{Outcome, Ended, Watched, ChildrenState, Call, Leaves, cases_of, WaitedOn, advanced, advanced_below, last_turn, pending_with, whole_turn}
 
 pub some_is : {X : Type 0} (x y : X) → Some x ≡ Some y → x ≡ y
 some_is x y e = cc
@@ -14,14 +14,10 @@ pub cases_turn : (ks : List Watched) → cases_of (map advanced ks) ≡ cases_of
 cases_turn [] = refl
 cases_turn (k ∷ ks) = ap (λ t. k.case ∷ t) (cases_turn ks)
 
-pub cases_turns : (n : ℕ) (ks : List Watched) → cases_of (after_turns n ks) ≡ cases_of ks
-cases_turns zero ks = refl
-cases_turns (suc n) ks = cases_turns n (map advanced ks) ∙ cases_turn ks
-
 pub cases_waited : (ks : List Watched) (calls : List Call) (place : ℕ) (outcome : Outcome) (after : List Watched)
     → WaitedOn ks calls place outcome after → cases_of after ≡ cases_of ks
-cases_waited ks calls place outcome after (turns, waited, same) =
-    ap cases_of same ∙ cases_below place (after_turns turns ks) ∙ cases_turns turns ks
+cases_waited _ _ _ _ _ (last_turn ks calls place outcome polled) = cases_below place ks
+cases_waited _ _ _ _ _ (whole_turn ks after turn more done place outcome all waited) = cases_waited (map advanced ks) more place outcome after waited ∙ cases_turn ks
 
 -- without the child at a place
 pub cases_remove : (ks : List Watched) (i : ℕ) → cases_of (remove ks i) ≡ remove (cases_of ks) i
@@ -36,8 +32,24 @@ case_at [] i k e = let no : ⊥ = cc in absurd no
 case_at (x ∷ ks) zero k e = ap (λ t. Some t.case) (some_is x k e)
 case_at (x ∷ ks) (suc i) k e = case_at ks i k e
 
+-- A wait that asks this and ends so leads from one state to another: its polls end with the child at a place, whose answers
+-- tell the outcome; what follows deals with the case of that child, and the child is not among the running ones then.
+pub record Left (old : ChildrenState) (calls : List Call) (e : Ended) (new : ChildrenState) : Type 0 where
+  pub polls : List Call
+  pub rest : List Call
+  pub place : ℕ
+  pub outcome : Outcome
+  pub after : List Watched
+  pub over : Watched
+  pub asked : calls ≡ polls ++ rest
+  pub waited : WaitedOn old.children polls place outcome after
+  pub there : slice_get after place ≡ Some over
+  pub left : Leaves over.case rest outcome e
+  pub children : new.children ≡ remove after place
+  pub pending : new.pending ≡ pending_with over.case old.pending
+
 -- the cases after a wait, and that of the child that is over
-pub waited_cases : (old new : ChildrenState) (calls : List Call) (e : Ended) (w : Waited old calls e new)
+pub waited_cases : (old new : ChildrenState) (calls : List Call) (e : Ended) (w : Left old calls e new)
     → (cases_of new.children ≡ remove (cases_of old.children) w.place) × (slice_get (cases_of old.children) w.place ≡ Some w.over.case)
 waited_cases old new calls e w =
     let same = cases_waited old.children w.polls w.place w.outcome w.after w.waited in (

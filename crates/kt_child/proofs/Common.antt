@@ -22,29 +22,28 @@ pub use Rattle.kt_sched.specs.declared.job.Job.{Job}
 pub use Rattle.kt_sched.specs.declared.job.StartAnswer.{StartAnswer}
 pub use Rattle.kt_child.specs.Driving.Starting.{Begun}
 pub use Rattle.kt_child.specs.Driving.Board.{Alive, Board, Ends, Hears, IsOver, alive_of, board, board_of}
-pub use Rattle.kt_child.specs.Driving.ChildrenState.{ChildrenState, Waited, cases_of, is_among, pending_with, shown, shown_at, shown_in}
-pub use Rattle.kt_child.specs.Driving.JobPlan.{cleaning, job_purpose, limit_of, spawning_for, spawning_of, want_of}
+pub use Rattle.kt_child.specs.Driving.ChildrenState.{ChildrenState, cases_of, is_among, pending_with, shown, shown_at, shown_in}
+pub use Rattle.kt_child.specs.Driving.JobPlan.{case_of, job_purpose, limit_of, spawning_for, spawning_of, want_of}
 pub use Rattle.kt_child.specs.Driving.DriverSteps.{DriverStarts, DriverWaits}
-pub use Rattle.kt_child.specs.Driving.Board.{Starts, alive_after}
+pub use Rattle.kt_child.specs.Driving.Board.{Starts, Waited, alive_after}
 pub use Rattle.kt_child.specs.Driving.Numbers.{AttemptsDiffer, IsApart, ListOf, Request, Serves, ServesAll, Wait, is_attempt, numbers, NumbersDiffer}
 pub use Rattle.kt_child.specs.Driving.Roots.{FailedRoots, root_of}
 pub use Rattle.kt_child.specs.Driving.Runs.{Runs, RunsFrom}
 pub use Rattle.kt_child.specs.Ending.Ends.{Leaves, Removes, err_of, is_over, out_of}
-pub use Rattle.kt_child.specs.Ending.Parts.{After, Bytes, IsNext, Missing, Reads, TooLong, Unreadable, Whole, next_part}
+pub use Rattle.kt_child.specs.Ending.Parts.{IsEnd, Reads, next_part}
 pub use Rattle.kt_child.specs.Ending.Reads.{bytes_of}
-pub use Rattle.kt_child.specs.Host.HostStands.{AllProceed, AllStay, OthersStay, Proceeds, Stand, stand_in, stand_of}
-pub use Rattle.kt_child.specs.Inner.Children.{IsChildrenState, IsOn, IsShort, IsWatched, Takes, Tells, count_at, count_in, one_if, polls_left, state_after_start, times, watched_of, with_pending}
-pub use Rattle.kt_child.specs.Inner.Host.{IsPlaceOf, TakesPiece, after_removed, after_set, is_other, RunsIn}
-pub use Rattle.kt_child.specs.Planning.ChildPlan.{child_of, test_variable, variable_word}
+pub use Rattle.kt_child.specs.Host.HostStands.{AllProceed, AllStay, OthersStay, Proceeds, Stand, same_child, stand_in, stand_of}
+pub use Rattle.kt_child.specs.Inner.Children.{IsChildrenState, IsOn, IsShort, IsWatched, Takes, count_at, count_in, one_if, state_after_start, times, with_pending}
+pub use Rattle.kt_child.specs.Inner.Host.{RunsIn, TakesPiece, after_removed, after_set}
+pub use Rattle.kt_child.specs.Planning.ChildPlan.{child_of, paths_of, test_variable, variable_word}
 pub use Rattle.kt_child.specs.Polling.ChildOutcome.{Heard, HeardKill, HeardPoll, Told, ToldAfterKill, answered, running}
-pub use Rattle.kt_child.specs.Polling.Names.{same_child}
 pub use Rattle.kt_child.specs.Polling.Polls.{asked_by_poll, heard_of, is_killed, turn_of, watch_after}
-pub use Rattle.kt_child.specs.Polling.Turns.{PolledAll, PolledLast, PolledUntil, Rounds, WaitedOn, advanced, advanced_below, after_turns}
+pub use Rattle.kt_child.specs.Polling.Turns.{PolledAll, PolledLast, PolledUntil, WaitedOn, advanced, advanced_below, last_turn, whole_turn}
 pub use Rattle.kt_child.specs.Driving.Starting.{Ask, SetUpAs, Started, Tried, cause_of, child_asks, open_ask, spawn_ask, spawned, work_ask}
 pub use Rattle.kt_child.specs.System.Calls.{Call, Kill, MakeDir, Now, Pause, Poll, ReadFile, RemoveTree, SetLimit}
 pub use Rattle.kt_child.specs.declared.driving.driver.Driver.{Driver}
-pub use Rattle.kt_child.specs.declared.ending.NextPart.{NextPart}
-pub use Rattle.kt_child.specs.declared.ending.NextPart.TheVariants.{Absent, Failed, Past}
+pub use Rattle.kt_child.specs.declared.ending.ReadEnd.{ReadEnd}
+pub use Rattle.kt_child.specs.declared.ending.ReadEnd.TheVariants.{Complete}
 pub use Rattle.kt_child.specs.declared.host.host_child.HostChild.{HostChild}
 pub use Rattle.kt_child.specs.declared.planning.Case.{Case}
 pub use Rattle.kt_child.specs.declared.planning.Spawning.{Spawning}

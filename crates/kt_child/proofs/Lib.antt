@@ -4,8 +4,6 @@ pub mod CaseSteps
 pub mod Chains
 pub mod Common
 pub mod EndSteps
-pub mod HostNames
-pub mod HostPlaces
 pub mod HostReads
 pub mod HostStandings
 pub mod HostSteps

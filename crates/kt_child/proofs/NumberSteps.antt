@@ -9,9 +9,9 @@ use Rattle.kt_child.proofs.CaseCounts.{times_less, times_more, times_owed}
 -- no request lets the number fall
 rises : {O : Type 0} (leads : O → Call → O → Type 0) (d e : Driver O) (request : Request) → Serves leads d request e → d.next ≤ e.next
 rises leads d e (Start job role answer) ((calls, chain, inl (r, l, told, none, same)), source, root) = let n = ap (λ (b : Board). b.next) same in omega (arith, n)
-rises leads d e (Start job Body answer) ((calls, chain, inr (c, (l, n, owed, case), begun, after)), source, root) = omega (arith, n)
+rises leads d e (Start job Body answer) ((calls, chain, inr (c, ((l, number, n), owed, case), begun, after)), source, root) = omega (arith, n)
 rises leads d e (Start job Cleanup answer) ((calls, chain, inr (c, (place, was, at, position, n, owed, case), begun, after)), source, root) = omega (arith, n)
-rises leads d e (Wait ended) ((calls, chain, turns, ends), source, root) = let n = ends.next in omega (arith, n)
+rises leads d e (Wait ended) ((calls, chain, waited), source, root) = let n = waited.0.next in omega (arith, n)
 rises leads d e (ListOf program variables answer) (inl (l, told, os, n), running, source, root) = omega arith
 rises leads d e (ListOf program variables answer) (inr (inl (l, n, told, os)), running, source, root) = omega arith
 rises leads d e (ListOf program variables answer) (inr (inr (l, n, ran)), running, source, root) = omega arith
@@ -28,7 +28,7 @@ all_rise leads (request ∷ requests) d e (mid, first, rest) =
 takes : {O : Type 0} (leads : O → Call → O → Type 0) (d e : Driver O) (request : Request) → is_attempt request ≡ true → d.next < 2 ^ 64 - 1
     → Serves leads d request e → d.next < e.next
 takes leads d e (Start job Body answer) is lt ((calls, chain, inl (r, l, told, none, same)), source, root) = absurd (omega (arith, l))
-takes leads d e (Start job Body answer) is lt ((calls, chain, inr (c, (l, n, owed, case), begun, after)), source, root) = omega (arith, n)
+takes leads d e (Start job Body answer) is lt ((calls, chain, inr (c, ((l, number, n), owed, case), begun, after)), source, root) = omega (arith, n)
 takes leads d e (Start job Cleanup answer) is lt h = let no : ⊥ = cc in absurd no
 takes leads d e (Wait ended) is lt h = let no : ⊥ = cc in absurd no
 takes leads d e (ListOf program variables answer) is lt (inl (l, told, os, n), running, source, root) = absurd (omega arith)
@@ -109,7 +109,7 @@ starts_apart source root old new job Cleanup calls answer (inr (c, (place, was, 
     let p = ap (λ t. times n (map owed_by t)) owed in
     let k = ap (λ (t : Case). one_if (n == t.attempt)) case in
     omega (arith, s, a, l, p, k))
-starts_apart source root old new job Body calls answer (inr (c, (lt, next, owed, case), begun, alive)) apart = λ n. by n (one_or n old.next)
+starts_apart source root old new job Body calls answer (inr (c, ((lt, number, next), owed, case), begun, alive)) apart = λ n. by n (one_or n old.next)
   where
     most : (n : ℕ) → times n (numbers new) ≤ times n (numbers old) + one_if (n == old.next)
     most n =

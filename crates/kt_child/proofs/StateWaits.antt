@@ -1,12 +1,13 @@
 -- A state after a start, after a wait, and after a case was taken from those that are owed.
 use Rattle.std.proofs.Common.{◌≡◌, ℕ, suc, ◌+◌, ◌≤◌, List, ◌++◌, slice_get, take, drop, Bool, true, Option, Some, None, refl, sym, ◌∙◌, ap, subst, arith, ◌==◌, ◌&&◌, if◌then◌else◌, [], ◌∷◌, false, remove}
-use Rattle.kt_child.proofs.Common.{All, All-append, All-take, All-drop, All-push, Role, Body, Outcome, Watched, Case, Ended, Chain, Call, IsChildrenState, IsOn, count_at, count_in, one_if, WaitedOn, IsEvidence, same_role, running_after_end, pending_after_end, with_cleanup_declared, ChildrenState, Waited, cases_of, is_among, pending_with, shown, shown_at, shown_in, Leaves}
-use Rattle.kt_sched.specs.Children.{Child as Shown}
-use Rattle.kt_child.proofs.CaseSteps.{case_at, cases_remove, waited_cases}
+use Rattle.kt_child.proofs.Common.{Job, Paths, StartAnswer, case_of, limit_of, spawned, state_after_start, All, All-append, All-take, All-drop, All-push, Role, Body, Outcome, Watched, Case, Ended, Chain, Call, IsChildrenState, IsOn, count_at, count_in, one_if, WaitedOn, IsEvidence, same_role, running_after_end, pending_after_end, with_cleanup_declared, ChildrenState, cases_of, is_among, pending_with, shown, shown_at, shown_in, Leaves}
+use Rattle.kt_sched.specs.Children.{Child as Shown, running_after_start}
+use Rattle.kt_sched.specs.declared.job.StartAnswer.TheVariants.{Started as StartedAt, Refused as RefusedFor}
+use Rattle.kt_child.proofs.CaseSteps.{Left, case_at, cases_remove, waited_cases}
 use Rattle.kt_child.proofs.Chains.{chain_append}
 use Rattle.kt_child.proofs.CaseCounts.{position, same_number, same_position, times_less, times_more, times_owed}
 use Rattle.kt_child.proofs.OwedCases.{among_owed}
-use Rattle.kt_child.proofs.ShownCases.{shown_remove, shown_there}
+use Rattle.kt_child.proofs.ShownCases.{shown_append, shown_remove, shown_there}
 
 -- a position that is free may be taken once
 once_more : (b : Bool) (n m : ℕ) → (b ≡ true → n + m ≡ 0) → n + m ≤ 1 → n + one_if b + m ≤ 1
@@ -34,6 +35,14 @@ state_started children children' pending pending' k b on free e f =
           (λ q. subst Z (sym (same_position i k.case.position q)) free) (b.once i) in
           omega (arith, x, y, o);
     }
+
+-- what is shown after a start of a job's child
+pub shown_started : (b : ChildrenState) (job : Job) (role : Role) (number : ℕ) (paths : Paths) (answer : StartAnswer) → count_in job.position b ≡ 0 → (k : ℕ) (r : Role)
+    → shown_in (state_after_start b (spawned (limit_of job role) (case_of job role number paths)) answer) k r ≡ running_after_start (shown_in b) job role answer k r
+shown_started b job role number paths (RefusedFor cause) free k r = refl
+shown_started b job role number paths (StartedAt moment) free k r =
+    let c = case_of job role number paths in
+    ap (λ t. shown_at t k r) (cases_more b.children (spawned (limit_of job role) c)) ∙ shown_append (cases_of b.children) c k r (omega (arith, free))
 
 -- after a case was taken
 pub state_taken : (children : List Watched) (pending pending' : List Case) (p : ℕ) (c : Case)
@@ -82,7 +91,7 @@ abbrev pub Once : ChildrenState → Type 0
 Once b = (i : ℕ) → count_in i b ≤ 1
 
 -- the end is that of a child that ran
-pub waited_one : (old new : ChildrenState) (calls : List Call) (e : Ended) → Once old → (w : Waited old calls e new) → IsEvidence w.over.case.interface e.role e.evidence
+pub waited_one : (old new : ChildrenState) (calls : List Call) (e : Ended) → Once old → (w : Left old calls e new) → IsEvidence w.over.case.interface e.role e.evidence
     → (s : Shown) × (shown_in old e.position e.role ≡ Some s) × IsEvidence s.interface e.role e.evidence
 waited_one old new calls e once w fits =
     let c = w.over.case in
@@ -91,7 +100,7 @@ waited_one old new calls e once w fits =
     let Q : Role → Type 0 = λ r. shown_in old c.position r ≡ Some (shown c) in
     (shown c, subst P (sym w.left.8) (subst Q (sym w.left.9) (shown_there (cases_of old.children) w.place c at.1 (once_there (cases_of old.children) old.pending c once))), fits)
 
-pub waited_running : (old new : ChildrenState) (calls : List Call) (e : Ended) → Once old → Waited old calls e new
+pub waited_running : (old new : ChildrenState) (calls : List Call) (e : Ended) → Once old → Left old calls e new
     → (k : ℕ) (r : Role) → shown_in new k r ≡ running_after_end (shown_in old) e k r
 waited_running old new calls e once w k r =
     let c = w.over.case in
@@ -101,7 +110,7 @@ waited_running old new calls e once w k r =
     ap (λ t. shown_at t k r) at.0 ∙ shown_remove (cases_of old.children) w.place c k r at.1 (once_there (cases_of old.children) old.pending c once)
     ∙ ap A (sym w.left.8) ∙ ap B (sym w.left.9)
 
-pub waited_pending : (old new : ChildrenState) (calls : List Call) (e : Ended) → Once old → Waited old calls e new
+pub waited_pending : (old new : ChildrenState) (calls : List Call) (e : Ended) → Once old → Left old calls e new
     → (k : ℕ) → is_among new.pending k ≡ pending_after_end (shown_in old) (is_among old.pending) e k
 waited_pending old new calls e once w k =
     let c = w.over.case in
@@ -117,7 +126,7 @@ pub waited_all : {O : Type 0} (leads : O → Call → O → Type 0) (a b d : O) 
     → (calls : List Call) × Chain leads b calls d × Leaves k.case calls outcome e
     → children ≡ old.children → slice_get after place ≡ Some k
     → new.children ≡ remove after place → new.pending ≡ pending_with k.case old.pending
-    → (calls : List Call) × Chain leads a calls d × ((w : Waited old calls e new) × (w.over ≡ k))
+    → (calls : List Call) × Chain leads a calls d × ((w : Left old calls e new) × (w.over ≡ k))
 waited_all leads a b d old new children after place outcome k e (xs, p, w) (ys, q, l) same at f g =
     let P : List Watched → Type 0 = λ t. WaitedOn t xs place outcome after in (
       xs ++ ys,

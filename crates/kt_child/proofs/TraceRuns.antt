@@ -31,7 +31,7 @@ module _ {D O : Type 0} (leads : O → Call → O → Type 0) (driver : D → Dr
         (
           l.0.0 ++ w.0.0,
           chain_append leads (driver d).os (driver mid).os (driver e).os l.0.0 w.0.0 l.0.1 w.0.1,
-          (board (driver mid), l.0.0, w.0.0, refl, l.0.2, w.0.3),
+          (board (driver mid), l.0.0, w.0.0, refl, l.0.2, w.0.2.0),
         ),
         w.1 ∙ l.1,
         w.2 ∙ l.2,

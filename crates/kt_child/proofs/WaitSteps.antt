@@ -1,9 +1,12 @@
 -- Whole turns, one after the other.
-use Rattle.std.proofs.Common.{◌≡◌, ℕ, zero, suc, ◌<◌, List, [], ◌∷◌, ◌++◌, length, map, Bool, true, false, refl, ◌∙◌, ap, subst, arith, append_assoc}
-use Rattle.kt_child.proofs.Common.{All, All-head, Outcome, Case, Watched, Chain, Call, Pause, IsOn, IsShort, polls_left, PolledAll, PolledUntil, Rounds, WaitedOn, advanced, advanced_below, after_turns}
+use Rattle.std.proofs.Common.{◌≡◌, ℕ, ◌+◌, ◌*◌, ◌-◌, ◌<◌, List, [], ◌∷◌, ◌++◌, length, map, Bool, true, false, refl, sym, ◌∙◌, ap, subst, arith, append_assoc}
+use Rattle.kt_child.proofs.Common.{All, All-head, Outcome, Case, Watched, Chain, Call, Pause, IsOn, IsShort, PolledAll, PolledUntil, WaitedOn, advanced, advanced_below, last_turn, whole_turn}
 use Rattle.kt_child.proofs.Chains.{chain_append}
 
--- the polls that the first of these children has left
+-- the polls that a child has left, and the first of these children
+abbrev polls_left : Watched → ℕ
+polls_left k = (100 * k.limit - k.watch.before) + (500 - k.watch.after)
+
 abbrev pub first_left : List Watched → ℕ
 first_left [] = 0
 first_left (k ∷ s) = polls_left k
@@ -12,51 +15,39 @@ pub all_advanced : (s : List Watched) → advanced_below (length s) s ≡ map ad
 all_advanced [] = refl
 all_advanced (k ∷ s) = ap (λ t. advanced k ∷ t) (all_advanced s)
 
-pub one_more_turn : (n : ℕ) (s : List Watched) → map advanced (after_turns n s) ≡ after_turns (suc n) s
-one_more_turn zero s = refl
-one_more_turn (suc n) s = one_more_turn n (map advanced s)
-
-rounds_snoc : (n : ℕ) (s : List Watched) (xs ys : List Call) (d : Bool)
-    → Rounds n s xs → PolledAll (after_turns n s) ys → Rounds (suc n) s (xs ++ (ys ++ Pause d ∷ []))
-rounds_snoc zero s xs ys d h p = (ys, d, [], ap (λ t. t ++ (ys ++ Pause d ∷ [])) h, p, refl)
-rounds_snoc (suc n) s xs ys d (t, e, more, eq, q, rest) p =
-    let zs : List Call = ys ++ Pause d ∷ [] in
-    (t, e, more ++ zs, ap (λ u. u ++ zs) eq ∙ append_assoc t (Pause e ∷ more) zs, q, rounds_snoc n (map advanced s) more ys d rest p)
-
--- what is known after some turns
+-- what is known after some turns: whatever the rest of the wait is, it is the rest of the whole wait
 abbrev pub Waiting : {O : Type 0} → (O → Call → O → Type 0) → O → List Watched → O → List Watched → Type 0
 Waiting leads start init now children =
-    (n : ℕ) × (calls : List Call) × Chain leads start calls now × Rounds n init calls × (children ≡ after_turns n init)
+    (calls : List Call) × Chain leads start calls now
+    × ((more : List Call) (place : ℕ) (outcome : Outcome) (after : List Watched) → WaitedOn children more place outcome after → WaitedOn init (calls ++ more) place outcome after)
 
 pub waiting_none : {O : Type 0} (leads : O → Call → O → Type 0) (start : O) (init : List Watched) → Waiting leads start init start init
-waiting_none leads start init = (0, [], refl, refl, refl)
+waiting_none leads start init = ([], refl, λ more place outcome after waited. waited)
 
 pub waiting_more : {O : Type 0} (leads : O → Call → O → Type 0) (start now mid new : O) (init children : List Watched) (d : Bool)
     → Waiting leads start init now children
     → (calls : List Call) × Chain leads now calls mid × PolledAll children calls
     → leads mid (Pause d) new
     → Waiting leads start init new (advanced_below (length children) children)
-waiting_more leads start now mid new init children d (n, calls, chain, rounds, e) (ys, chain', polled) paused =
-    let P : List Watched → Type 0 = λ t. PolledAll t ys in (
-      suc n,
-      calls ++ (ys ++ Pause d ∷ []),
-      chain_append leads start now new calls (ys ++ Pause d ∷ []) chain
-          (chain_append leads now mid new ys (Pause d ∷ []) chain' (new, paused, refl)),
-      rounds_snoc n init calls ys d rounds (subst P e polled),
-      all_advanced children ∙ ap (λ t. map advanced t) e ∙ one_more_turn n init,
-    )
+waiting_more leads start now mid new init children d (calls, chain, on) (ys, chain', polled) paused = (
+  calls ++ (ys ++ Pause d ∷ []),
+  chain_append leads start now new calls (ys ++ Pause d ∷ []) chain
+      (chain_append leads now mid new ys (Pause d ∷ []) chain' (new, paused, refl)),
+  λ more place outcome after waited.
+      let P : List Watched → Type 0 = λ t. WaitedOn t more place outcome after in
+      let Q : List Call → Type 0 = λ t. WaitedOn init t place outcome after in
+      subst Q (sym (append_assoc calls (ys ++ Pause d ∷ []) more ∙ ap (λ t. calls ++ t) (append_assoc ys (Pause d ∷ []) more)))
+      (on (ys ++ Pause d ∷ more) place outcome after (whole_turn children after ys more d place outcome polled (subst P (all_advanced children) waited))),
+)
 
 pub waiting_over : {O : Type 0} (leads : O → Call → O → Type 0) (start now new : O) (init children last : List Watched) (place : ℕ) (outcome : Outcome)
     → Waiting leads start init now children
     → (calls : List Call) × Chain leads now calls new × PolledUntil children place calls outcome
     → last ≡ advanced_below place children
     → (calls : List Call) × Chain leads start calls new × WaitedOn init calls place outcome last
-waiting_over leads start now new init children last place outcome (n, calls, chain, rounds, e) (ys, chain', until) f =
-    let P : List Watched → Type 0 = λ t. PolledUntil t place ys outcome in (
-      calls ++ ys,
-      chain_append leads start now new calls ys chain chain',
-      (n, (calls, ys, refl, rounds, subst P e until), f ∙ ap (λ t. advanced_below place t) e),
-    )
+waiting_over leads start now new init children last place outcome (calls, chain, on) (ys, chain', until) f =
+    let P : List Watched → Type 0 = λ t. WaitedOn children ys place outcome t in
+    (calls ++ ys, chain_append leads start now new calls ys chain chain', on ys place outcome last (subst P (sym f) (last_turn children ys place outcome until)))
 
 falls : (case : Case) (limit before after : ℕ) (killed : Bool) → IsShort killed limit before after
     → polls_left (advanced (record { case = case; limit = limit; watch = record { before = before; killed = killed; after = after } }))

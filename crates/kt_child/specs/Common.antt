@@ -13,10 +13,10 @@ pub use Rattle.kt_sched.specs.Plan.{IsFit, IsPlan, IsWidth}
 pub use Rattle.kt_sched.specs.Run.{Ran}
 pub use Rattle.kt_sched.specs.Trace.{Leads, Trace}
 pub use Rattle.kt_child.specs.Driving.Starting.{Begun}
-pub use Rattle.kt_child.specs.Driving.ChildrenState.{Waited, idle_state, is_among, shown_in}
-pub use Rattle.kt_child.specs.Driving.Board.{Ends, board, board_of}
+pub use Rattle.kt_child.specs.Driving.ChildrenState.{idle_state, is_among, shown_in}
+pub use Rattle.kt_child.specs.Driving.Board.{TakesNumber, Waited, board, board_of}
 pub use Rattle.kt_child.specs.Driving.DriverSteps.{DriverStarts, DriverWaits, StartsBy}
-pub use Rattle.kt_child.specs.Driving.JobPlan.{case_in, limit_of, list_case, list_purpose, program_directory, program_path, spawning_for, spawning_of, want_of}
+pub use Rattle.kt_child.specs.Driving.JobPlan.{case_of, limit_of, list_case, list_purpose, program_directory, program_path, spawning_for, spawning_of, want_of}
 pub use Rattle.kt_child.specs.Driving.Lists.{ListsBy, RanList, WatchedList}
 pub use Rattle.kt_child.specs.Driving.Numbers.{AttemptsDiffer, NumbersDiffer}
 pub use Rattle.kt_child.specs.Driving.Roots.{FindsRoot, root_of}
@@ -24,16 +24,15 @@ pub use Rattle.kt_child.specs.Driving.Runs.{EndsAreTold, RunsFrom}
 pub use Rattle.kt_child.specs.Driving.Starting.{SetUp, SetUpIn, SetUpNew, Started, Tried, cause_of, child_asks, furnish_asks, spawn_ask, spawned}
 pub use Rattle.kt_child.specs.Ending.Ends.{Leaves, Removes, err_of, is_over, out_of}
 pub use Rattle.kt_child.specs.Ending.Gathering.{Gathers, IsClaim, IsTap, ReadsClaim, ReadsTap}
-pub use Rattle.kt_child.specs.Ending.Parts.{Bytes, IsNext, Reads, Whole, next_of, next_part}
+pub use Rattle.kt_child.specs.Ending.Parts.{IsEnd, Reads, end_of, next_part}
 pub use Rattle.kt_child.specs.Ending.Reads.{IsListWithin, IsReadWithin, bytes_of, list_of}
 pub use Rattle.kt_child.specs.Host.HostAnswers.{HostLeads, IsFront, IsHostRead, IsOpened, IsPolledOf, limit_after}
 pub use Rattle.kt_child.specs.Host.HostFiles.{TakesAtMost}
 pub use Rattle.kt_child.specs.Host.HostStands.{AllProceed, AllStay, IsLastEnd, OthersStay, Proceeds, stand_in, stand_of}
-pub use Rattle.kt_child.specs.Inner.Children.{IsOn, IsOnBy, IsWatched, Takes, Tells, count_in, shown_after, state_after_start, watched_of, with_pending}
-pub use Rattle.kt_child.specs.Inner.Host.{IsAt, IsCommandOf, IsFaultOf, IsFree, IsPlaceOf, IsUnopened, RunsIn, TakesPiece, after_removed, after_set, is_other}
+pub use Rattle.kt_child.specs.Inner.Children.{IsOn, IsOnBy, IsWatched, Takes, count_in, state_after_start, with_pending}
+pub use Rattle.kt_child.specs.Inner.Host.{IsAt, IsCommandOf, IsFaultOf, IsFree, IsUnopened, RunsIn, TakesPiece, after_removed, after_set}
 pub use Rattle.kt_child.specs.Planning.ChildPlan.{child_of, common_variables, env_of, own_variables, paths_of, removed_names, test_variable, variable, variable_word, words_of}
 pub use Rattle.kt_child.specs.Polling.ChildOutcome.{fresh}
-pub use Rattle.kt_child.specs.Polling.Names.{same_child}
 pub use Rattle.kt_child.specs.Polling.Polls.{asked_by_poll, is_due, turn_of, watch_after}
 pub use Rattle.kt_child.specs.Polling.Turns.{PolledAll, PolledUntil, WaitedOn, advanced_below}
 pub use Rattle.kt_child.specs.System.Calls.{Call, Kill, MakeDir, Now, OpenOutput, Pause, Poll, ReadFile, ReadPart, RemoveTree, SetLimit, Spawn}

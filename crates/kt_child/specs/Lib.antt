@@ -6,3 +6,4 @@ pub mod Inner
 pub mod Planning
 pub mod Polling
 pub mod System
+pub mod Types

@@ -1,5 +1,4 @@
 -- How running children are watched, in turns of polls.
 pub mod ChildOutcome
-pub mod Names
 pub mod Polls
 pub mod Turns

@@ -1,25 +1,16 @@
 -- The board of a driver: its running children with what each has answered, the cases that are owed a cleanup, and the next number.
-use Rattle.std.specs.Prelude.{◌≡◌, ℕ, ◌+◌, ◌-◌, ◌<◌, ◌^◌, ◌⊎◌, List, [], ◌∷◌, ◌++◌, Bool, Some, Result, map, remove, slice_get}
-use Rattle.kt_base.specs.Chains.{Chain}
-use Rattle.kt_base.specs.declared.child.Outcome.{Outcome}
+use Rattle.std.specs.Prelude.{◌≡◌, ℕ, ◌+◌, ◌-◌, ◌<◌, ◌^◌, ◌⊎◌, List, [], ◌∷◌, ◌++◌, Bool, Option, Some, None, Result, map, remove, slice_get}
+use Rattle.kt_child.specs.Types.{Body, Case, Chain, Cleanup, Ended, Job, OsFault, Outcome, Polled, Role, StartAnswer, Watched}
 use Rattle.kt_base.specs.declared.child.Refused.TheVariants.{Directory}
-use Rattle.kt_base.specs.declared.child.Role.{Role}
-use Rattle.kt_base.specs.declared.child.Role.TheVariants.{Body, Cleanup}
-use Rattle.kt_sched.specs.declared.job.Ended.{Ended}
-use Rattle.kt_sched.specs.declared.job.Job.{Job}
-use Rattle.kt_sched.specs.declared.job.StartAnswer.{StartAnswer}
 use Rattle.kt_sched.specs.declared.job.StartAnswer.TheVariants.{Started as StartedAt, Refused as RefusedFor}
 use Rattle.kt_child.specs.declared.driving.driver.Driver.{Driver}
-use Rattle.kt_child.specs.declared.planning.Case.{Case}
-use Rattle.kt_child.specs.declared.polling.Watched.{Watched}
-use Rattle.kt_child.specs.declared.system.OsFault.{OsFault}
-use Rattle.kt_child.specs.declared.system.Polled.{Polled}
 use Rattle.kt_child.specs.System.Calls.{Call, Kill, Pause, Poll}
-use Rattle.kt_child.specs.Planning.ChildPlan.{child_of}
+use Rattle.kt_child.specs.Planning.ChildPlan.{child_of, paths_of}
 use Rattle.kt_child.specs.Polling.ChildOutcome.{Heard, HeardKill, HeardPoll, Told, answered}
+use Rattle.kt_child.specs.Polling.Turns.{WaitedOn}
 use Rattle.kt_child.specs.Ending.Ends.{Leaves}
 use Rattle.kt_child.specs.Driving.ChildrenState.{ChildrenState, pending_with}
-use Rattle.kt_child.specs.Driving.JobPlan.{case_in, cleaning, limit_of, spawning_of}
+use Rattle.kt_child.specs.Driving.JobPlan.{case_of, limit_of, spawning_of}
 use Rattle.kt_child.specs.Driving.Starting.{Begun}
 
 -- a running child: its case, its limit in seconds, and all that it has answered since its start
@@ -45,13 +36,18 @@ board_of b next = record { alive = alive_of b.children; owed = b.pending; next =
 abbrev pub board : {O : Type 0} → Driver O → Board
 board d = board_of d.running d.next
 
+-- a number is taken, if one is left
+abbrev pub TakesNumber : ℕ → Option ℕ → ℕ → Type 0
+TakesNumber old None new = (old ≡ 2 ^ 64 - 1) × (new ≡ old)
+TakesNumber old (Some number) new = (old < 2 ^ 64 - 1) × (number ≡ old) × (new ≡ old + 1)
+
 -- The case of a start, below the root directory: a body takes the next number, a cleanup the case that is owed it.
 abbrev pub Takes : List ℕ → Board → Job → Role → Case → Board → Type 0
 Takes root old job Body c new =
-    (old.next < 2 ^ 64 - 1) × (new.next ≡ old.next + 1) × (new.owed ≡ old.owed) × (c ≡ case_in root job Body old.next)
+    TakesNumber old.next (Some c.attempt) new.next × (new.owed ≡ old.owed) × (c ≡ case_of job Body old.next (paths_of root old.next))
 Takes root old job Cleanup c new =
     (place : ℕ) × (owed : Case) × (slice_get old.owed place ≡ Some owed) × (owed.position ≡ job.position)
-    × (new.next ≡ old.next) × (new.owed ≡ remove old.owed place) × (c ≡ cleaning owed job)
+    × (new.next ≡ old.next) × (new.owed ≡ remove old.owed place) × (c ≡ case_of job Cleanup owed.attempt owed.paths)
 
 -- a started child is the last of the running ones, and has answered nothing yet
 abbrev pub alive_after : List Alive → Job → Case → StartAnswer → List Alive
@@ -62,7 +58,7 @@ alive_after alive job c (RefusedFor cause) = alive
 abbrev pub Starts : List ℕ → List ℕ → Board → Job → Role → List Call → StartAnswer → Board → Type 0
 Starts source root old job role calls answer new =
     ((role ≡ Body) × (old.next ≡ 2 ^ 64 - 1) × (answer ≡ RefusedFor Directory) × (calls ≡ []) × (new ≡ old))
-    ⊎ ((c : Case) × Takes root old job role c new × Begun (spawning_of source job c.role c.attempt c.paths) calls answer
+    ⊎ ((c : Case) × Takes root old job role c new × Begun (spawning_of source job c) calls answer
     × (new.alive ≡ alive_after old.alive job c answer))
 
 -- a child with one more answer
@@ -97,3 +93,8 @@ pub record Ends (old : Board) (calls : List Call) (e : Ended) (new : Board) : Ty
   pub alive : new.alive ≡ remove after place
   pub owed : new.owed ≡ pending_with over.case old.owed
   pub next : new.next ≡ old.next
+
+-- a wait for these children: an end whose polls go in turns, and what is kept of the children after it
+abbrev pub Waited : List Watched → Board → List Call → Ended → List Watched → Board → Type 0
+Waited children old calls e left new =
+    (end : Ends old calls e new) × (after : List Watched) × WaitedOn children end.polls end.place e.outcome after × (left ≡ remove after end.place)

@@ -1,14 +1,8 @@
 -- The running children of a driver, and the cases whose cleanup is owed.
-use Rattle.std.specs.Prelude.{map, ℕ, Bool, true, false, ◌==◌, ◌&&◌, ◌≡◌, List, [], ◌∷◌, ◌++◌, Option, Some, None, remove, slice_get, if◌then◌else◌}
-use Rattle.kt_base.specs.declared.child.Role.{Role}
-use Rattle.kt_base.specs.declared.child.Outcome.{Outcome}
-use Rattle.kt_sched.specs.declared.job.Ended.{Ended}
+use Rattle.std.specs.Prelude.{map, ℕ, Bool, true, false, ◌==◌, ◌&&◌, List, [], ◌∷◌, ◌++◌, Option, Some, None, if◌then◌else◌}
+use Rattle.kt_child.specs.Types.{Case, Role, Watched}
 use Rattle.kt_sched.specs.Children.{Child as Shown, same_role}
-use Rattle.kt_child.specs.declared.polling.Watched.{Watched}
-use Rattle.kt_child.specs.declared.planning.Case.{Case}
-use Rattle.kt_child.specs.System.Calls.{Call}
-use Rattle.kt_child.specs.Polling.Turns.{WaitedOn}
-use Rattle.kt_child.specs.Ending.Ends.{Leaves, is_over}
+use Rattle.kt_child.specs.Ending.Ends.{is_over}
 
 -- the running children in the order of their start, and the cases whose cleanup is owed
 pub record ChildrenState : Type 0 where
@@ -44,19 +38,3 @@ is_among (c ∷ cases) k = if k == c.position then true else is_among cases k
 -- the cases whose cleanup is owed, after the end of a child of this case
 abbrev pub pending_with : Case → List Case → List Case
 pending_with c pending = if is_over c then pending else pending ++ c ∷ []
-
--- A wait that asks this and ends so leads from one state to another: its polls end with the child at a place, whose answers
--- tell the outcome; what follows deals with the case of that child, and the child is not among the running ones then.
-pub record Waited (old : ChildrenState) (calls : List Call) (e : Ended) (new : ChildrenState) : Type 0 where
-  pub polls : List Call
-  pub rest : List Call
-  pub place : ℕ
-  pub outcome : Outcome
-  pub after : List Watched
-  pub over : Watched
-  pub asked : calls ≡ polls ++ rest
-  pub waited : WaitedOn old.children polls place outcome after
-  pub there : slice_get after place ≡ Some over
-  pub left : Leaves over.case rest outcome e
-  pub children : new.children ≡ remove after place
-  pub pending : new.pending ≡ pending_with over.case old.pending

@@ -1,17 +1,9 @@
 -- What a driver does as a launcher: its starts, its waits and its lists.
 use Rattle.std.specs.Prelude.{◌≡◌, ℕ, List}
-use Rattle.kt_base.specs.declared.child.Role.{Role}
-use Rattle.kt_base.specs.declared.variable.Variable.{Variable}
-use Rattle.kt_atflist.specs.declared.listing.Listing.{Listing}
-use Rattle.kt_sched.specs.declared.job.Job.{Job}
-use Rattle.kt_sched.specs.declared.job.StartAnswer.{StartAnswer}
-use Rattle.kt_sched.specs.declared.job.Ended.{Ended}
+use Rattle.kt_child.specs.Types.{Chain, Ended, Job, Listing, Role, StartAnswer, Variable}
 use Rattle.kt_child.specs.declared.driving.driver.Driver.{Driver}
-use Rattle.kt_base.specs.Chains.{Chain}
 use Rattle.kt_child.specs.System.Calls.{Call}
-use Rattle.kt_child.specs.Driving.Board.{Ends, board}
-use Rattle.kt_child.specs.Driving.ChildrenState.{Waited}
-use Rattle.kt_child.specs.Driving.Board.{Starts}
+use Rattle.kt_child.specs.Driving.Board.{Starts, Waited, board}
 use Rattle.kt_child.specs.Driving.Lists.{ListsBy}
 
 -- a job's child is started on the board, over a system whose calls are related so
@@ -27,7 +19,7 @@ DriverStarts leads old job role answer new =
 -- a wait: its polls go in turns, and one child ends
 abbrev pub DriverWaits : {O : Type 0} → (O → Call → O → Type 0) → Driver O → Ended → Driver O → Type 0
 DriverWaits leads old ended new =
-    ((calls : List Call) × Chain leads old.os calls new.os × Waited old.running calls ended new.running × Ends (board old) calls ended (board new))
+    ((calls : List Call) × Chain leads old.os calls new.os × Waited old.running.children (board old) calls ended new.running.children (board new))
     × (new.source ≡ old.source) × (new.root ≡ old.root)
 
 -- a list of a program's cases; it leaves the running children

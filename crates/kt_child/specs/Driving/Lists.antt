@@ -1,33 +1,24 @@
 -- A program's list of test cases, asked of the program itself.
 use Rattle.std.specs.Prelude.{◌≡◌, ◌<◌, ◌+◌, ◌-◌, ◌^◌, ◌⊎◌, ℕ, List, [], ◌∷◌, ◌++◌, Bool, Result, Ok, Err}
 use Rattle.kt_base.specs.declared.child.Refused.TheVariants.{Memory, Directory}
-use Rattle.kt_base.specs.declared.child.Outcome.{Outcome}
-use Rattle.kt_base.specs.declared.variable.Variable.{Variable}
-use Rattle.kt_atflist.specs.declared.listing.ListBytes.{ListBytes}
-use Rattle.kt_atflist.specs.declared.listing.Listing.{Listing}
+use Rattle.kt_child.specs.Types.{Case, Chain, FileRead, ListBytes, Listing, OsFault, Outcome, Spawning, Variable, Watched}
 use Rattle.kt_atflist.specs.declared.listing.Listing.TheVariants.{Refused as RefusedFor, Ended}
-use Rattle.kt_child.specs.declared.system.OsFault.{OsFault}
-use Rattle.kt_child.specs.declared.system.FileRead.{FileRead}
 use Rattle.kt_child.specs.declared.driving.driver.Driver.{Driver}
-use Rattle.kt_child.specs.declared.planning.Case.{Case}
-use Rattle.kt_child.specs.declared.planning.Spawning.{Spawning}
-use Rattle.kt_base.specs.Chains.{Chain}
 use Rattle.kt_child.specs.System.Calls.{Call, ReadFile, RemoveTree}
-use Rattle.kt_child.specs.Planning.ChildPlan.{paths_of}
 use Rattle.kt_child.specs.Driving.Board.{Alive, IsOver, alive_of}
 use Rattle.kt_child.specs.Driving.JobPlan.{list_case, list_purpose, spawning_for}
 use Rattle.kt_child.specs.Driving.Starting.{SetUp, spawned}
-use Rattle.kt_child.specs.Polling.Turns.{WaitedUntil}
+use Rattle.kt_child.specs.Polling.Turns.{WaitedOn}
 use Rattle.kt_child.specs.Ending.Reads.{IsListWithin, list_of}
 
 -- A list that was started: whole turns up to its end, whose outcome is the row of the outcome table that all its answers
 -- are; then its output, no more than 1,048,576 bytes, and the removal.
 abbrev pub WatchedList : Spawning → Case → List Call → Outcome → ListBytes → Type 0
 WatchedList plan c calls outcome bytes =
-    (turns : ℕ) × (place : ℕ) × (polls : List Call) × (read : Result FileRead OsFault) × (done : Bool)
+    (place : ℕ) × (left : List Watched) × (polls : List Call) × (read : Result FileRead OsFault) × (done : Bool)
     × (calls ≡ polls ++ ReadFile plan.out 1048576 read ∷ RemoveTree plan.dir done ∷ [])
-    × WaitedUntil turns (spawned plan c ∷ []) polls place outcome
-    × ((after : List Alive) × (over : Alive) × IsOver (alive_of (spawned plan c ∷ [])) polls after place over outcome)
+    × WaitedOn (spawned plan.limit c ∷ []) polls place outcome left
+    × ((after : List Alive) × (over : Alive) × IsOver (alive_of (spawned plan.limit c ∷ [])) polls after place over outcome)
     × (bytes ≡ list_of read) × IsListWithin bytes
 
 -- a list from its start to the removal of its directory
@@ -44,5 +35,4 @@ ListsBy leads old program variables answer new =
     ⊎ ((old.next < 2 ^ 64 - 1) × (new.next ≡ old.next + 1) × (answer ≡ RefusedFor Memory) × (new.os ≡ old.os))
     ⊎ ((old.next < 2 ^ 64 - 1) × (new.next ≡ old.next + 1)
     × ((calls : List Call) × Chain leads old.os calls new.os
-    × RanList (spawning_for old.source (list_purpose program variables) old.next (paths_of old.root old.next)) (list_case old.root old.next)
-    calls answer))
+    × RanList (spawning_for old.source (list_purpose program variables) (list_case old.root old.next)) (list_case old.root old.next) calls answer))

@@ -1,13 +1,6 @@
 -- The numbers of a driver's attempts, which are the starts of bodies and the lists.
 use Rattle.std.specs.Prelude.{◌≡◌, ℕ, Bool, true, false, ◌<◌, ◌≤◌, ◌-◌, ◌^◌, List, [], ◌∷◌, ◌++◌, map}
-use Rattle.kt_base.specs.declared.child.Role.{Role}
-use Rattle.kt_base.specs.declared.child.Role.TheVariants.{Body, Cleanup}
-use Rattle.kt_base.specs.declared.variable.Variable.{Variable}
-use Rattle.kt_atflist.specs.declared.listing.Listing.{Listing}
-use Rattle.kt_sched.specs.declared.job.Job.{Job}
-use Rattle.kt_sched.specs.declared.job.StartAnswer.{StartAnswer}
-use Rattle.kt_sched.specs.declared.job.Ended.{Ended}
-use Rattle.kt_sched.specs.Trace.{Trace}
+use Rattle.kt_child.specs.Types.{Body, Ended, Job, Listing, Role, StartAnswer, Trace, Variable}
 use Rattle.kt_child.specs.declared.driving.driver.Driver.{Driver}
 use Rattle.kt_child.specs.System.Calls.{Call}
 use Rattle.kt_child.specs.Inner.Children.{times}
@@ -25,9 +18,8 @@ pub data Request : Type 0 where
 -- whether a request is an attempt, which takes a number
 abbrev pub is_attempt : Request → Bool
 is_attempt (Start job Body answer) = true
-is_attempt (Start job Cleanup answer) = false
-is_attempt (Wait ended) = false
 is_attempt (ListOf program variables answer) = true
+is_attempt request = false
 
 -- a request leads a driver from one state to another
 abbrev pub Serves : {O : Type 0} → (O → Call → O → Type 0) → Driver O → Request → Driver O → Type 0

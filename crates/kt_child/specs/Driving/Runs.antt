@@ -1,8 +1,7 @@
 -- What a driver asks over a whole trace, answer by answer.
 use Rattle.std.specs.Prelude.{◌≡◌, ℕ, List, [], ◌++◌, Some, slice_get}
-use Rattle.kt_base.specs.Chains.{Chain}
-use Rattle.kt_sched.specs.declared.job.Job.{Job}
-use Rattle.kt_sched.specs.Trace.{Trace, NoEvent, Then, Event, Start, End, Leads}
+use Rattle.kt_child.specs.Types.{Chain, Job, Trace}
+use Rattle.kt_sched.specs.Trace.{NoEvent, Then, Event, Start, End, Leads}
 use Rattle.kt_child.specs.declared.driving.driver.Driver.{Driver}
 use Rattle.kt_child.specs.System.Calls.{Call}
 use Rattle.kt_child.specs.Driving.Board.{Board, Ends, board}

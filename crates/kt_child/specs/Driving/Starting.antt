@@ -1,19 +1,13 @@
 -- The start of a child: which questions are put, and where one is refused.
 use Rattle.std.specs.Prelude.{◌≡◌, ℕ, List, [], ◌∷◌, ◌++◌, Result, Ok, Err, is_err, ◌⊎◌}
-use Rattle.kt_base.specs.declared.child.Role.{Role}
-use Rattle.kt_base.specs.declared.child.Role.TheVariants.{Body, Cleanup}
+use Rattle.kt_child.specs.Types.{Body, Case, Cleanup, OsFault, Role, Spawning, StartAnswer, Watched}
 use Rattle.kt_base.specs.declared.child.Refused.{Refused}
 use Rattle.kt_base.specs.declared.child.Refused.TheVariants.{Directory, Output, Spawn as NotSpawned, Memory as NoMemory}
-use Rattle.kt_child.specs.declared.system.OsFault.{OsFault}
 use Rattle.kt_child.specs.declared.system.OsFault.TheVariants.{Failed, Memory}
-use Rattle.kt_child.specs.declared.planning.Case.{Case}
-use Rattle.kt_child.specs.declared.planning.Spawning.{Spawning}
-use Rattle.kt_child.specs.declared.polling.Watched.{Watched}
 use Rattle.kt_child.specs.Polling.ChildOutcome.{fresh}
 use Rattle.kt_child.specs.Ending.Ends.{Removes}
 use Rattle.kt_child.specs.System.Moments.{moment_of}
 use Rattle.kt_child.specs.System.Calls.{Call, SetLimit, MakeDir, OpenOutput, Spawn, Now}
-use Rattle.kt_sched.specs.declared.job.StartAnswer.{StartAnswer}
 use Rattle.kt_sched.specs.declared.job.StartAnswer.TheVariants.{Started as StartedAt, Refused as RefusedFor}
 use Rattle.kt_sched.specs.Children.{same_role}
 
@@ -79,20 +73,15 @@ abbrev pub SetUp : Spawning → List Call → Result (Unit {0}) Refused → Type
 SetUp p calls result = (more : List Call) × (calls ≡ SetLimit p.child p.limit ∷ more) × SetUpAs p.child.role p more result
 
 -- a start; one that succeeded asks for the moment last
-abbrev pub Started : Spawning → List Call → Result ℕ Refused → Type 0
-Started p calls (Ok moment) =
+abbrev pub Started : Spawning → List Call → StartAnswer → Type 0
+Started p calls (StartedAt moment) =
     (before : List Call) × (answer : Result ℕ OsFault) × (calls ≡ before ++ Now answer ∷ []) × SetUp p before (Ok tt)
     × (moment ≡ moment_of answer)
-Started p calls (Err cause) = SetUp p calls (Err cause)
+Started p calls (RefusedFor cause) = SetUp p calls (Err cause)
 
--- the child of a case that was just spawned
-abbrev pub spawned : Spawning → Case → Watched
-spawned p c = record { case = c; limit = p.limit; watch = fresh }
-
--- the launcher's answer to a start
-abbrev pub answer_of : Result ℕ Refused → StartAnswer
-answer_of (Ok moment) = StartedAt moment
-answer_of (Err cause) = RefusedFor cause
+-- the child of a case that was just spawned, by its limit in seconds
+abbrev pub spawned : ℕ → Case → Watched
+spawned limit c = record { case = c; limit = limit; watch = fresh }
 
 -- a start for which there is no memory: the directory of a cleanup is removed, and nothing else is asked
 abbrev pub Unbegun : Role → List ℕ → List Call → StartAnswer → Type 0
@@ -100,6 +89,4 @@ Unbegun role dir calls answer = Removes (same_role role Cleanup) dir calls × (a
 
 -- a start of a driver: without memory, or with it
 abbrev pub Begun : Spawning → List Call → StartAnswer → Type 0
-Begun plan calls answer =
-    Unbegun plan.child.role plan.dir calls answer
-    ⊎ ((r : Result ℕ Refused) × Started plan calls r × (answer ≡ answer_of r))
+Begun plan calls answer = Unbegun plan.child.role plan.dir calls answer ⊎ Started plan calls answer

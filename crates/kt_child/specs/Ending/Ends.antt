@@ -1,14 +1,7 @@
 -- What follows the last poll of a child.
 use Rattle.std.specs.Prelude.{◌≡◌, ◌≤◌, ℕ, Bool, true, false, ◌&&◌, List, [], ◌∷◌, ◌++◌, length, Result, if◌then◌else◌}
-use Rattle.kt_base.specs.declared.child.Role.{Role}
-use Rattle.kt_base.specs.declared.child.Role.TheVariants.{Body, Cleanup}
-use Rattle.kt_base.specs.declared.child.Outcome.{Outcome}
-use Rattle.kt_sched.specs.declared.job.Ended.{Ended}
+use Rattle.kt_child.specs.Types.{Body, Case, Cleanup, Ended, FileRead, OsFault, Outcome, Paths, Role}
 use Rattle.kt_sched.specs.Children.{same_role}
-use Rattle.kt_child.specs.declared.system.OsFault.{OsFault}
-use Rattle.kt_child.specs.declared.system.FileRead.{FileRead}
-use Rattle.kt_child.specs.declared.planning.workdir.Paths.{Paths}
-use Rattle.kt_child.specs.declared.planning.Case.{Case}
 use Rattle.kt_child.specs.System.Calls.{Call, Now, ReadFile, RemoveTree}
 use Rattle.kt_child.specs.System.Moments.{moment_of}
 use Rattle.kt_child.specs.Ending.Reads.{bytes_of}

@@ -1,8 +1,6 @@
 -- The evidence that a child left.
 use Rattle.std.specs.Prelude.{◌≡◌, ℕ, List, [], ◌⊎◌}
-use Rattle.kt_base.specs.declared.child.Role.{Role}
-use Rattle.kt_base.specs.declared.child.Role.TheVariants.{Body, Cleanup}
-use Rattle.kt_base.specs.declared.child.Interface.{Interface}
+use Rattle.kt_child.specs.Types.{Body, Cleanup, Interface, Paths, Role}
 use Rattle.kt_base.specs.declared.child.Interface.TheVariants as interface
 use Rattle.kt_claim.specs.declared.evidence.Evidence.{Evidence}
 use Rattle.kt_claim.specs.declared.evidence.Evidence.TheVariants as evidence
@@ -14,31 +12,31 @@ use Rattle.kt_claim.specs.declared.evidence.Tap.TheVariants as tap
 use Rattle.kt_claim.specs.declared.evidence.TapFault.TheVariants as tap_fault
 use Rattle.kt_claim.specs.ResultFile.{IsClaimOf}
 use Rattle.kt_claim.specs.TapStream.{tap_of}
-use Rattle.kt_child.specs.declared.planning.workdir.Paths.{Paths}
 use Rattle.kt_child.specs.System.Calls.{Call}
-use Rattle.kt_child.specs.Ending.Parts.{Whole, Missing, Unreadable, TooLong, Bytes, Reads}
+use Rattle.kt_child.specs.declared.ending.ReadEnd.{ReadEnd}
+use Rattle.kt_child.specs.declared.ending.ReadEnd.TheVariants.{Missing, Unreadable, TooLong, Complete}
+use Rattle.kt_child.specs.Ending.Parts.{Reads}
 
--- The claim of a result file that was read so. Where memory is refused it counts as a file that can't be read.
-abbrev pub IsClaim : Whole → Claim → Type 0
-IsClaim Missing told = told ≡ claim.Missing
-IsClaim Unreadable told = told ≡ claim.Unreadable
-IsClaim TooLong told = told ≡ claim.Malformed claim_fault.TooLong
-IsClaim (Bytes bytes) told = (told ≡ claim.Unreadable) ⊎ IsClaimOf bytes told
+-- The claim of a result file whose reading ended so, with these bytes. Where memory is refused it counts as a file that can't be read.
+abbrev pub IsClaim : ReadEnd → List ℕ → Claim → Type 0
+IsClaim Missing bytes told = told ≡ claim.Missing
+IsClaim Unreadable bytes told = told ≡ claim.Unreadable
+IsClaim TooLong bytes told = told ≡ claim.Malformed claim_fault.TooLong
+IsClaim Complete bytes told = (told ≡ claim.Unreadable) ⊎ IsClaimOf bytes told
 
 -- What an output that was read so says, as a TAP stream. Where memory is refused it counts as one that can't be read.
-abbrev pub IsTap : Whole → Tap → Type 0
-IsTap Missing told = told ≡ tap.Invalid tap_fault.Unreadable
-IsTap Unreadable told = told ≡ tap.Invalid tap_fault.Unreadable
-IsTap TooLong told = told ≡ tap.Invalid tap_fault.TooLong
-IsTap (Bytes bytes) told = (told ≡ tap.Invalid tap_fault.Unreadable) ⊎ (told ≡ tap_of bytes)
+abbrev pub IsTap : ReadEnd → List ℕ → Tap → Type 0
+IsTap TooLong bytes told = told ≡ tap.Invalid tap_fault.TooLong
+IsTap Complete bytes told = (told ≡ tap.Invalid tap_fault.Unreadable) ⊎ (told ≡ tap_of bytes)
+IsTap end bytes told = told ≡ tap.Invalid tap_fault.Unreadable
 
 -- a result file was read, and claims this
 abbrev pub ReadsClaim : List ℕ → List Call → Claim → Type 0
-ReadsClaim path calls told = (parts : ℕ) × (whole : Whole) × Reads parts path 4096 65536 [] calls whole × IsClaim whole told
+ReadsClaim path calls told = (end : ReadEnd) × (bytes : List ℕ) × Reads path 4096 65536 [] calls end bytes × IsClaim end bytes told
 
 -- an output was read as a TAP stream, and says this
 abbrev pub ReadsTap : List ℕ → List Call → Tap → Type 0
-ReadsTap path calls told = (parts : ℕ) × (whole : Whole) × Reads parts path 65536 16777216 [] calls whole × IsTap whole told
+ReadsTap path calls told = (end : ReadEnd) × (bytes : List ℕ) × Reads path 65536 16777216 [] calls end bytes × IsTap end bytes told
 
 -- an ATF body leaves its result file, a TAP body its output
 abbrev pub BodyGathers : Interface → Paths → List Call → Evidence → Type 0

@@ -2,22 +2,17 @@
 use Rattle.std.specs.Prelude.{◌≡◌, ◌≢◌, ◌≤◌, ◌/◌, ◌%◌, ◌==◌, ◌<◌, ℕ, List, length, take, true, false, Some, None, IsSome, ◌⊎◌, Bool, Option, Result, Ok, Err}
 use Rattle.std.specs.Process.{status_bits}
 use Rattle.std.specs.declared.process.status.ExitStatus.{ExitStatus}
-use Rattle.kt_child.specs.declared.system.OsFault.{OsFault}
-use Rattle.kt_child.specs.declared.system.FileRead.{FileRead}
+use Rattle.kt_child.specs.Types.{Child, FileRead, OsFault, Polled}
 use Rattle.kt_child.specs.declared.system.FileRead.TheVariants.{Missing, Part}
-use Rattle.kt_child.specs.declared.system.Polled.{Polled}
 use Rattle.kt_child.specs.declared.system.Polled.TheVariants.{Running, Exited, Signaled}
-use Rattle.kt_child.specs.declared.system.Child.{Child}
 use Rattle.kt_child.specs.Host.HostStands.{Stand, Proceeds, AllProceed, AllStay, OthersStay}
 use Rattle.kt_child.specs.Ending.Reads.{IsReadWithin}
-use Rattle.kt_child.specs.System.Calls.{Call, SetLimit, MakeDir, RemoveTree, OpenOutput, Spawn, Poll, Kill, Pause, ReadFile, ReadPart, Now}
+use Rattle.kt_child.specs.System.Calls.{Call, SetLimit, OpenOutput, Spawn, Poll, Kill, Pause, ReadFile, ReadPart}
 
 -- where more bytes follow, a read has as many as its limit
 abbrev pub IsFilled : ℕ → Result FileRead OsFault → Type 0
-IsFilled limit (Err _) = Unit {0}
-IsFilled limit (Ok Missing) = Unit {0}
 IsFilled limit (Ok (Part bytes true)) = length bytes ≡ limit
-IsFilled limit (Ok (Part bytes false)) = Unit {0}
+IsFilled limit answer = Unit {0}
 
 -- a read with this limit returns no more bytes, and exactly this many if more follow
 abbrev pub IsHostRead : ℕ → Result FileRead OsFault → Type 0
@@ -33,9 +28,8 @@ IsFront limit xs (Ok (Part bytes false)) = (bytes ≡ xs) × (length xs ≤ limi
 
 -- a read of a file that was opened never reports a missing file
 abbrev pub IsOpened : Result FileRead OsFault → Type 0
-IsOpened (Err _) = Unit {0}
 IsOpened (Ok Missing) = ⊥
-IsOpened (Ok (Part bytes follows)) = Unit {0}
+IsOpened answer = Unit {0}
 
 -- The meaning of a wait status: its low 7 bits are 0 if the child exited, and the next 8 are its exit code; else they are
 -- the signal that ended it, or 127 if it has not ended. The bit above them says whether a core was dumped.
@@ -66,30 +60,17 @@ HostPolls child old (Err fault) new IsLast late = (Proceeds (old child) (new chi
 -- process is killed; a pause may see ends; a read keeps to its limit. The last argument says whether some child was late.
 -- Nothing is said of a moment, nor of an answer that says only whether the system did the call.
 abbrev pub HostLeads : (Child → Stand) → Call → (Child → Stand) → (Child → ExitStatus → Type 0) → Option Bool → Type 0
-HostLeads old (SetLimit child limit) new IsLast late = AllStay old new
-HostLeads old (MakeDir path answer) new IsLast late = AllStay old new
-HostLeads old (RemoveTree path done) new IsLast late = AllStay old new
 HostLeads old (OpenOutput child path answer) new IsLast late = (new child ≡ None) × OthersStay child old new
 HostLeads old (Spawn child program words env dir (Ok done)) new IsLast late = IsSome (new child) × OthersStay child old new
 HostLeads old (Spawn child program words env dir (Err fault)) new IsLast late = (new child ≡ None) × OthersStay child old new
 HostLeads old (Poll child answer) new IsLast late = HostPolls child old answer new IsLast late
 HostLeads old (Kill child true) new IsLast late = IsSome (old child) × AllStay old new
-HostLeads old (Kill child false) new IsLast late = AllStay old new
 HostLeads old (Pause done) new IsLast late = AllProceed old new
 HostLeads old (ReadFile path limit answer) new IsLast late = IsHostRead limit answer × AllStay old new
 HostLeads old (ReadPart path from limit answer) new IsLast late = IsHostRead limit answer × AllStay old new
-HostLeads old (Now answer) new IsLast late = AllStay old new
+HostLeads old call new IsLast late = AllStay old new
 
 -- The limit that is set for the next child, after an answer: the one that was set last.
 abbrev pub limit_after : Call → ℕ → ℕ
 limit_after (SetLimit child limit) old = limit
-limit_after (MakeDir path answer) old = old
-limit_after (RemoveTree path done) old = old
-limit_after (OpenOutput child path answer) old = old
-limit_after (Spawn child program words env dir answer) old = old
-limit_after (Poll child answer) old = old
-limit_after (Kill child done) old = old
-limit_after (Pause done) old = old
-limit_after (ReadFile path limit answer) old = old
-limit_after (ReadPart path from limit answer) old = old
-limit_after (Now answer) old = old
+limit_after call old = old

@@ -1,10 +1,16 @@
 -- How the children of the host stand.
-use Rattle.std.specs.Prelude.{◌≡◌, false, Option, Some, None, IsSome, IsSomeAnd, option_map, List, [], ◌∷◌, if◌then◌else◌}
+use Rattle.std.specs.Prelude.{◌≡◌, ◌==◌, ◌&&◌, Bool, false, Option, Some, None, IsSome, IsSomeAnd, option_map, List}
+use Rattle.std.specs.Map.{lookup}
+use Rattle.std.specs.Option.{option_and_then}
 use Rattle.std.specs.Process.{child_status}
 use Rattle.std.specs.declared.process.status.ExitStatus.{ExitStatus}
-use Rattle.kt_child.specs.declared.system.Child.{Child}
+use Rattle.kt_child.specs.Types.{Child}
 use Rattle.kt_child.specs.declared.host.host_child.HostChild.{HostChild}
-use Rattle.kt_child.specs.Polling.Names.{same_child}
+use Rattle.kt_sched.specs.Children.{same_role}
+
+-- whether two children have the same number and role
+abbrev pub same_child : Child → Child → Bool
+same_child a b = (a.attempt == b.attempt) && same_role a.role b.role
 
 -- How a child stands: no process was started for it; it has one of which no end was seen; or the status of the end that
 -- was seen.
@@ -14,14 +20,13 @@ Stand = Option (Option ExitStatus)
 abbrev pub stand_of : {P I O E : Type 0} → HostChild P I O E → Stand
 stand_of h = option_map child_status h.process
 
--- how the first of these children with a name stands; one that isn't among them has no process
-abbrev pub stand_in : {P I O E : Type 0} → List (HostChild P I O E) → Child → Stand
-stand_in [] c = None
-stand_in (h ∷ held) c = if same_child h.child c then stand_of h else stand_in held c
+-- how the child with a name stands; one that isn't among them has no process
+abbrev pub stand_in : {P I O E : Type 0} → List (Child × HostChild P I O E) → Child → Stand
+stand_in held c = option_and_then stand_of (lookup (same_child c) held)
 
 -- The child whose end was reported last: it has this name, and its process has this status.
-abbrev pub IsLastEnd : {P I O E : Type 0} → Option (HostChild P I O E) → Child → ExitStatus → Type 0
-IsLastEnd last child status = IsSomeAnd last (λ h. (h.child ≡ child) × (stand_of h ≡ Some (Some status)))
+abbrev pub IsLastEnd : {P I O E : Type 0} → Option (Child × HostChild P I O E) → Child → ExitStatus → Type 0
+IsLastEnd last child status = IsSomeAnd last (λ h. (h.0 ≡ child) × (stand_of h.1 ≡ Some (Some status)))
 
 -- A child's state only moves forward: no process, running, ended.
 abbrev pub Proceeds : Stand → Stand → Type 0

@@ -1,19 +1,8 @@
 -- The children of a driver, as private functions keep and poll them.
-use Rattle.std.specs.Prelude.{map, ℕ, ◌==◌, ◌&&◌, Option, Some, if◌then◌else◌, Bool, true, false, ◌≡◌, ◌+◌, ◌≤◌, List, [], ◌∷◌, All, ◌-◌, ◌*◌, ◌<◌, ◌++◌}
-use Rattle.kt_base.specs.declared.child.Role.{Role}
-use Rattle.kt_sched.specs.declared.job.StartAnswer.{StartAnswer}
+use Rattle.std.specs.Prelude.{map, ℕ, ◌==◌, Bool, true, false, ◌≡◌, ◌+◌, ◌≤◌, List, [], ◌∷◌, All, ◌*◌, ◌<◌, ◌++◌}
+use Rattle.kt_child.specs.Types.{Case, StartAnswer, Watch, Watched}
 use Rattle.kt_sched.specs.declared.job.StartAnswer.TheVariants.{Started as StartedAt, Refused as RefusedFor}
-use Rattle.kt_sched.specs.Children.{Child as Shown, same_role}
-use Rattle.kt_child.specs.declared.planning.Case.{Case}
-use Rattle.kt_child.specs.Driving.ChildrenState.{ChildrenState, cases_of, shown}
-use Rattle.kt_child.specs.Driving.JobPlan.{limit_of}
-use Rattle.kt_child.specs.Polling.ChildOutcome.{fresh}
-use Rattle.kt_sched.specs.declared.job.Job.{Job}
-use Rattle.kt_child.specs.declared.polling.Watched.{Watched}
-use Rattle.kt_child.specs.declared.polling.Watch.{Watch}
-use Rattle.kt_child.specs.declared.ending.ReadEnd.{ReadEnd}
-use Rattle.kt_child.specs.Ending.Parts.{Bytes, Missing, TooLong, Unreadable, Whole}
-use Rattle.kt_child.specs.declared.ending.ReadEnd.TheVariants as read_end
+use Rattle.kt_child.specs.Driving.ChildrenState.{ChildrenState, cases_of}
 
 -- a child that is not over: fewer than 100 polls a second of its limit before a kill, fewer than 500 after it
 abbrev pub IsShort : Bool → ℕ → ℕ → ℕ → Type 0
@@ -31,20 +20,9 @@ IsOnBy limit w = IsWatched limit w × (limit ≤ 1000000)
 abbrev pub IsOn : Watched → Type 0
 IsOn k = IsOnBy k.limit k.watch
 
--- the polls that a child has left
-abbrev pub polls_left : Watched → ℕ
-polls_left k = (100 * k.limit - k.watch.before) + (500 - k.watch.after)
-
 -- a reader that has taken some bytes has taken these after them
 abbrev pub Takes : {R : Type 0} → (R → List ℕ → Type 0) → R → R → List ℕ → Type 0
 Takes has_taken old new bytes = (taken : List ℕ) → has_taken old taken → has_taken new (taken ++ bytes)
-
--- a reading that ended so gave this, and the reader has taken a file that was read whole
-abbrev pub Tells : {R : Type 0} → (R → List ℕ → Type 0) → R → ReadEnd → Whole → Type 0
-Tells has_taken reader read_end.Missing whole = whole ≡ Missing
-Tells has_taken reader read_end.Unreadable whole = whole ≡ Unreadable
-Tells has_taken reader read_end.TooLong whole = whole ≡ TooLong
-Tells has_taken reader read_end.Complete whole = (bytes : List ℕ) × (whole ≡ Bytes bytes) × has_taken reader bytes
 
 abbrev pub one_if : Bool → ℕ
 one_if true = 1
@@ -68,18 +46,9 @@ pub record IsChildrenState (children : List Watched) (pending : List Case) : Typ
   pub on : All IsOn children
   pub once : (i : ℕ) → count_at i (cases_of children) + count_at i pending ≤ 1
 
--- what is shown of the children after a start
-abbrev pub shown_after : (ℕ → Role → Option Shown) → Case → StartAnswer → ℕ → Role → Option Shown
-shown_after running c (StartedAt moment) k r = if k == c.position && same_role r c.role then Some (shown c) else running k r
-shown_after running c (RefusedFor cause) k r = running k r
-
 -- the running children, with these cases that are owed a cleanup
 abbrev pub with_pending : ChildrenState → List Case → ChildrenState
 with_pending b pending = record { children = b.children; pending = pending }
-
--- the child of a case of a job that was just spawned
-abbrev pub watched_of : Job → Case → Watched
-watched_of job c = record { case = c; limit = limit_of job c.role; watch = fresh }
 
 -- a started child is the last of the running children
 abbrev pub state_after_start : ChildrenState → Watched → StartAnswer → ChildrenState

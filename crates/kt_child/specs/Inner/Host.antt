@@ -1,22 +1,16 @@
 -- The system of the host, as private functions keep it.
-use Rattle.std.specs.Prelude.{◌≡◌, ◌≢◌, Result, Ok, Err, ℕ, List, [], ◌∷◌, false, Option, Some, None, IsSome, map, if◌then◌else◌, ◌++◌, ◌+◌, ◌≤◌, ◌<◌, length, IfSome, zero, suc, Bool, true, not, ◌*◌, ◌-◌, ◌/◌, min}
+use Rattle.std.specs.Prelude.{◌≡◌, ◌≢◌, Result, Ok, Err, ℕ, List, [], ◌∷◌, false, Option, Some, None, IsSome, map, if◌then◌else◌, ◌++◌, ◌+◌, ◌≤◌, ◌<◌, length, IfSome, Bool, ◌*◌, ◌-◌, ◌/◌, min}
 use Rattle.std.specs.declared.io.ErrorKind.{ErrorKind}
 use Rattle.std.specs.declared.io.ErrorKind.TheVariants.{NotFound, OutOfMemory}
-use Rattle.kt_child.specs.declared.system.OsFault.{OsFault}
+use Rattle.kt_child.specs.Types.{EnvPlan, FileRead, OsFault, Variable}
 use Rattle.kt_child.specs.declared.system.OsFault.TheVariants.{Failed, Memory}
-use Rattle.kt_child.specs.declared.system.FileRead.{FileRead}
 use Rattle.kt_child.specs.declared.system.FileRead.TheVariants.{Missing, Part}
 use Rattle.std.specs.Str.{bytes_eq}
 use Rattle.std.specs.Process.{clears_env, command_args, command_dir, command_program, command_var}
 use Rattle.std.specs.declared.process.command.Command.{Command}
 use Rattle.kt_base.specs.Utf8.{utf8}
-use Rattle.kt_base.specs.declared.variable.Variable.{Variable}
-use Rattle.kt_child.specs.declared.system.EnvPlan.{EnvPlan}
 use Rattle.std.specs.Io.KnownBytes.{Consumes, IsAtEnd}
-use Rattle.kt_child.specs.declared.system.Child.{Child}
-use Rattle.kt_child.specs.declared.host.host_child.HostChild.{HostChild}
 use Rattle.kt_child.specs.Host.HostStands.{Stand}
-use Rattle.kt_child.specs.Polling.Names.{same_child}
 
 -- a file that can't be opened is missing exactly if the system said so
 abbrev pub IsUnopened : ErrorKind → Result FileRead OsFault → Type 0
@@ -60,16 +54,6 @@ pub record TakesPiece (left rest : Option (List ℕ)) (room : ℕ) (old new : Li
 -- a file whose position was known stands at this byte, unless that is the first
 abbrev pub IsAt : ℕ → Option ℕ → Option ℕ → Type 0
 IsAt from old new = 0 < from → IfSome old (λ position. new ≡ Some from)
-
--- a child has another name
-abbrev pub is_other : {P I O E : Type 0} → Child → HostChild P I O E → Bool
-is_other c h = not (same_child h.child c)
-
--- the first of these children with a name stands at this place
-abbrev pub IsPlaceOf : {P I O E : Type 0} → Child → List (HostChild P I O E) → ℕ → Type 0
-IsPlaceOf c [] place = ⊥
-IsPlaceOf c (h ∷ held) zero = same_child h.child c ≡ true
-IsPlaceOf c (h ∷ held) (suc place) = (same_child h.child c ≡ false) × IsPlaceOf c held place
 
 -- One more answer comes early after this many milliseconds. Of the 100 answers for each second of the limit, the first
 -- half may come at any speed, and the others are spread over the limit.

@@ -1,14 +1,8 @@
 -- What a child is given: its paths, its environment and its words.
 use Rattle.std.specs.Prelude.{ℕ, List, [], ◌∷◌, ◌++◌, map, codes}
 use Rattle.std.specs.Fmt.{decimal}
-use Rattle.kt_base.specs.declared.child.Interface.{Interface}
-use Rattle.kt_base.specs.declared.child.Interface.TheVariants.{Atf, Tap, Plain}
-use Rattle.kt_base.specs.declared.variable.Variable.{Variable}
-use Rattle.kt_child.specs.declared.planning.Case.{Case}
-use Rattle.kt_child.specs.declared.planning.workdir.Paths.{Paths}
-use Rattle.kt_child.specs.declared.system.Child.{Child}
-use Rattle.kt_child.specs.declared.system.EnvPlan.{EnvPlan}
-use Rattle.kt_child.specs.declared.planning.Want.{Want}
+use Rattle.kt_child.specs.Types.{Case, Child, EnvPlan, Interface, Paths, Variable, Want}
+use Rattle.kt_base.specs.declared.child.Interface.TheVariants.{Atf}
 use Rattle.kt_child.specs.declared.planning.Want.TheVariants.{List as Listing, Body, Cleanup}
 
 -- the name of a case's child
@@ -47,8 +41,7 @@ words_of Atf Body result source variables case_name =
     ((codes "-r" ++ result) ∷ (codes "-s" ++ source) ∷ []) ++ map variable_word variables ++ case_name ∷ []
 words_of Atf Cleanup result source variables case_name =
     ((codes "-s" ++ source) ∷ []) ++ map variable_word variables ++ (case_name ++ codes ":cleanup") ∷ []
-words_of Tap want result source variables case_name = []
-words_of Plain want result source variables case_name = []
+words_of interface want result source variables case_name = []
 
 -- a variable by its name and value
 abbrev pub variable : List ℕ → List ℕ → Variable
@@ -71,8 +64,7 @@ common_variables work = variable (codes "TZ") (codes "UTC") ∷ variable (codes 
 -- the variables that a child of an interface gets beside those
 abbrev pub own_variables : Interface → List Variable → List Variable
 own_variables Atf variables = variable (codes "__RUNNING_INSIDE_ATF_RUN") (codes "internal-yes-value") ∷ []
-own_variables Tap variables = map test_variable variables
-own_variables Plain variables = map test_variable variables
+own_variables interface variables = map test_variable variables
 
 -- the environment of a child, by its interface, its suite's variables and its work directory
 abbrev pub env_of : Interface → List Variable → List ℕ → EnvPlan

@@ -1,11 +1,8 @@
 -- One poll of a child: what is asked, what it means, and what is kept.
 use Rattle.std.specs.Prelude.{ℕ, ◌+◌, ◌*◌, ◌==◌, List, [], ◌∷◌, Bool, true, false, not, ◌&&◌, Result, Ok, Err, if◌then◌else◌}
 use Rattle.kt_base.specs.declared.child.Outcome.TheVariants.{Exited, Signaled, TimedOut, WaitFailed}
-use Rattle.kt_child.specs.declared.system.Child.{Child}
-use Rattle.kt_child.specs.declared.system.Polled.{Polled}
+use Rattle.kt_child.specs.Types.{Child, OsFault, Polled, Watch}
 use Rattle.kt_child.specs.declared.system.Polled.TheVariants.{Running, Exited as PolledExit, Signaled as PolledSignal}
-use Rattle.kt_child.specs.declared.system.OsFault.{OsFault}
-use Rattle.kt_child.specs.declared.polling.Watch.{Watch}
 use Rattle.kt_child.specs.declared.polling.Turn.{Turn}
 use Rattle.kt_child.specs.declared.polling.Turn.TheVariants.{More, Ended}
 use Rattle.kt_child.specs.System.Calls.{Call, Poll, Kill}
@@ -19,8 +16,7 @@ is_due limit w = not w.killed && (w.before + 1 == 100 * limit)
 abbrev pub is_killed : ℕ → Watch → Result Polled OsFault → Bool
 is_killed limit w (Err _) = true
 is_killed limit w (Ok Running) = is_due limit w
-is_killed limit w (Ok (PolledExit code)) = false
-is_killed limit w (Ok (PolledSignal signal core)) = false
+is_killed limit w (Ok status) = false
 
 -- what a poll asks, by its answers
 abbrev pub asked_by_poll : Child → ℕ → Watch → Result Polled OsFault → Bool → List Call

@@ -1,10 +1,7 @@
 -- Turns over the running children.
 use Rattle.std.specs.Prelude.{◌≡◌, ℕ, zero, suc, List, [], ◌∷◌, ◌++◌, Bool, Option, Some, None, Result, take, slice_get, map}
-use Rattle.kt_base.specs.declared.child.Outcome.{Outcome}
-use Rattle.kt_child.specs.declared.system.Polled.{Polled}
-use Rattle.kt_child.specs.declared.system.OsFault.{OsFault}
+use Rattle.kt_child.specs.Types.{OsFault, Outcome, Polled, Watched}
 use Rattle.kt_child.specs.declared.polling.Turn.TheVariants.{More, Ended}
-use Rattle.kt_child.specs.declared.polling.Watched.{Watched}
 use Rattle.kt_child.specs.System.Calls.{Call, Pause}
 use Rattle.kt_child.specs.Planning.ChildPlan.{child_of}
 use Rattle.kt_child.specs.Polling.Polls.{asked_by_poll, heard_of, turn_of, watch_after}
@@ -44,25 +41,11 @@ PolledUntil children i calls outcome =
     (before : List Call) × (last : List Call) × (calls ≡ before ++ last)
     × PolledAll (take i children) before × PolledLast (slice_get children i) last outcome
 
--- the children after this many turns in which all answered Running
-abbrev pub after_turns : ℕ → List Watched → List Watched
-after_turns zero children = children
-after_turns (suc n) children = after_turns n (map advanced children)
-
--- this many turns in which no child is over, each with a pause after it
-abbrev pub Rounds : ℕ → List Watched → List Call → Type 0
-Rounds zero children calls = calls ≡ []
-Rounds (suc n) children calls =
-    (turn : List Call) × (done : Bool) × (more : List Call)
-    × (calls ≡ turn ++ Pause done ∷ more) × PolledAll children turn × Rounds n (map advanced children) more
-
--- those turns, and then one in which this child is over
-abbrev pub WaitedUntil : ℕ → List Watched → List Call → ℕ → Outcome → Type 0
-WaitedUntil turns children calls place outcome =
-    (before : List Call) × (last : List Call) × (calls ≡ before ++ last)
-    × Rounds turns children before × PolledUntil (after_turns turns children) place last outcome
-
--- A wait for these children ends with the one at this place; the children after it.
-abbrev pub WaitedOn : List Watched → List Call → ℕ → Outcome → List Watched → Type 0
-WaitedOn children calls place outcome after =
-    (turns : ℕ) × WaitedUntil turns children calls place outcome × (after ≡ advanced_below place (after_turns turns children))
+-- A wait for these children: turns in which none is over, each with a pause after it, and then one in which the child at
+-- this place is; the children after it.
+pub data WaitedOn : List Watched → List Call → ℕ → Outcome → List Watched → Type 0 where
+  last_turn : (children : List Watched) (calls : List Call) (place : ℕ) (outcome : Outcome)
+      → PolledUntil children place calls outcome → WaitedOn children calls place outcome (advanced_below place children)
+  whole_turn : (children after : List Watched) (turn more : List Call) (done : Bool) (place : ℕ) (outcome : Outcome)
+      → PolledAll children turn → WaitedOn (map advanced children) more place outcome after
+      → WaitedOn children (turn ++ Pause done ∷ more) place outcome after

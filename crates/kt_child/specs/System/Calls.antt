@@ -1,10 +1,6 @@
 -- What is asked of the system, and what it answers.
 use Rattle.std.specs.Prelude.{ℕ, List, Bool, Result}
-use Rattle.kt_child.specs.declared.system.Child.{Child}
-use Rattle.kt_child.specs.declared.system.Polled.{Polled}
-use Rattle.kt_child.specs.declared.system.OsFault.{OsFault}
-use Rattle.kt_child.specs.declared.system.FileRead.{FileRead}
-use Rattle.kt_child.specs.declared.system.EnvPlan.{EnvPlan}
+use Rattle.kt_child.specs.Types.{Child, EnvPlan, FileRead, OsFault, Polled}
 
 -- one question with its answer; a truth value says whether the call succeeded
 pub data Call : Type 0 where

@@ -4,10 +4,10 @@ ghost use Rattle.kt_child.specs.System.Calls.{Call};
 ghost use Rattle.kt_child.specs.Driving.Roots.{FindsRoot, root_of};
 ghost use Rattle.kt_child.specs.declared.driving.driver.DriverFault.TheVariants as fault;
 
-use crate::Os;
 use crate::driving::running_children::{RunningChildren, refuse};
-use crate::driving::starts::{body_case, memory_refusal, spawning, want_and_limit};
+use crate::driving::starts::{memory_refusal, spawning, take_number, want_and_limit};
 use crate::planning::{Case, Purpose};
+use crate::{Os, Paths, workdir_plan};
 use kt_base::{NoMemory, Refused, Role, Text};
 use kt_removal::numbered_path;
 use kt_sched::{Ended, Job, Launcher, StartAnswer};
@@ -141,37 +141,43 @@ fn find_root<O: Os>(alloc: Global, os: &mut O, base: &Text) -> Result<Text, Driv
 
 impl<O: Os + Drop> Driver<O> {
     ghost use Rattle.std.specs.Prelude.{◌≡◌, ℕ, List};
-    ghost use Rattle.kt_child.specs.Common.{MayStart, pending_after_start, running_after_start, HasMoment, IsFit, Chain, Call, count_in, shown_after, Begun, state_after_start, is_among, shown_in, spawning_of, watched_of, StartsBy};
+    ghost use Rattle.kt_child.specs.Common.{MayStart, pending_after_start, running_after_start, HasMoment, IsFit, Chain, Call, count_in, Begun, case_of, limit_of, spawned, state_after_start, is_among, shown_in, spawning_of, StartsBy};
     ghost use Rattle.kt_base.specs.declared.child.Role.{Role as Part};
 
-    /// Starts a child of a job's case.
-    fn begin(&mut self, job: &Job, case: Case) -> StartAnswer
+    /// Starts a child of a job's case, by the number and the paths of its body's start.
+    fn begin(&mut self, job: &Job, role: Role, attempt: u64, paths: Paths) -> StartAnswer
         requires fit { IsFit job.now }
-        requires free { count_in case.position self.old.running ≡ 0 }
+        requires free { count_in job.now.position self.old.running ≡ 0 }
         ensures begun { (calls : List Call) × Chain O.leads self.old.os calls self.new.os
-            × Begun (spawning_of self.old.source job.now case.role case.attempt case.paths)
+            × Begun (spawning_of self.old.source job.now (case_of job.now role attempt paths))
             calls result }
         ensures state { self.new.running ≡ state_after_start self.old.running
-            (watched_of job.now case) result }
-        ensures shown { (k : ℕ) (r : Part) → shown_in self.new.running k r
-            ≡ shown_after (shown_in self.old.running) case result k r }
+            (spawned (limit_of job.now role) (case_of job.now role attempt paths)) result }
+        ensures running { (k : ℕ) (r : Part) → shown_in self.new.running k r
+            ≡ running_after_start (shown_in self.old.running) job.now role result k r }
         ensures moment { HasMoment result }
         ensures next { self.new.next ≡ self.old.next }
         ensures source { self.new.source ≡ self.old.source }
         ensures root { self.new.root ≡ self.old.root }
     {
-        let (want, limit) = want_and_limit(job, case.role);
-        let purpose = Purpose {
-            role: case.role,
-            want,
+        let case = Case {
+            position: job.position,
+            attempt,
+            role,
             interface: job.interface,
+            cleanup: job.cleanup,
+            paths,
+        };
+        let (want, limit) = want_and_limit(job, role);
+        let purpose = Purpose {
+            want,
             program: &job.program,
             variables: &job.vars,
             case_name: &job.case_name,
             limit,
         };
-        match spawning(self.alloc, &self.source, purpose, case.attempt, &case.paths) {
-            Err(refusal) => refuse(&mut self.os, case.role, &case.paths.dir, refusal),
+        match spawning(self.alloc, &self.source, purpose, &case) {
+            Err(refusal) => refuse(&mut self.os, role, &case.paths.dir, refusal),
             Ok(plan) => self.running.start(&mut self.os, case, &plan),
         }
     }
@@ -189,14 +195,12 @@ impl<O: Os + Drop> Driver<O> {
             ≡ running_after_start (shown_in self.old.running) job.now Role.Body result k r }
         ensures pending { self.new.running.pending ≡ self.old.running.pending }
     {
-        if self.next == u64::MAX {
+        let Some(attempt) = take_number(&mut self.next) else {
             return StartAnswer::Refused(Refused::Directory);
-        }
-        let attempt = self.next;
-        self.next += 1;
-        match body_case(self.alloc, &self.root, attempt, job) {
+        };
+        match workdir_plan(self.alloc, &self.root, attempt) {
             Err(refusal) => StartAnswer::Refused(memory_refusal(refusal)),
-            Ok(case) => self.begin(job, case),
+            Ok(paths) => self.begin(job, Role::Body, attempt, paths),
         }
     }
 
@@ -215,12 +219,6 @@ impl<O: Os + Drop> Driver<O> {
             ≡ pending_after_start (is_among self.old.running.pending) job.now.position Role.Cleanup k }
     {
         let owed = self.running.take_owed(job.position);
-        let case = Case {
-            role: Role::Cleanup,
-            interface: job.interface,
-            cleanup: job.cleanup,
-            ..owed
-        };
-        self.begin(job, case)
+        self.begin(job, Role::Cleanup, owed.attempt, owed.paths)
     }
 }

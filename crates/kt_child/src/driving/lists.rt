@@ -1,7 +1,7 @@
 ghost use Rattle.std.specs.Prelude.{◌≡◌, List, IfOk};
-ghost use Rattle.kt_child.specs.Common.{Chain, Call, fresh, list_case, paths_of, list_purpose, spawning_for, RanList, WatchedList, IsOn, IsOnBy, spawned};
+ghost use Rattle.kt_child.specs.Common.{Chain, Call, fresh, list_case, list_purpose, spawning_for, RanList, WatchedList, IsOn, IsOnBy, spawned};
 
-use crate::driving::starts::{memory_refusal, set_up, spawned, spawning};
+use crate::driving::starts::{memory_refusal, set_up, spawned, spawning, take_number};
 use crate::ending::ends::read_list;
 use crate::planning::{Case, Purpose, Spawning};
 use crate::polling::polls::wait;
@@ -16,11 +16,11 @@ const LIST_LIMIT: u64 = 300;
 
 /// Waits for a list that was started, reads it, and removes its directory.
 fn watch_list<O: Os>(os: &mut O, plan: &Spawning, case: Case) -> (Outcome, ListBytes)
-    requires { IsOn (spawned plan.now case) }
+    requires { IsOn (spawned plan.now.limit case) }
     ensures { (calls : List Call) × Chain O.leads os.old calls os.new
         × WatchedList plan.now case calls result.0 result.1 }
 {
-    let mut children = [spawned(plan, case)];
+    let mut children = [spawned(plan.limit, case)];
     let over = wait(os, &mut children);
     let bytes = read_list(os, &plan.out);
     let _ = os.remove_tree(&plan.dir);
@@ -28,7 +28,7 @@ fn watch_list<O: Os>(os: &mut O, plan: &Spawning, case: Case) -> (Outcome, ListB
 }
 
 fn run_list<O: Os>(os: &mut O, plan: &Spawning, case: Case) -> Listing
-    requires { IsOn (spawned plan.now case) }
+    requires { IsOn (spawned plan.now.limit case) }
     ensures { (calls : List Call) × Chain O.leads os.old calls os.new
         × RanList plan.now case calls result }
 {
@@ -52,7 +52,7 @@ fn plan_list(
 ) -> Result<(Case, Spawning), NoMemory>
     ensures case { IfOk result (λ planned. planned.0 ≡ list_case root.now attempt) }
     ensures plan { IfOk result (λ planned. planned.1 ≡ spawning_for source.now
-        (list_purpose program.now variables.now) attempt (paths_of root.now attempt)) }
+        (list_purpose program.now variables.now) (list_case root.now attempt)) }
     ensures on { IfOk result (λ planned. IsOnBy planned.1.limit fresh) }
 {
     let case = Case {
@@ -65,15 +65,13 @@ fn plan_list(
     };
     let none = Text::new(alloc);
     let purpose = Purpose {
-        role: case.role,
         want: Want::List,
-        interface: case.interface,
         program,
         variables,
         case_name: &none,
         limit: LIST_LIMIT,
     };
-    let plan = spawning(alloc, source, purpose, attempt, &case.paths)?;
+    let plan = spawning(alloc, source, purpose, &case)?;
     Ok((case, plan))
 }
 
@@ -88,11 +86,9 @@ impl<O: Os + Drop> Driver<O> {
         ensures source { self.new.source ≡ self.old.source }
         ensures root { self.new.root ≡ self.old.root }
     {
-        if self.next == u64::MAX {
+        let Some(attempt) = take_number(&mut self.next) else {
             return Listing::Refused(Refused::Directory);
-        }
-        let attempt = self.next;
-        self.next += 1;
+        };
         let planned = plan_list(
             self.alloc,
             &self.source,

@@ -99,7 +99,7 @@ pub(crate) fn refuse<O: Os>(os: &mut O, role: Role, dir: &Text, refusal: NoMemor
 
 impl RunningChildren {
     ghost use Rattle.std.specs.Prelude.{◌≡◌, ◌==◌, ℕ, ◌<◌, List, length, slice_get, remove, Some, true, false, if◌then◌else◌};
-    ghost use Rattle.kt_child.specs.Common.{IsEvidence, running_after_end, pending_after_end, IsMoment, HasMoment, Chain, Call, IsOn, count_in, shown_after, Waited, idle_state, is_among, shown_in, Begun, state_after_start, spawned, with_pending, Ends, board_of};
+    ghost use Rattle.kt_child.specs.Common.{IsEvidence, running_after_end, pending_after_end, IsMoment, HasMoment, Chain, Call, IsOn, count_in, Waited, idle_state, is_among, shown_in, Begun, state_after_start, spawned, with_pending, board_of};
     ghost use Rattle.kt_sched.specs.Children.{Child as Shown};
 
     /// No running children, which takes no memory.
@@ -129,22 +129,21 @@ impl RunningChildren {
 
     /// Starts a child of this case: its body in a new directory, its cleanup in that of the body.
     pub(crate) fn start<O: Os>(&mut self, os: &mut O, case: Case, plan: &Spawning) -> StartAnswer
-        requires on { IsOn (spawned plan.now case) }
+        requires on { IsOn (spawned plan.now.limit case) }
         requires free { count_in case.position self.old ≡ 0 }
         ensures begun { (calls : List Call) × Chain O.leads os.old calls os.new
             × Begun plan.now calls result }
         ensures moment { HasMoment result }
-        ensures state { self.new ≡ state_after_start self.old (spawned plan.now case) result }
-        ensures running { (k : ℕ) (r : Role) → shown_in self.new k r
-            ≡ shown_after (shown_in self.old) case result k r }
+        ensures state { self.new
+            ≡ state_after_start self.old (spawned plan.now.limit case) result }
     {
         if let Err(refusal) = make_room(&mut self.children, &mut self.pending) {
             return refuse(os, plan.child.role, &plan.dir, refusal);
         }
         match start_child(os, plan) {
-            Err(cause) => StartAnswer::Refused(cause),
-            Ok(moment) => {
-                self.children.push_reserved(spawned(plan, case));
+            StartAnswer::Refused(cause) => StartAnswer::Refused(cause),
+            StartAnswer::Started(moment) => {
+                self.children.push_reserved(spawned(plan.limit, case));
                 StartAnswer::Started(moment)
             }
         }
@@ -154,8 +153,8 @@ impl RunningChildren {
     pub(crate) fn wait<O: Os>(&mut self, alloc: Global, os: &mut O) -> Ended
         requires { 0 < length self.old.children }
         ensures waited { (calls : List Call) × Chain O.leads os.old calls os.new
-            × Waited self.old calls result self.new
-            × ((next : ℕ) → Ends (board_of self.old next) calls result (board_of self.new next)) }
+            × ((next : ℕ) → Waited self.old.children (board_of self.old next) calls result
+            self.new.children (board_of self.new next)) }
         ensures moment { IsMoment result.moment }
         ensures one_that_ran { (s : Shown) × (shown_in self.old result.position result.role
             ≡ Some s) × IsEvidence s.interface result.role result.evidence }

@@ -1,18 +1,27 @@
-ghost use Rattle.std.specs.Prelude.{◌≡◌, ◌≤◌, ◌∷◌, [], List, IfOk};
-ghost use Rattle.kt_child.specs.Common.{Chain, Call, SetUp, SetUpIn, SetUpNew, Started, Tried, child_asks, furnish_asks, spawn_ask, spawned, cause_of, fresh, IsFit, IsOnBy, case_in, limit_of, spawning_for, want_of};
+ghost use Rattle.std.specs.Prelude.{◌≡◌, ◌≤◌, List, IfOk};
+ghost use Rattle.kt_child.specs.Common.{Chain, Call, HasMoment, SetUp, SetUpIn, SetUpNew, Started, TakesNumber, Tried, child_asks, furnish_asks, spawned, cause_of, fresh, IsFit, IsOnBy, limit_of, spawning_for, want_of};
 
 use crate::ending::ends::{output_paths, remove_if};
 use crate::planning::words::{absolute_path, program_directory};
 use crate::planning::{Case, Purpose, Spawning};
 use crate::polling::{Watch, Watched};
 use crate::system::moments::moment;
-use crate::{Child, Os, OsFault, Paths, Want, argv_plan, env_plan, workdir_plan};
-use kt_base::{LATEST_MOMENT, NoMemory, Refused, Role, Text};
-use kt_sched::Job;
+use crate::{Os, OsFault, Want, argv_plan, env_plan};
+use kt_base::{NoMemory, Refused, Role, Text};
+use kt_sched::{Job, StartAnswer};
 use std::alloc::Global;
 
 /// The limit of a cleanup, in seconds (this profile).
 const CLEANUP_LIMIT: u64 = 60;
+
+/// Takes the number of an attempt, if one is left.
+pub(crate) fn take_number(next: &mut u64) -> Option<u64>
+    ensures { TakesNumber next.old result next.new }
+{
+    let number = *next;
+    *next = number.checked_add(1)?;
+    Some(number)
+}
 
 /// What a job's child is started for, and its limit in seconds.
 pub(crate) fn want_and_limit(job: &Job, role: Role) -> (Want, u64)
@@ -28,48 +37,44 @@ pub(crate) fn want_and_limit(job: &Job, role: Role) -> (Want, u64)
     }
 }
 
-/// What a child is started with. `source` is the absolute directory of the root Kyuafile.
+/// What the child of a case is started with. `source` is the absolute directory of the root Kyuafile.
 pub(crate) fn spawning(
     alloc: Global,
     source: &Text,
     purpose: Purpose<'_>,
-    attempt: u64,
-    paths: &Paths,
+    case: &Case,
 ) -> Result<Spawning, NoMemory>
     requires some { 1 ≤ purpose.limit }
     requires range { purpose.limit ≤ 1000000 }
     ensures plan { IfOk result (λ plan. plan ≡ spawning_for source.now (record {
-      role = purpose.entry.role;
       want = purpose.entry.want;
-      interface = purpose.entry.interface;
       program = purpose.entry.program.now;
       variables = purpose.entry.variables.now;
       case_name = purpose.entry.case_name.now;
       limit = purpose.entry.limit;
-    }) attempt paths.now) }
+    }) case.now) }
     ensures on { IfOk result (λ plan. IsOnBy plan.limit fresh) }
 {
-    let role = purpose.role;
+    let paths = &case.paths;
     let program = absolute_path(source, purpose.program)?;
     let directory = program_directory(alloc, &program)?;
     let words = argv_plan(
         alloc,
-        purpose.interface,
+        case.interface,
         purpose.want,
         paths,
         &directory,
         purpose.variables,
         purpose.case_name,
     )?;
-    let env = env_plan(alloc, purpose.interface, purpose.variables, &paths.work)?;
+    let env = env_plan(alloc, case.interface, purpose.variables, &paths.work)?;
     let dir = paths.dir.copy()?;
     let work = paths.work.copy()?;
-    let (out, err) = output_paths(role, paths);
+    let (out, err) = output_paths(case.role, paths);
     let out = out.copy()?;
     let err = err.copy()?;
-    let child = Child { attempt, role };
     Ok(Spawning {
-        child,
+        child: case.child(),
         limit: purpose.limit,
         program,
         words,
@@ -78,26 +83,6 @@ pub(crate) fn spawning(
         work,
         out,
         err,
-    })
-}
-
-/// The case of a body that takes this number.
-pub(crate) fn body_case(
-    alloc: Global,
-    root: &Text,
-    attempt: u64,
-    job: &Job,
-) -> Result<Case, NoMemory>
-    ensures { IfOk result (λ case. case ≡ case_in root.now job.now Role.Body attempt) }
-{
-    let paths = workdir_plan(alloc, root, attempt)?;
-    Ok(Case {
-        position: job.position,
-        attempt,
-        role: Role::Body,
-        interface: job.interface,
-        cleanup: job.cleanup,
-        paths,
     })
 }
 
@@ -119,35 +104,15 @@ fn cause_of(cause: Refused, fault: OsFault) -> Refused
 }
 
 /// The child of this case that was just spawned.
-pub(crate) fn spawned(plan: &Spawning, case: Case) -> Watched
-    ensures { result ≡ spawned plan.now case }
+pub(crate) fn spawned(limit: u64, case: Case) -> Watched
+    ensures { result ≡ spawned limit case }
 {
     let watch = Watch {
         before: 0,
         killed: false,
         after: 0,
     };
-    Watched {
-        case,
-        limit: plan.limit,
-        watch,
-    }
-}
-
-fn spawn<O: Os>(os: &mut O, plan: &Spawning) -> Result<(), Refused>
-    ensures { (calls : List Call) × Chain O.leads os.old calls os.new
-        × Tried (spawn_ask plan.now ∷ []) calls result }
-{
-    match os.spawn(
-        plan.child,
-        &plan.program,
-        &plan.words,
-        &plan.env,
-        &plan.work,
-    ) {
-        Ok(()) => Ok(()),
-        Err(fault) => Err(cause_of(Refused::Spawn, fault)),
-    }
+    Watched { case, limit, watch }
 }
 
 /// Opens the two outputs and spawns the child.
@@ -161,7 +126,16 @@ fn open_and_spawn<O: Os>(os: &mut O, plan: &Spawning) -> Result<(), Refused>
     if let Err(fault) = os.open_output(plan.child, &plan.err) {
         return Err(cause_of(Refused::Output, fault));
     }
-    spawn(os, plan)
+    match os.spawn(
+        plan.child,
+        &plan.program,
+        &plan.words,
+        &plan.env,
+        &plan.work,
+    ) {
+        Ok(()) => Ok(()),
+        Err(fault) => Err(cause_of(Refused::Spawn, fault)),
+    }
 }
 
 /// Makes the work directory, then opens the outputs and spawns the child.
@@ -211,12 +185,14 @@ pub(crate) fn set_up<O: Os>(os: &mut O, plan: &Spawning) -> Result<(), Refused>
     }
 }
 
-/// Starts a child, and returns the moment, in milliseconds since 1970 in UTC.
-pub(crate) fn start_child<O: Os>(os: &mut O, plan: &Spawning) -> Result<u64, Refused>
+/// Starts a child. The moment is in milliseconds since 1970 in UTC.
+pub(crate) fn start_child<O: Os>(os: &mut O, plan: &Spawning) -> StartAnswer
     ensures asked { (calls : List Call) × Chain O.leads os.old calls os.new
         × Started plan.now calls result }
-    ensures range { IfOk result (λ moment. moment ≤ LATEST_MOMENT) }
+    ensures moment { HasMoment result }
 {
-    set_up(os, plan)?;
-    Ok(moment(os))
+    match set_up(os, plan) {
+        Ok(()) => StartAnswer::Started(moment(os)),
+        Err(cause) => StartAnswer::Refused(cause),
+    }
 }

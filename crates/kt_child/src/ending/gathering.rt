@@ -1,5 +1,5 @@
 ghost use Rattle.std.specs.Prelude.{ℕ, List};
-ghost use Rattle.kt_child.specs.Common.{HasRead, HasStream, Chain, Call, Bytes, Gathers, IsClaim, IsTap, ReadsClaim, ReadsTap, IsEvidence};
+ghost use Rattle.kt_child.specs.Common.{HasRead, HasStream, Chain, Call, Gathers, IsClaim, IsTap, ReadsClaim, ReadsTap, IsEvidence};
 
 use crate::ending::ReadEnd;
 use crate::ending::parts::read_in_parts;
@@ -21,7 +21,7 @@ const STREAM_PART: u64 = 65_536;
 const STREAM_LIMIT: u64 = 16_777_216;
 
 fn claim_read(reader: ClaimReader) -> Claim
-    ensures { (bytes : List ℕ) → HasRead reader bytes → IsClaim (Bytes bytes) result }
+    ensures { (bytes : List ℕ) → HasRead reader bytes → IsClaim ReadEnd.Complete bytes result }
 {
     match reader.finish() {
         Ok(claim) => claim,
@@ -44,7 +44,7 @@ fn read_claim<O: Os>(alloc: Global, os: &mut O, path: &Text) -> Claim
 }
 
 fn tap_read(reader: TapReader) -> Tap
-    ensures { (bytes : List ℕ) → HasStream reader bytes → IsTap (Bytes bytes) result }
+    ensures { (bytes : List ℕ) → HasStream reader bytes → IsTap ReadEnd.Complete bytes result }
 {
     match reader.finish() {
         Ok(tap) => tap,

@@ -4,21 +4,6 @@ pub(crate) mod ends;
 pub(crate) mod gathering;
 pub(crate) mod parts;
 
-/// What follows a part of a file.
-#[derive(Clone, Copy, Debug, PartialEq, Eq)]
-pub(crate) enum NextPart {
-    /// Another part.
-    More,
-    /// Nothing: the file was read whole.
-    All,
-    /// Nothing: the file is missing.
-    Absent,
-    /// Nothing: the read failed.
-    Failed,
-    /// Nothing: the limit was reached.
-    Past,
-}
-
 /// How the reading of a file in parts ended.
 #[derive(Clone, Copy, Debug, PartialEq, Eq)]
 pub(crate) enum ReadEnd {

@@ -1,7 +1,7 @@
-ghost use Rattle.std.specs.Prelude.{◌≡◌, ℕ, ◌+◌, ◌<◌, List, [], Result, length, Ok, OnOk, OnErr};
-ghost use Rattle.kt_child.specs.Common.{FileRead, OsFault, Chain, Call, bytes_of, Takes, Tells, IsNext, Reads, Whole, next_of, next_part};
+ghost use Rattle.std.specs.Prelude.{◌≡◌, ℕ, ◌+◌, ◌<◌, List, [], Result, Some, length, Ok, IfNone, OnOk, OnErr};
+ghost use Rattle.kt_child.specs.Common.{FileRead, OsFault, Chain, Call, bytes_of, Takes, IsEnd, Reads, end_of, next_part};
 
-use crate::ending::{NextPart, ReadEnd};
+use crate::ending::ReadEnd;
 use crate::{FileRead, Os};
 use kt_base::{Bytes, NoMemory, Text};
 use kt_claim::{ClaimReader, TapReader};
@@ -39,25 +39,25 @@ impl PartReader for TapReader {
     }
 }
 
-/// What follows a part that was kept.
-fn count_part(got: &mut u64, bytes: &Bytes, follows: bool, limit: u64) -> NextPart
+/// How the reading ends with a part that was kept, if it does.
+fn count_part(got: &mut u64, bytes: &Bytes, follows: bool, limit: u64) -> Option<ReadEnd>
     requires { got.old < limit }
-    ensures next { result ≡ next_of limit got.old (FileRead.Part bytes.now follows) }
-    ensures more { result ≡ NextPart.More → (got.new ≡ got.old + length bytes.now)
-        × (got.old < got.new) × (got.new < limit) }
+    ensures end { result ≡ end_of limit got.old (FileRead.Part bytes.now follows) }
+    ensures more { IfNone result ((got.new ≡ got.old + length bytes.now) × (got.old < got.new)
+        × (got.new < limit)) }
 {
     if !follows {
-        return NextPart::All;
+        return Some(ReadEnd::Complete);
     }
     if bytes.is_empty() {
-        return NextPart::Failed;
+        return Some(ReadEnd::Unreadable);
     }
     let count = bytes.len() as u64;
     if count >= limit - *got {
-        return NextPart::Past;
+        return Some(ReadEnd::TooLong);
     }
     *got += count;
-    NextPart::More
+    None
 }
 
 /// Passes bytes to the reader. No bytes leave it as it is, and take no memory.
@@ -73,49 +73,31 @@ fn hand<R: PartReader>(reader: &mut R, bytes: &Bytes) -> Result<(), NoMemory>
 }
 
 /// Passes the bytes of a part to the reader.
-fn take_part<R: PartReader>(
-    reader: &mut R,
-    got: &mut u64,
-    bytes: &Bytes,
-    follows: bool,
-    limit: u64,
-) -> NextPart
+fn take<R: PartReader>(reader: &mut R, got: &mut u64, read: FileRead, limit: u64) -> Option<ReadEnd>
     requires { got.old < limit }
-    ensures next { IsNext limit got.old (Ok (FileRead.Part bytes.now follows)) result }
-    ensures all { result ≡ NextPart.All → Takes R.has_taken reader.old reader.new bytes.now }
-    ensures taken { result ≡ NextPart.More → Takes R.has_taken reader.old reader.new bytes.now }
-    ensures more { result ≡ NextPart.More → (got.new ≡ got.old + length bytes.now)
-        × (got.old < got.new) × (got.new < limit) }
-{
-    match hand(reader, bytes) {
-        Err(_) => NextPart::Failed,
-        Ok(()) => count_part(got, bytes, follows, limit),
-    }
-}
-
-fn take<R: PartReader>(reader: &mut R, got: &mut u64, read: FileRead, limit: u64) -> NextPart
-    requires { got.old < limit }
-    ensures next { IsNext limit got.old (Ok read) result }
-    ensures all { result ≡ NextPart.All → Takes R.has_taken reader.old reader.new
-        (bytes_of (Ok read)) }
-    ensures taken { result ≡ NextPart.More → Takes R.has_taken reader.old reader.new
-        (bytes_of (Ok read)) }
-    ensures more { result ≡ NextPart.More → (got.new ≡ got.old + length (bytes_of (Ok read)))
-        × (got.old < got.new) × (got.new < limit) }
+    ensures end { IsEnd limit got.old (Ok read) result }
+    ensures whole { result ≡ Some ReadEnd.Complete
+        → Takes R.has_taken reader.old reader.new (bytes_of (Ok read)) }
+    ensures taken { IfNone result (Takes R.has_taken reader.old reader.new (bytes_of (Ok read))) }
+    ensures more { IfNone result ((got.new ≡ got.old + length (bytes_of (Ok read)))
+        × (got.old < got.new) × (got.new < limit)) }
 {
     match read {
         FileRead::Missing => {
             if *got == 0 {
-                NextPart::Absent
+                Some(ReadEnd::Missing)
             } else {
-                NextPart::Failed
+                Some(ReadEnd::Unreadable)
             }
         }
-        FileRead::Part(bytes, follows) => take_part(reader, got, &bytes, follows, limit),
+        FileRead::Part(bytes, follows) => match hand(reader, &bytes) {
+            Err(_) => Some(ReadEnd::Unreadable),
+            Ok(()) => count_part(got, &bytes, follows, limit),
+        },
     }
 }
 
-/// Asks for the next part.
+/// Asks for the next part, and returns how the reading ends with it, if it does.
 fn read_next<O: Os, R: PartReader>(
     os: &mut O,
     path: &Text,
@@ -123,20 +105,21 @@ fn read_next<O: Os, R: PartReader>(
     limit: u64,
     reader: &mut R,
     got: &mut u64,
-) -> NextPart
+) -> Option<ReadEnd>
     requires { got.old < limit }
     ensures asked { (answer : Result FileRead OsFault)
         × O.leads os.old (next_part path.now part limit got.old answer) os.new
-        × IsNext limit got.old answer result
-        × (result ≡ NextPart.All → Takes R.has_taken reader.old reader.new (bytes_of answer))
-        × (result ≡ NextPart.More → Takes R.has_taken reader.old reader.new (bytes_of answer))
-        × (result ≡ NextPart.More → got.new ≡ got.old + length (bytes_of answer)) }
-    ensures more { result ≡ NextPart.More → (got.old < got.new) × (got.new < limit) }
+        × IsEnd limit got.old answer result
+        × (result ≡ Some ReadEnd.Complete
+        → Takes R.has_taken reader.old reader.new (bytes_of answer))
+        × IfNone result (Takes R.has_taken reader.old reader.new (bytes_of answer))
+        × IfNone result (got.new ≡ got.old + length (bytes_of answer)) }
+    ensures more { IfNone result ((got.old < got.new) × (got.new < limit)) }
 {
     let room = limit - *got;
     match os.read_part(path, *got, part.min(room)) {
         Ok(read) => take(reader, got, read, limit),
-        Err(_) => NextPart::Failed,
+        Err(_) => Some(ReadEnd::Unreadable),
     }
 }
 
@@ -150,17 +133,14 @@ pub(crate) fn read_in_parts<O: Os, R: PartReader>(
 ) -> ReadEnd
     requires some { 0 < limit }
     requires none { R.has_taken reader.old [] }
-    ensures { (parts : ℕ) × (calls : List Call) × (whole : Whole) × Chain O.leads os.old calls os.new
-        × Reads parts path.now part limit [] calls whole × Tells R.has_taken reader.new result whole }
+    ensures { (calls : List Call) × (bytes : List ℕ) × Chain O.leads os.old calls os.new
+        × Reads path.now part limit [] calls result bytes
+        × (result ≡ ReadEnd.Complete → R.has_taken reader.new bytes) }
 {
     let mut got = 0;
     'parts: loop {
-        match read_next(os, path, part, limit, reader, &mut got) {
-            NextPart::More => {}
-            NextPart::All => return ReadEnd::Complete,
-            NextPart::Absent => return ReadEnd::Missing,
-            NextPart::Failed => return ReadEnd::Unreadable,
-            NextPart::Past => return ReadEnd::TooLong,
+        if let Some(end) = read_next(os, path, part, limit, reader, &mut got) {
+            return end;
         }
     }
 }

@@ -1,9 +1,9 @@
 ghost use Rattle.std.specs.Prelude.{◌≡◌, ◌↔◌, Ok, None, IsTrue};
 
+use crate::OsFault;
 use crate::host::command::{Asked, spawn};
 use crate::host::or_fault;
 use crate::host::pace::Pace;
-use crate::{Child, OsFault};
 use std::fs::File;
 use std::process::{ExitStatus, OpenProcess, Processes};
 use std::rt::Clock;
@@ -29,7 +29,6 @@ fn is_running(answer: &Result<Option<ExitStatus>, OsFault>) -> bool
 /// A child of the host, from the opening of its first file until its end is reported.
 #[derive(Drop)]
 pub(crate) struct HostChild<P: OpenProcess> {
-    pub(crate) child: Child,
     out: Option<File>,
     err: Option<File>,
     process: Option<process::Child<P>>,
@@ -44,8 +43,7 @@ impl<P: OpenProcess + Drop> HostChild<P> {
     ghost use Rattle.std.specs.declared.process.status.ExitStatus.{ExitStatus as Status};
 
     /// A child that does not run, with its limit in seconds and the file of its output.
-    pub(crate) fn new<C: Clock>(child: Child, limit: u64, out: File, clock: &C) -> HostChild<P>
-        ensures name { result.child ≡ child }
+    pub(crate) fn new<C: Clock>(limit: u64, out: File, clock: &C) -> HostChild<P>
         ensures out { result.out ≡ Some out }
         ensures err { result.err ≡ None }
         ensures stands { stand_of result ≡ None }
@@ -53,7 +51,6 @@ impl<P: OpenProcess + Drop> HostChild<P> {
         ensures unseen { result.seen ≡ false }
     {
         HostChild {
-            child,
             out: Some(out),
             err: None,
             process: None,
@@ -70,13 +67,15 @@ impl<P: OpenProcess + Drop> HostChild<P> {
         self.out.is_some() && self.err.is_none() && self.process.is_none()
     }
 
-    /// Keeps the file of its errors.
-    pub(crate) fn keep_errors(&mut self, err: File)
-        ensures kept { self.new.err ≡ Some err }
-        ensures name { self.new.child ≡ self.old.child }
-        ensures stands { stand_of self.new ≡ stand_of self.old }
+    /// Keeps an opened file: as its errors, if its output is open, else as the output of a new child in its place.
+    pub(crate) fn keep_file<C: Clock>(&mut self, limit: u64, file: File, clock: &C)
+        ensures stands { stand_of self.new ≡ None }
     {
-        self.err = Some(err);
+        if self.wants_errors() {
+            self.err = Some(file);
+        } else {
+            *self = HostChild::new(limit, file, clock);
+        }
     }
 
     /// Starts it, with an empty input and the two files.
@@ -85,7 +84,6 @@ impl<P: OpenProcess + Drop> HostChild<P> {
         rt: &R,
         asked: Asked<'_>,
     ) -> Result<(), OsFault>
-        ensures name { self.new.child ≡ self.old.child }
         ensures started { OnOk result (IsSome (stand_of self.new)) }
         ensures told { OnOk result (self.new.pace.told ≡ 0) }
     {
@@ -101,7 +99,6 @@ impl<P: OpenProcess + Drop> HostChild<P> {
     fn status(&mut self) -> Result<Option<ExitStatus>, OsFault>
         ensures proceeds { Proceeds (stand_of self.old) (stand_of self.new) }
         ensures told { IfOk result (λ status. stand_of self.new ≡ Some status) }
-        ensures name { self.new.child ≡ self.old.child }
         ensures pace { self.new.pace ≡ self.old.pace }
         ensures seen { IfOk result (λ status. IsSome status → self.new.seen ≡ true) }
     {
@@ -118,7 +115,6 @@ impl<P: OpenProcess + Drop> HostChild<P> {
     /// Sleeps while the answer `running` would come too early.
     fn keep_pace<C: Clock>(&mut self, clock: &C) -> Result<(), OsFault>
         ensures proceeds { Proceeds (stand_of self.old) (stand_of self.new) }
-        ensures name { self.new.child ≡ self.old.child }
         ensures pace { self.new.pace ≡ self.old.pace }
     {
         for _ in 0..SLICES {
@@ -154,7 +150,6 @@ impl<P: OpenProcess + Drop> HostChild<P> {
         late: bool,
         clock: &C,
     ) -> Result<Option<ExitStatus>, OsFault>
-        ensures name { self.new.child ≡ self.old.child }
         ensures proceeds { Proceeds (stand_of self.old) (stand_of self.new) }
         ensures told { IfOk result (λ status. IsSome status → stand_of self.new ≡ Some status) }
         ensures running { result ≡ Ok None
@@ -178,7 +173,6 @@ impl<P: OpenProcess + Drop> HostChild<P> {
 
     /// Kills it. Its 500 answers from then on have the pace of a limit of their own.
     pub(crate) fn kill<C: Clock>(&mut self, clock: &C) -> Result<(), OsFault>
-        ensures name { self.new.child ≡ self.old.child }
         ensures stands { stand_of self.new ≡ stand_of self.old }
         ensures had { OnOk result (IsSome (stand_of self.old)) }
         ensures ended { (status : Status) → stand_of self.old ≡ Some (Some status) → IsOk result }
@@ -195,7 +189,6 @@ impl<P: OpenProcess + Drop> HostChild<P> {
 
     /// Whether it has ended and no pause has seen that. A status that was seen is kept for the next poll.
     pub(crate) fn has_new_end(&mut self) -> bool
-        ensures name { self.new.child ≡ self.old.child }
         ensures proceeds { Proceeds (stand_of self.old) (stand_of self.new) }
         ensures unseen { IsTrue result → self.old.seen ≡ false }
         ensures seen { IsTrue result → self.new.seen ≡ true }

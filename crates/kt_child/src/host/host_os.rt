@@ -1,6 +1,7 @@
 ghost use Rattle.std.specs.Prelude.{◌≡◌, ◌==◌, ◌/◌, ◌%◌};
 ghost use Rattle.kt_child.specs.Common.{status_bits, IsPolledOf};
 
+use crate::host::children::Children;
 use crate::host::command::Asked;
 use crate::host::host_child::HostChild;
 use crate::host::outputs::{create_directory, create_output, create_root};
@@ -32,9 +33,9 @@ pub struct HostOs<R: Processes> {
     narrow: bool,
     /// The limit in seconds that was set last, which is that of the next child.
     limit: u64,
-    children: Vec<HostChild<R::Started>>,
-    /// The child whose end was reported last, which a clause names.
-    last: Option<HostChild<R::Started>>,
+    children: Children<R::Started>,
+    /// The child whose end was reported last, which a clause names, with its name.
+    last: Option<(Child, HostChild<R::Started>)>,
     /// The pauses since a child was last seen to end.
     quiet: u32,
     /// Whether some child is heard late, once a poll has looked.
@@ -70,9 +71,9 @@ impl<R: Processes + AllocGlobal + Drop> HostOs<R> {
 
     /// The system, with no child.
     pub fn new(rt: R) -> HostOs<R>
-        ensures { (c : Name) → stand_in result.children.items c ≡ None }
+        ensures { (c : Name) → stand_in result.children.entries c ≡ None }
     {
-        let children = Vec::new(rt.alloc());
+        let children = Children::new(rt.alloc());
         HostOs {
             rt,
             removals: None,
@@ -112,8 +113,8 @@ impl<R: Processes + Files<File = File> + Clock + AllocGlobal + Clone + Drop> Os 
     ghost use Rattle.std.specs.Prelude.{◌≡◌};
     ghost use Rattle.kt_child.specs.Common.{IsLastEnd, stand_in, HostLeads, limit_after};
 
-    ghost leads = { λ old call new. HostLeads (stand_in old.children.items) call
-        (stand_in new.children.items) (IsLastEnd new.last) new.late
+    ghost leads = { λ old call new. HostLeads (stand_in old.children.entries) call
+        (stand_in new.children.entries) (IsLastEnd new.last) new.late
         × (new.limit ≡ limit_after call old.limit) };
 
     fn set_limit(&mut self, _child: Child, limit: u64) {
@@ -141,13 +142,14 @@ impl<R: Processes + Files<File = File> + Clock + AllocGlobal + Clone + Drop> Os 
     }
 
     fn open_output(&mut self, child: Child, path: &Text) -> Result<(), OsFault> {
-        let second = children::place_for_errors(&self.children, child).is_some();
+        let second = children::wants_errors(&self.children, child);
         match create_output(&self.rt, path.as_str(), second, self.narrow) {
             Ok(file) => {
-                children::keep_output(&mut self.children, child, self.limit, file, &self.rt)
+                children::keep_output(&mut self.children, child, self.limit, file, &self.rt)?;
+                Ok(())
             },
             Err(error) => {
-                children::forget(&mut self.children, child);
+                children::take_out(&mut self.children, child);
                 Err(fault_of(&error))
             }
         }
@@ -170,7 +172,7 @@ impl<R: Processes + Files<File = File> + Clock + AllocGlobal + Clone + Drop> Os 
         match children::launch(&mut self.children, child, &self.rt, asked) {
             Ok(()) => Ok(()),
             Err(fault) => {
-                children::forget(&mut self.children, child);
+                children::take_out(&mut self.children, child);
                 Err(fault)
             }
         }

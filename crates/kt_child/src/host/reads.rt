@@ -107,18 +107,6 @@ fn unopened(error: &io::Error) -> Result<FileRead, OsFault>
     }
 }
 
-/// Goes to the byte `from` of a file that was just opened.
-fn go_to<F: Seek>(file: &mut F, from: u64) -> Result<(), OsFault>
-    ensures stays { from ≡ 0 → file.new ≡ file.old }
-    ensures there { OnOk result (IsAt from (F.stream_position file.old)
-        (F.stream_position file.new)) }
-{
-    if from > 0 {
-        or_fault(file.seek(SeekFrom::Start(from)))?;
-    }
-    Ok(())
-}
-
 /// Reads a file from the byte `from` on. Only one read goes on from there, and it stops as `read_front` does.
 fn read_from<F: Read + Seek>(
     alloc: Global,
@@ -133,7 +121,10 @@ fn read_from<F: Read + Seek>(
         × IfSome (F.remaining at) (λ xs. IsFront limit xs result)
         × TakesAtMost (limit + 1) (F.remaining at) (F.remaining file.new) }
 {
-    go_to(file, from)?;
+    if from == 0 {
+        return read_front(alloc, file, limit);
+    }
+    or_fault(file.seek(SeekFrom::Start(from)))?;
     read_front(alloc, file, limit)
 }
 

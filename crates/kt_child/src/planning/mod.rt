@@ -18,13 +18,10 @@ pub enum Want {
     Cleanup,
 }
 
-/// What a child is started for.
+/// What the child of a case is started for.
 #[derive(Clone, Copy)]
 pub(crate) struct Purpose<'a> {
-    /// The role of the child; a program that is asked for its list is a body.
-    pub role: Role,
     pub want: Want,
-    pub interface: Interface,
     /// The path of its program, from the directory of the root Kyuafile.
     pub program: &'a Text,
     pub variables: &'a Variables,

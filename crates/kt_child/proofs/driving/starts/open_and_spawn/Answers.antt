@@ -1,4 +1,4 @@
-use Rattle.std.proofs.Common.{[], ◌∷◌}
+use Rattle.std.proofs.Common.{[], ◌∷◌, refl}
 use Rattle.kt_child.proofs.Common.{open_ask, spawn_ask}
 use Rattle.kt_child.proofs.Chains.{tries_failed, tries_more}
 use Rattle.kt_child.proofs.driving.starts.open_and_spawn.Goals as goal
@@ -14,8 +14,16 @@ returns-in-Err-open_output g c =
     tries_more g.O.Os.leads _ _ _ (open_ask p p.out) (open_ask p p.err ∷ spawn_ask p ∷ []) _ c.in_default.ensures
     (tries_failed g.O.Os.leads _ _ (open_ask p p.err) (spawn_ask p ∷ []) c.in-Err-open_output.fault _ c.in-Err-open_output.ensures c.cause_of-in-Err-open_output.ensures)
 
-pub returns : goal.returns
-returns g c =
+pub returns-in-Ok : goal.returns-in-Ok
+returns-in-Ok g c =
     let p = c.args.plan.now in
     tries_more g.O.Os.leads _ _ _ (open_ask p p.out) (open_ask p p.err ∷ spawn_ask p ∷ []) _ c.in_default.ensures
-    (tries_more g.O.Os.leads _ _ _ (open_ask p p.err) (spawn_ask p ∷ []) _ c.in_default-open_output.ensures c.spawn.ensures)
+    (tries_more g.O.Os.leads _ _ _ (open_ask p p.err) (spawn_ask p ∷ []) _ c.in_default-open_output.ensures
+    (tries_more g.O.Os.leads _ _ _ (spawn_ask p) [] _ c.in-Ok.ensures ([], refl, tt)))
+
+pub returns-in-Err-spawn : goal.returns-in-Err-spawn
+returns-in-Err-spawn g c =
+    let p = c.args.plan.now in
+    tries_more g.O.Os.leads _ _ _ (open_ask p p.out) (open_ask p p.err ∷ spawn_ask p ∷ []) _ c.in_default.ensures
+    (tries_more g.O.Os.leads _ _ _ (open_ask p p.err) (spawn_ask p ∷ []) _ c.in_default-open_output.ensures
+    (tries_failed g.O.Os.leads _ _ (spawn_ask p) [] c.in-Err-spawn.fault _ c.in-Err-spawn.ensures c.cause_of-in-Err-spawn.ensures))

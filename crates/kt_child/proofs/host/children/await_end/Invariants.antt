@@ -3,7 +3,7 @@ use Rattle.kt_child.proofs.Common.{AllProceed, stand_in}
 use Rattle.kt_child.proofs.host.children.await_end.Given as goal
 
 abbrev pub invariant-loop-rested : goal.invariant-loop-rested
-invariant-loop-rested g l = AllProceed (stand_in l.initial.children.items) (stand_in l.children.items)
+invariant-loop-rested g l = AllProceed (stand_in l.initial.children.entries) (stand_in l.children.entries)
 
 abbrev pub decreases-loop-rested : goal.decreases-loop-rested
 decreases-loop-rested g l = 10000 - l.rested

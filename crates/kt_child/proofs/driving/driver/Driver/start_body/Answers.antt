@@ -1,5 +1,5 @@
-use Rattle.std.proofs.Common.{rules, ◌≡◌, ℕ, sym, ◌∙◌, subst, ap, arith, inr}
-use Rattle.kt_child.proofs.Common.{Case, ChildrenState, alive_of, cases_of, count_at, count_in, watched_of}
+use Rattle.std.proofs.Common.{◌≡◌, ℕ, ◌∙◌, ap, arith, inr}
+use Rattle.kt_child.proofs.Common.{Body, ChildrenState, Paths, alive_of, cases_of, count_at, case_of, limit_of, paths_of, spawned}
 use Rattle.kt_child.proofs.BoardSteps.{alive_started, pending_started}
 use Rattle.kt_child.proofs.CaseCounts.{none_among, none_shown}
 use Rattle.kt_child.proofs.driving.driver.Driver.start_body.Goals as goal
@@ -10,14 +10,15 @@ begin-requires-clause-free g c =
     let i = c.args.job.now.position in
     let p : count_at i (cases_of b.children) ≡ 0 = none_shown (cases_of b.children) i c.requires.may.0 c.requires.may.1 in
     let q : count_at i b.pending ≡ 0 = none_among b.pending i c.requires.may.2 in
-    let P : ℕ → Type 0 = λ n. count_in n b ≡ 0 in
-    let F : Case → ℕ = λ t. t.position in
-    subst P (sym (ap F c.in-Ok.ensures)) (omega (arith, p, q))
+    omega (arith, p, q)
 
 pub returns-in-Ok-clause-starts : goal.returns-in-Ok-clause-starts
 returns-in-Ok-clause-starts g c =
     let b = c.begin.ensures.begun in
-    let case = c.in-Ok.case in
+    let job = c.args.job.now in
+    let taken = c.in-Some.ensures in
+    let case = case_of job Body c.in-Some.attempt c.in-Ok.paths in
+    let k = spawned (limit_of job Body) case in
     let answer = c.begin.result in
     let state = c.begin.ensures.state in
     let running = c.args.self.now.running in (
@@ -25,8 +26,13 @@ returns-in-Ok-clause-starts g c =
       b.1,
       inr (
         case,
-        (search rules, c.begin.ensures.next, ap (λ (s : ChildrenState). s.pending) state ∙ pending_started running (watched_of c.args.job.now case) answer, c.in-Ok.ensures),
+        (
+          (taken.0, taken.1, c.begin.ensures.next ∙ taken.2),
+          ap (λ (s : ChildrenState). s.pending) state ∙ pending_started running k answer,
+          ap (λ (p : Paths). case_of job Body c.in-Some.attempt p) c.in-Ok.ensures
+              ∙ ap (λ (n : ℕ). case_of job Body n (paths_of c.args.self.now.root n)) taken.1,
+        ),
         b.2,
-        ap (λ (s : ChildrenState). alive_of s.children) state ∙ alive_started running c.args.job.now case answer,
+        ap (λ (s : ChildrenState). alive_of s.children) state ∙ alive_started running job case answer,
       ),
     )

@@ -1,5 +1,5 @@
 use Rattle.std.proofs.Common.{◌∙◌, refl, ap, inr}
-use Rattle.kt_child.proofs.Common.{ChildrenState, alive_of, cleaning, state_after_start, watched_of}
+use Rattle.kt_child.proofs.Common.{ChildrenState, Cleanup, alive_of, case_of, limit_of, spawned, state_after_start}
 use Rattle.kt_child.proofs.BoardSteps.{alive_started, pending_started}
 use Rattle.kt_child.proofs.driving.driver.Driver.start_cleanup.Goals as goal
 
@@ -8,16 +8,17 @@ returns-clause-starts g c =
     let job = c.args.job.now in
     let t = c.take_owed-owed.ensures.taken in
     let owed = c.take_owed-owed.result in
-    let case = cleaning owed job in
+    let case = case_of job Cleanup owed.attempt owed.paths in
+    let k = spawned (limit_of job Cleanup) case in
     let b = c.begin.ensures.begun in
     let answer = c.begin.result in
-    let L : ChildrenState → ChildrenState = λ s. state_after_start s (watched_of job case) answer in
+    let L : ChildrenState → ChildrenState = λ s. state_after_start s k answer in
     let state = c.begin.ensures.state ∙ ap L t.2 in (
       b.0,
       b.1,
       inr (
         case,
-        (t.0, owed, t.1, c.take_owed-owed.ensures.position, c.begin.ensures.next, ap (λ (s : ChildrenState). s.pending) state ∙ pending_started _ (watched_of job case) answer, refl),
+        (t.0, owed, t.1, c.take_owed-owed.ensures.position, c.begin.ensures.next, ap (λ (s : ChildrenState). s.pending) state ∙ pending_started _ k answer, refl),
         b.2,
         ap (λ (s : ChildrenState). alive_of s.children) state ∙ alive_started _ job case answer,
       ),

@@ -1,9 +1,9 @@
 use Rattle.std.proofs.Common.{◌≡◌, ℕ, ◌∙◌, ◌<◌, ◌++◌, drop, get_or, take, slice_get, Some, ap, sym, subst, arith, length, List, remove}
-use Rattle.kt_child.proofs.Common.{Ends, board_of, slice_get-get_or, take_at, Watched, Chain, Call, ChildrenState, IsEvidence, Waited, cases_of, pending_with, shown_in}
+use Rattle.kt_child.proofs.Common.{Role, board_of, slice_get-get_or, take_at, Watched, Chain, Call, ChildrenState, IsEvidence, Waited, cases_of, is_among, pending_after_end, pending_with, running_after_end, shown_in}
 use Rattle.kt_sched.specs.Children.{Child as Shown}
 use Rattle.kt_child.proofs.BoardSteps.{waited_ends}
-use Rattle.kt_child.proofs.CaseSteps.{cases_waited}
-use Rattle.kt_child.proofs.StateWaits.{Once, state_after, waited_all, waited_one, waited_pending, waited_running}
+use Rattle.kt_child.proofs.CaseSteps.{Left, cases_waited}
+use Rattle.kt_child.proofs.StateWaits.{state_after, waited_all, waited_one, waited_pending, waited_running}
 use Rattle.kt_child.proofs.driving.running_children.RunningChildren.wait.Goals as goal
 
 -- the children after the polls
@@ -48,7 +48,7 @@ old g c = record { children = c.self.inside.children.items; pending = c.self.ins
 abbrev new : (g : _) → goal.After-forget g → ChildrenState
 new g c = record { children = c.forget.new.children.items; pending = c.forget.new.pending.items }
 
-waited : (g : _) (c : goal.After-forget g) → (calls : List Call) × Chain g.O.Os.leads c.args.os.now calls c.leave-ended.new.os × ((w : Waited (old g c) calls c.leave-ended.result (new g c)) × (w.over ≡ c.index.result.now))
+waited : (g : _) (c : goal.After-forget g) → (calls : List Call) × Chain g.O.Os.leads c.args.os.now calls c.leave-ended.new.os × ((w : Left (old g c) calls c.leave-ended.result (new g c)) × (w.over ≡ c.index.result.now))
 waited g c =
     waited_all g.O.Os.leads c.args.os.now c.wait-over.new.os c.leave-ended.new.os (old g c) (new g c) c.deref_mut.result.now c.wait-over.new.children
     c.wait-over.result.place c.wait-over.result.outcome c.index.result.now c.leave-ended.result
@@ -57,13 +57,20 @@ waited g c =
 pub returns-clause-waited : goal.returns-clause-waited
 returns-clause-waited g c =
     let e = c.leave-ended.result in
-    let P : ChildrenState → Type 0 = λ b. (calls : List Call) × Chain g.O.Os.leads c.args.os.now calls c.leave-ended.new.os × Waited b calls e (new g c)
-    × ((next : ℕ) → Ends (board_of b next) calls e (board_of (new g c) next)) in
+    let P : ChildrenState → Type 0 = λ b. (calls : List Call) × Chain g.O.Os.leads c.args.os.now calls c.leave-ended.new.os
+    × ((next : ℕ) → Waited b.children (board_of b next) calls e (new g c).children (board_of (new g c) next)) in
     let w = waited g c in
-    subst P c.self.view_is (w.0, w.1, w.2.0, waited_ends (old g c) (new g c) w.0 e c.self.invariant.0.on w.2.0)
+    subst P c.self.view_is (w.0, w.1, waited_ends (old g c) (new g c) w.0 e c.self.invariant.0.on w.2.0)
 
-once : (g : _) (c : goal.After-forget g) → Once c.args.self.now
-once g c = subst Once c.self.view_is c.self.invariant.0.once
+-- what is shown and owed after it
+shown : (g : _) (c : goal.After-forget g) → ((k : ℕ) (r : Role) → shown_in (new g c) k r ≡ running_after_end (shown_in c.args.self.now) c.leave-ended.result k r)
+    × ((k : ℕ) → is_among (new g c).pending k ≡ pending_after_end (shown_in c.args.self.now) (is_among c.args.self.now.pending) c.leave-ended.result k)
+shown g c =
+    let e = c.leave-ended.result in
+    let P : ChildrenState → Type 0 = λ b. ((k : ℕ) (r : Role) → shown_in (new g c) k r ≡ running_after_end (shown_in b) e k r)
+    × ((k : ℕ) → is_among (new g c).pending k ≡ pending_after_end (shown_in b) (is_among b.pending) e k) in
+    let w = (waited g c).2.0 in
+    subst P c.self.view_is (waited_running _ _ _ _ c.self.invariant.0.once w, waited_pending _ _ _ _ c.self.invariant.0.once w)
 
 pub returns-clause-one_that_ran : goal.returns-clause-one_that_ran
 returns-clause-one_that_ran g c =
@@ -74,7 +81,7 @@ returns-clause-one_that_ran g c =
     subst P c.self.view_is (waited_one (old g c) (new g c) w.0 e c.self.invariant.0.once w.2.0 (subst K (sym w.2.1) c.leave-ended.ensures.evidence))
 
 pub returns-clause-running : goal.returns-clause-running
-returns-clause-running g c k r = waited_running _ _ _ _ (once g c) (returns-clause-waited g c).2 k r
+returns-clause-running g c = (shown g c).0
 
 pub returns-clause-pending : goal.returns-clause-pending
-returns-clause-pending g c k = waited_pending _ _ _ _ (once g c) (returns-clause-waited g c).2 k
+returns-clause-pending g c = (shown g c).1

@@ -6,6 +6,5 @@ abbrev pub invariant-loop : goal.invariant-loop
 invariant-loop g l =
     record {
       proceeds : Proceeds (stand_of l.initial.self) (stand_of l.self);
-      name : l.self.child ≡ l.initial.self.child;
       pace : l.self.pace ≡ l.initial.self.pace;
     }

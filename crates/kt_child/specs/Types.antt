@@ -1,0 +1,24 @@
+-- The types that the definitions of this crate name, passed on from one place. Declares nothing.
+pub use Rattle.kt_base.specs.Chains.{Chain}
+pub use Rattle.kt_base.specs.declared.child.Interface.{Interface}
+pub use Rattle.kt_base.specs.declared.child.Outcome.{Outcome}
+pub use Rattle.kt_base.specs.declared.child.Role.{Role}
+pub use Rattle.kt_base.specs.declared.child.Role.TheVariants.{Body, Cleanup}
+pub use Rattle.kt_base.specs.declared.variable.Variable.{Variable}
+pub use Rattle.kt_atflist.specs.declared.listing.ListBytes.{ListBytes}
+pub use Rattle.kt_atflist.specs.declared.listing.Listing.{Listing}
+pub use Rattle.kt_sched.specs.Trace.{Trace}
+pub use Rattle.kt_sched.specs.declared.job.Ended.{Ended}
+pub use Rattle.kt_sched.specs.declared.job.Job.{Job}
+pub use Rattle.kt_sched.specs.declared.job.StartAnswer.{StartAnswer}
+pub use Rattle.kt_child.specs.declared.planning.Case.{Case}
+pub use Rattle.kt_child.specs.declared.planning.Spawning.{Spawning}
+pub use Rattle.kt_child.specs.declared.planning.Want.{Want}
+pub use Rattle.kt_child.specs.declared.planning.workdir.Paths.{Paths}
+pub use Rattle.kt_child.specs.declared.polling.Watch.{Watch}
+pub use Rattle.kt_child.specs.declared.polling.Watched.{Watched}
+pub use Rattle.kt_child.specs.declared.system.Child.{Child}
+pub use Rattle.kt_child.specs.declared.system.EnvPlan.{EnvPlan}
+pub use Rattle.kt_child.specs.declared.system.FileRead.{FileRead}
+pub use Rattle.kt_child.specs.declared.system.OsFault.{OsFault}
+pub use Rattle.kt_child.specs.declared.system.Polled.{Polled}
