@@ -4,7 +4,6 @@ use Rattle.kt_cli.proofs.Common.{Chain, ChildrenState, idle_state, Question, OfT
 use Rattle.kt_child.specs.Driving.Board.{board_of}
 use Rattle.kt_child.specs.Driving.Runs.{RunsFrom}
 use Rattle.kt_child.proofs.TraceRuns.{ends_are_told}
-use Rattle.kt_cli.specs.ChildrenTold.{ChildrenTell}
 use Rattle.kt_child.specs.declared.system.os.Os as system
 use Rattle.kt_cli.specs.declared.host.machine.Machine as machine
 
@@ -17,7 +16,7 @@ module _ {M O : Type 0} (m : machine.Ghosts M) (o : system.Ghosts O) where
 
   -- whatever was asked of a world whose driver had nothing running at first: its children tell each end of the trace
   pub courses_are_told : (seen : Seen) (old new : HostWorld M O) (course : Course (host_world m o) seen old new) → old.driver.running ≡ idle_state
-      → ChildrenTell o.leads seen.plan seen.trace course.begun.driver new.driver
+      → RunsFrom o.leads seen.plan seen.trace (board_of idle_state course.begun.driver.next) course.begun.driver new.driver
   courses_are_told seen old new course none =
       let d = course.begun.driver in
       let P : ChildrenState → Type 0 = λ b. RunsFrom o.leads seen.plan seen.trace (board_of b d.next) d new.driver in

@@ -6,8 +6,10 @@ use Rattle.kt_child.specs.declared.driving.driver.Driver.{Driver}
 use Rattle.kt_child.specs.declared.driving.driver.DriverFault.{DriverFault}
 use Rattle.kt_child.specs.declared.driving.driver.DriverFault.TheVariants.{NoWorkDirectory}
 use Rattle.kt_child.specs.declared.system.os.Os as system
+use Rattle.kt_child.specs.Driving.Board.{board_of}
 use Rattle.kt_child.specs.Driving.ChildrenState.{idle_state}
 use Rattle.kt_child.specs.Driving.Roots.{FindsRoot}
+use Rattle.kt_child.specs.Driving.Runs.{RunsFrom}
 use Rattle.kt_child.specs.System.Calls.{Call, RemoveTree}
 use Rattle.kt_store.specs.declared.result_store.Keeping as keeping
 use Rattle.kt_plan.specs.declared.options.CaseOptions.{CaseOptions}
@@ -17,7 +19,6 @@ use Rattle.kt_cli.specs.declared.host.host_world.HostWorld.{HostWorld}
 use Rattle.kt_cli.specs.declared.host.machine.Machine as machine
 use Rattle.kt_cli.specs.declared.host.outside.Outside.{Outside}
 use Rattle.kt_cli.specs.declared.host.surroundings.Surroundings.{Surroundings}
-use Rattle.kt_cli.specs.ChildrenTold.{ChildrenTell}
 use Rattle.kt_cli.specs.HostAnswers.{host_world}
 use Rattle.kt_cli.specs.Meaning.{Did}
 use Rattle.kt_cli.specs.Places.{source_directory}
@@ -46,7 +47,9 @@ module _ {M O : Type 0} (o : system.Ghosts O) (before : Outside M O) where
 
 module _ {M O R : Type 0} (m : machine.Ghosts M) (o : system.Ghosts O) (before after : Outside M O) (r : keeping.Ghosts R) where
   -- a command was done over the files beside its Kyuafile and over a driver that was made for its options, whose root directory was then to be
-  -- removed: nothing else was asked of the machine and the system. Each end in the trace is explained by the calls of its own child
+  -- removed: nothing else was asked of the machine and the system. All that the driver asked was for the answers of the trace, from a board on
+  -- which nothing runs: each poll and kill is heard by one child, and the outcome of an end is the row of the outcome table that its child's
+  -- answers are
   pub record OnDriver (around : Surroundings) (options : CaseOptions) (c : Command) (store end : R) (was now : Option (List ℕ)) (exit : ℕ) : Type 0 where
     pub old : HostWorld M O
     pub new : HostWorld M O
@@ -55,7 +58,7 @@ module _ {M O R : Type 0} (m : machine.Ghosts M) (o : system.Ghosts O) (before a
     pub directory : old.directory ≡ directory_of options.kyuafile
     pub around_it : old.around ≡ around
     pub did : Did (host_world m o) r c (scene old store was) (scene new end now) exit
-    pub told : ChildrenTell o.leads did.seen.plan did.seen.trace did.course.begun.driver new.driver
+    pub told : RunsFrom o.leads did.seen.plan did.seen.trace (board_of idle_state did.course.begun.driver.next) did.course.begun.driver new.driver
     pub left : after.machine ≡ new.machine
     pub closed : (done : Bool) × o.leads new.driver.os (RemoveTree new.driver.root done) after.os
 

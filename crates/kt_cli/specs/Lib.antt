@@ -1,6 +1,5 @@
 pub mod Common
 pub mod CaseLines
-pub mod ChildrenTold
 pub mod Closings
 pub mod Debugging
 pub mod FaultLines
