@@ -23,9 +23,9 @@ pub data Provided (S : Type 0) : Type 0 where
 -- as `attach` takes them, or are read alone and are those that the file held; closed ones that were not read alone are in the database file alone
 abbrev pub InFiles : {D : Type 0} {g : disk.Ghosts D} → List ℕ → Image → Provided (FileResults (FileStore D g)) → Type 0
 InFiles path image (Opened file (Ok (Whole results))) = file ≡ path → AreOver image results
-InFiles path image (Opened file (Ok (Alone results))) = file ≡ path → ReadsRuns image results
+InFiles path image (Opened file (Ok (Alone results alloc))) = file ≡ path → ReadsRuns image results
 InFiles path image (Opened file (Err fault)) = IsStoreFault fault ⊎ (fault ≡ UnknownSchema)
 InFiles path image (Closed (Whole results) (Ok done)) = IsClosed results
-InFiles path image (Closed (Alone results) (Ok done)) = ⊤
+InFiles path image (Closed (Alone results alloc) (Ok done)) = ⊤
 InFiles path image (Closed results (Err fault)) = IsStoreFault fault
 InFiles path image (Found answer) = ⊤

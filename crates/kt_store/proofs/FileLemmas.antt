@@ -33,11 +33,11 @@ module _ {S : Type 0} (g : Ghosts S) where
     crash = λ runs may stands. as_lasting (results g).leaves (Leaves g) s t (Whole s) (Whole t) (λ _ left. left) (λ _ left. left) call runs may (h.crash runs may stands);
   }
 
-  pub alone_serves : (call : StoreCall) (s t : S) → Serves (readings g) call s t → Serves either call (Alone s) (Alone t)
-  alone_serves call s t h = record {
+  pub alone_serves : (call : StoreCall) (s t : S) (a b : _) → Serves (readings g) call s t → Serves either call (Alone s a) (Alone t b)
+  alone_serves call s t a b h = record {
     asked = tt;
     stands = h.stands;
     earlier = h.earlier;
     agrees = h.agrees;
-    crash = λ runs may stands. as_lasting (readings g).leaves (Leaves g) s t (Alone s) (Alone t) (λ _ left. left) (λ _ left. left) call runs may (h.crash runs may stands);
+    crash = λ runs may stands. as_lasting (readings g).leaves (Leaves g) s t (Alone s a) (Alone t b) (λ _ left. left) (λ _ left. left) call runs may (h.crash runs may stands);
   }

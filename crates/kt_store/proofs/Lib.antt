@@ -38,7 +38,7 @@ pub mod Outlined
 pub mod CursorLemmas
 pub mod BehindLemmas
 pub mod SeenLemmas
-pub mod ReaderLemmas
+pub mod AloneLemmas
 pub mod FileLemmas
 pub mod OpeningLemmas
 pub mod TurnLemmas

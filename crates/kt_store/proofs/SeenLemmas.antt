@@ -1,6 +1,6 @@
 -- What is shown of the rows that a cursor finds.
-use Rattle.std.proofs.Common.{◌≡◌, ℕ, suc, pos, List, [], ◌∷◌, ◌++◌, map, drop, filter, true, false, Some, None, Option, refl, sym, ap, ap₂, subst, ◌∙◌}
-use Rattle.kt_store.proofs.Common.{map-append, Ghosts, map-map, flat_map, option_to_list, Row, Entry, Variable, Run, Keeps, entry_row, entry_columns, output_columns, pair_rows, pair_rows_from, pair_columns, pairs_shown, head_columns, run_row, run_at, has_rowid, AreNumbered}
+use Rattle.std.proofs.Common.{arith, length, ◌≡◌, ℕ, suc, pos, List, [], ◌∷◌, ◌++◌, map, drop, filter, true, false, Some, None, Option, refl, sym, ap, ap₂, subst, ◌∙◌}
+use Rattle.kt_store.proofs.Common.{AreWide, column, length-map, map-append, Ghosts, map-map, flat_map, option_to_list, Row, Entry, Variable, Run, Keeps, entry_row, entry_columns, output_columns, pair_rows, pair_rows_from, pair_columns, pairs_shown, head_columns, run_row, run_at, has_rowid, AreNumbered}
 use Rattle.sqlite_trees.specs.View.{View, Finds}
 use Rattle.kt_store.proofs.EntryLemmas.{back}
 use Rattle.kt_store.proofs.FindLemmas.{found_run}
@@ -82,3 +82,8 @@ pub still_has : {S : Type 0} (g : Ghosts S) (old new : S) → Looks g old new �
 still_has g old new looks runs has clean sound =
     let same = looks.same clean sound in
     subst (Keeps runs) (ap (λ (v : View). v.trees) (sym same)) (has (looks.clean clean) (ap (λ (v : View). v.is_broken) (sym same) ∙ sound))
+
+-- each has as many columns as were asked for
+pub all_wide : (columns : List ℕ) (rows : List Row) → AreWide (length columns) (map (in_columns columns) rows)
+all_wide columns [] = tt
+all_wide columns (r ∷ rows) = (omega (arith, length-map columns (column r)), all_wide columns rows)

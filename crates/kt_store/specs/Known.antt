@@ -40,27 +40,27 @@ module _ {S : Type 0} (g : Ghosts S) where
   -- the same store answered
   abbrev pub Answers : FileResults S → StoreCall → FileResults S → Type 0
   Answers (Whole s) call (Whole t) = Unit {0}
-  Answers (Alone s) call (Alone t) = Unit {0}
+  Answers (Alone s alloc) call (Alone t later) = Unit {0}
   Answers _ call _ = ⊥
 
   abbrev pub Stands : FileResults S → List Run → Type 0
   Stands (Whole s) runs = results.stands s runs
-  Stands (Alone s) runs = readings.stands s runs
+  Stands (Alone s alloc) runs = readings.stands s runs
 
   abbrev pub IsSound : FileResults S → Type 0
   IsSound (Whole s) = results.sound s
-  IsSound (Alone s) = readings.sound s
+  IsSound (Alone s alloc) = readings.sound s
 
   abbrev pub Leaves : FileResults S → List (List Run) → Type 0
   Leaves (Whole s) may = results.leaves s may
-  Leaves (Alone s) may = readings.leaves s may
+  Leaves (Alone s alloc) may = readings.leaves s may
 
   -- a run's number is its place
   pub numbered : (s : FileResults S) (runs : List Run) → Stands s runs → AreNumbered 1 runs
   numbered (Whole s) runs h = h.1
-  numbered (Alone s) runs h = h.1
+  numbered (Alone s alloc) runs h = h.1
 
   -- the entries of a run go by position while the store is sound
   pub ordered : (s : FileResults S) (runs : List Run) → Stands s runs → IsSound s → AreOrdered runs
   ordered (Whole s) runs h sound = h.2 sound
-  ordered (Alone s) runs h sound = h.2 sound
+  ordered (Alone s alloc) runs h sound = h.2 sound

@@ -1,12 +1,18 @@
-use crate::{CaseOutputs, Keeping, Reader, ResultStore, Results, RunHead, StoreFault};
+use crate::seeks::{find_outputs, heads, outline};
+use crate::store_fault::trees::READ_ONLY;
+use crate::{CaseOutputs, Keeping, ResultStore, Results, RunHead, StoreFault};
 use kt_base::Entry;
 use sqlite::Alter;
+use std::alloc::Global;
 
-/// The results in a file: all of it was tested, or they are read alone.
+/// The results in a file (docs/formats/store.md).
 #[derive(Drop)]
 pub enum FileResults<S: Alter> {
+    /// All of it was tested.
     Whole(Results<S>),
-    Alone(Reader<S>),
+    /// Of its trees only those rows are read that a call asks for. Nothing is written: `begin`, `put` and `finish` are
+    /// refused. What is said of it holds while the disk returns what was written, and nobody writes the database.
+    Alone(S, Global),
 }
 
 impl<S: Alter> Keeping for FileResults<S> {
@@ -29,42 +35,42 @@ impl<S: Alter> ResultStore for FileResults<S> {
     fn begin(&mut self, total: u32, moment: u64) -> Result<u64, StoreFault> {
         match self {
             FileResults::Whole(store) => store.begin(total, moment),
-            FileResults::Alone(store) => store.begin(total, moment),
+            FileResults::Alone(..) => Err(READ_ONLY),
         }
     }
 
     fn put(&mut self, run: u64, entry: &Entry) -> Result<(), StoreFault> {
         match self {
             FileResults::Whole(store) => store.put(run, entry),
-            FileResults::Alone(store) => store.put(run, entry),
+            FileResults::Alone(..) => Err(READ_ONLY),
         }
     }
 
     fn finish(&mut self, run: u64) -> Result<(), StoreFault> {
         match self {
             FileResults::Whole(store) => store.finish(run),
-            FileResults::Alone(store) => store.finish(run),
+            FileResults::Alone(..) => Err(READ_ONLY),
         }
     }
 
     fn runs(&mut self) -> Result<Vec<RunHead>, StoreFault> {
         match self {
             FileResults::Whole(store) => store.runs(),
-            FileResults::Alone(store) => store.runs(),
+            FileResults::Alone(store, alloc) => heads(store, *alloc),
         }
     }
 
     fn outline(&mut self, run: u64, pairs: bool) -> Result<Vec<Entry>, StoreFault> {
         match self {
             FileResults::Whole(store) => store.outline(run, pairs),
-            FileResults::Alone(store) => store.outline(run, pairs),
+            FileResults::Alone(store, alloc) => outline(store, *alloc, run, pairs),
         }
     }
 
     fn outputs(&mut self, run: u64, position: u32) -> Result<CaseOutputs, StoreFault> {
         match self {
             FileResults::Whole(store) => store.outputs(run, position),
-            FileResults::Alone(store) => store.outputs(run, position),
+            FileResults::Alone(store, alloc) => find_outputs(store, *alloc, run, position),
         }
     }
 }

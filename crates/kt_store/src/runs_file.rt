@@ -1,17 +1,20 @@
 ghost use Rattle.std.specs.Prelude.{◌≡◌, [], ◌∷◌, map, pos, IfOk, IfSome, IsTrue};
-ghost use Rattle.kt_store.specs.Common.{Int, Looks, OpensOver, ListsRuns, in_columns, column};
+ghost use Rattle.kt_store.specs.Common.{Int, Looks, ListsRuns, ReadsRuns, image_at, in_columns, column};
 ghost use Rattle.sqlite_trees.specs.Tree.{Trees, rowid};
 ghost use Rattle.sqlite_wal.specs.PageSize.{bytes_of};
 ghost use Rattle.sqlite_wal.specs.Reads.{AreClean, OnlyReads};
 ghost use Rattle.sqlite_store.specs.Unopened.{AreUsable, files_of, state_of};
-ghost use Rattle.sqlite_store.specs.FileStore.{view};
 ghost use Rattle.sqlite.specs.Files.{HoldsDatabase, image_of};
 
 use crate::attach::{CREATE_ENTRIES, CREATE_META, CREATE_PROPS, CREATE_RUNS};
 use crate::new_file::{beside, may_have_frames};
-use crate::store_fault::trees::{columns_of, rows_of};
+use crate::seeks::RUNS;
+use crate::store_fault::trees::columns_of;
 use kt_base::{NoMemory, Text};
+use sqlite::{FileFrom, Start};
 use sqlite_disk::{Disk, Files};
+use sqlite_exec::check::all_rows;
+use sqlite_exec::work::Workspace;
 use sqlite_pager::{Options, Pager};
 use sqlite_store::{FileStore, Unopened};
 use sqlite_trees::store::{Shape, Store};
@@ -31,42 +34,27 @@ const WITH_SUMS: u32 = 0x0840_2020;
 /// The tree of the table that has the schema's number.
 const META: u32 = 0;
 
-/// The tree of the table of runs.
-const RUNS: u32 = 2;
+const TABLE: (Shape, u64) = (Shape::Table, 0);
+
+const KEY: (Shape, u64) = (Shape::Index(Order::PLAIN), 0);
 
 /// The trees of schema 2.
-const LAYOUTS: [(Shape, u64); 7] = [
-    (Shape::Table, 0),
-    (Shape::Index(Order::PLAIN), 0),
-    (Shape::Table, 0),
-    (Shape::Table, 0),
-    (Shape::Index(Order::PLAIN), 0),
-    (Shape::Table, 0),
-    (Shape::Index(Order::PLAIN), 0),
-];
+const LAYOUTS: [(Shape, u64); 7] = [TABLE, KEY, TABLE, TABLE, KEY, TABLE, KEY];
 
-/// Whether this is the name of a file that is not empty and whose log has no frame, and SQLite would not take it for
-/// Whether this is the path of a file for SQLite too.
+/// Whether SQLite too takes this for the path of a file.
 pub(crate) fn is_path(path: &str) -> bool {
     path != ":memory:" && !path.starts_with("file:")
 }
 
-/// something else.
-pub(crate) fn is_settled<R: FileSystem>(rt: &R, file: &Text) -> bool {
-    let path = file.as_str();
-    if !is_path(path) {
-        return false;
-    }
+/// Whether this is a file that is not empty, and whose log has no frame.
+fn is_settled<R: FileSystem>(rt: &R, file: &Text) -> bool {
     let Ok(log) = beside(file, "-wal") else {
         return false;
     };
-    if may_have_frames(rt, log.as_str()) {
+    let Ok(found) = fs::symlink_metadata(rt, file.as_str()) else {
         return false;
-    }
-    match fs::symlink_metadata(rt, path) {
-        Ok(found) => found.is_file() && found.len() > 0,
-        Err(_missing) => false,
-    }
+    };
+    found.is_file() && found.len() > 0 && !may_have_frames(rt, log.as_str())
 }
 
 /// Options with a number of pages that are kept in memory; none if there is no random number.
@@ -93,10 +81,7 @@ fn plain_size<D: Disk>(alloc: Global, files: &mut Files<D>) -> Option<PageSize>
     let Ok(head) = probe_first_page(alloc, files, size) else {
         return None;
     };
-    if head.0 != b'S' {
-        return None;
-    }
-    if head.1 == WITH_SUMS {
+    if head.0 != b'S' || head.1 == WITH_SUMS {
         return None;
     }
     Some(size)
@@ -111,13 +96,8 @@ fn unopened<D: Disk + Drop>(
     ensures files { IfSome result (λ it. files_of it ≡ (files.log, files.db)) }
     ensures size { IfSome result (λ it. (state_of it).page_size ≡ bytes_of size) }
 {
-    let Ok(pager) = Pager::new(alloc, files, size, options) else {
-        return None;
-    };
-    let Ok(fresh) = Unopened::with_sums(alloc, pager, &[], false) else {
-        return None;
-    };
-    Some(fresh)
+    let pager = Pager::new(alloc, files, size, options).ok()?;
+    Unopened::with_sums(alloc, pager, &[], false).ok()
 }
 
 /// The rows of `sqlite_schema` less their roots.
@@ -132,14 +112,14 @@ fn without_roots(alloc: Global, listed: &[Row]) -> Result<Vec<Row>, NoMemory>
     Ok(rows)
 }
 
-/// Whether a row is of an object with this rowid, kind, name, table and text. An index of a key has no text.
-fn is_object(row: &Row, id: i64, kind: &str, name: &str, table: &str, sql: &str) -> bool
+/// Whether a row is of an object with this rowid, name, table and text. The index of a key has no text.
+fn is_object(row: &Row, id: i64, name: &str, table: &str, sql: &str) -> bool
     ensures { IsTrue result → column row.now 0 ≡ Int id }
 {
-    let text = if sql.is_empty() {
-        ValueRef::Null
+    let (kind, text) = if sql.is_empty() {
+        ("index", ValueRef::Null)
     } else {
-        ValueRef::Text(sql.as_bytes())
+        ("table", ValueRef::Text(sql.as_bytes()))
     };
     is_same(row.get(0), ValueRef::Int(id))
         && is_same(row.get(1), ValueRef::Text(kind.as_bytes()))
@@ -157,27 +137,13 @@ fn are_objects(rows: &[Row]) -> bool
     let [meta, meta_key, runs, entries, entries_key, props, props_key] = rows else {
         return false;
     };
-    is_object(meta, 1, "table", "meta", "meta", CREATE_META)
-        && is_object(meta_key, 2, "index", "sqlite_autoindex_meta_1", "meta", "")
-        && is_object(runs, 3, "table", "runs", "runs", CREATE_RUNS)
-        && is_object(entries, 4, "table", "entries", "entries", CREATE_ENTRIES)
-        && is_object(
-            entries_key,
-            5,
-            "index",
-            "sqlite_autoindex_entries_1",
-            "entries",
-            "",
-        )
-        && is_object(props, 6, "table", "props", "props", CREATE_PROPS)
-        && is_object(
-            props_key,
-            7,
-            "index",
-            "sqlite_autoindex_props_1",
-            "props",
-            "",
-        )
+    is_object(meta, 1, "meta", "meta", CREATE_META)
+        && is_object(meta_key, 2, "sqlite_autoindex_meta_1", "meta", "")
+        && is_object(runs, 3, "runs", "runs", CREATE_RUNS)
+        && is_object(entries, 4, "entries", "entries", CREATE_ENTRIES)
+        && is_object(entries_key, 5, "sqlite_autoindex_entries_1", "entries", "")
+        && is_object(props, 6, "props", "props", CREATE_PROPS)
+        && is_object(props_key, 7, "sqlite_autoindex_props_1", "props", "")
 }
 
 /// Gives the files the schema that they list, if that is schema 2.
@@ -193,10 +159,7 @@ fn list_schema<D: Disk>(alloc: Global, files: &mut Unopened<D>) -> bool
     let Ok(rows) = without_roots(alloc, listed.as_slice()) else {
         return false;
     };
-    if !are_objects(rows.as_slice()) {
-        return false;
-    }
-    if rows.len() != 7 {
+    if !are_objects(rows.as_slice()) || rows.len() != 7 {
         return false;
     }
     let Ok(is_listed) = files.list_schema(rows.as_slice(), &LAYOUTS) else {
@@ -205,16 +168,57 @@ fn list_schema<D: Disk>(alloc: Global, files: &mut Unopened<D>) -> bool
     is_listed
 }
 
-/// Opens files that hold the tables of schema 2, in pages that end in no sums. Their log is recovered.
-fn store_over<D: Disk + Drop>(
+/// Whether the tables say that they are those of schema 2.
+fn says_2<S: Store>(store: &mut S, alloc: Global) -> bool
+    ensures { Looks S.Store store.old store.new }
+{
+    let Ok(rows) = all_rows(store, &mut Workspace::new(alloc), META) else {
+        return false;
+    };
+    let [row] = rows.as_slice() else {
+        return false;
+    };
+    is_same(row.get(1), ValueRef::Text(b"schema")) && is_same(row.get(2), ValueRef::Int(2))
+}
+
+/// Whether the runs are numbered from 1, each finished or not.
+fn are_numbered<S: Store>(store: &mut S, alloc: Global) -> bool
+    ensures { Looks S.Store store.old store.new }
+{
+    let Ok(rows) = all_rows(store, &mut Workspace::new(alloc), RUNS) else {
+        return false;
+    };
+    let mut number = 0i64;
+    for row in rows.as_slice() {
+        number = number.wrapping_add(1);
+        if !is_same(row.get(0), ValueRef::Int(number))
+            || !matches!(row.get(4), ValueRef::Int(0 | 1))
+        {
+            return false;
+        }
+    }
+    true
+}
+
+/// A store whose tables are plainly those of schema 2, with their runs in turn.
+fn of_schema_2<S: Store + Drop>(alloc: Global, mut store: S) -> Option<S>
+    ensures { IfSome result (Looks S.Store store) }
+{
+    if !says_2(&mut store, alloc) || !are_numbered(&mut store, alloc) {
+        return None;
+    }
+    Some(store)
+}
+
+/// Opens files that plainly hold a database of schema 2, in pages that end in no sums. Their log is recovered.
+fn runs_over<D: Disk + Drop>(
     alloc: Global,
     files: Files<D>,
     options: Options,
 ) -> Option<FileStore<D>>
     requires log { IsTrue (D.Disk.is_usable files.log) }
     requires db { IsTrue (D.Disk.is_usable files.db) }
-    ensures { IfSome result (λ store. IsTrue (view store).is_clean
-        → OpensOver (image_of D.Disk files) store) }
+    ensures { IfSome result (ReadsRuns (image_of D.Disk files)) }
 {
     let mut pair = files;
     let size = plain_size(alloc, &mut pair)?;
@@ -222,71 +226,33 @@ fn store_over<D: Disk + Drop>(
     if !list_schema(alloc, &mut fresh) {
         return None;
     }
-    match fresh.open_numbered() {
-        Ok(store) => Some(store),
-        Err(_refused) => None,
-    }
-}
-
-/// Whether the tables say that they are those of schema 2.
-fn says_2<S: Store>(store: &mut S, alloc: Global) -> bool
-    ensures { Looks S.Store store.old store.new }
-{
-    let Ok(rows) = rows_of(store, alloc, META, &[1, 2]) else {
-        return false;
+    let Ok(opened) = fresh.open_numbered() else {
+        return None;
     };
-    let [row] = rows.as_slice() else {
-        return false;
-    };
-    let (Ok(name), Ok(value)) = (row.get_ref(0), row.get_ref(1)) else {
-        return false;
-    };
-    is_same(name, ValueRef::Text(b"schema")) && is_same(value, ValueRef::Int(2))
+    let store = of_schema_2(alloc, opened)?;
+    Some(store)
 }
 
-/// Whether the rows of runs are numbered from 1, each finished or not.
-fn are_numbered(rows: &[sqlite::Row]) -> bool {
-    let mut number = 0i64;
-    for row in rows {
-        number = number.wrapping_add(1);
-        let (Ok(id), Ok(finished)) = (row.get_ref(0), row.get_ref(1)) else {
-            return false;
-        };
-        let is_flag = is_same(finished, ValueRef::Int(0)) || is_same(finished, ValueRef::Int(1));
-        if !is_flag || !is_same(id, ValueRef::Int(number)) {
-            return false;
-        }
-    }
-    true
-}
+/// How many pages are kept in memory: most are read once.
+const PAGES: usize = 64;
 
-/// Whether each run has its place for its number.
-fn has_numbered<S: Store>(store: &mut S, alloc: Global) -> bool
-    ensures { Looks S.Store store.old store.new }
+/// Opens the results in a file that plainly is a database of schema 2 and whose log has no frame, to be read alone.
+/// `S` stands for what the file held, which no code reads. `None` of any other file, and of one that can't be opened or
+/// is damaged: `Results::open` takes it, or tells why not.
+pub fn open_alone<S: Start>(
+    rt: &HostRuntime,
+    file: &Text,
+    start: S,
+) -> Option<FileStore<FileFrom<S>>>
+    ensures { IfSome result (ReadsRuns (image_at S.Start)) }
 {
-    match rows_of(store, alloc, RUNS, &[0, 4]) {
-        Ok(rows) => are_numbered(rows.as_slice()),
-        Err(_failed) => false,
-    }
-}
-
-/// Opens files that plainly hold a database of schema 2.
-pub(crate) fn runs_over<D: Disk + Drop>(
-    alloc: Global,
-    files: Files<D>,
-    options: Options,
-) -> Option<FileStore<D>>
-    requires log { IsTrue (D.Disk.is_usable files.log) }
-    requires db { IsTrue (D.Disk.is_usable files.db) }
-    ensures { IfSome result (λ store. IsTrue (view store).is_clean
-        → OpensOver (image_of D.Disk files) store) }
-{
-    let mut store = store_over(alloc, files, options)?;
-    if !says_2(&mut store, alloc) {
+    if !is_path(file.as_str()) || !is_settled(rt, file) {
         return None;
     }
-    if !has_numbered(&mut store, alloc) {
+    let Ok(files) = sqlite_std_file::open(rt, file.as_str(), start) else {
         return None;
-    }
+    };
+    let options = options(rt, PAGES)?;
+    let store = runs_over(rt.alloc(), files, options)?;
     Some(store)
 }

@@ -4,7 +4,7 @@
 use kt_base::Text;
 use kt_child::{DriverFault, HostOs, Os};
 use kt_cli::{Exit, HostMachine, LineOutput, Outside, Platform, Surroundings, carry_out};
-use kt_store::{FileResults, Reader, Results, StoreFault};
+use kt_store::{FileResults, Results, StoreFault, open_alone};
 use kt_words::{Command, CommandFault, read_words};
 use sqlite::{FileFrom, FileStore, Start, Unknown};
 use std::alloc::Global;
@@ -53,8 +53,8 @@ impl<S: Past> Platform for Host<'_, S> {
 
     fn open(&mut self, file: &Text) -> Result<Self::Results, StoreFault> {
         if self.reads {
-            if let Some(reader) = Reader::open(self.rt, file, S::unread()) {
-                return Ok(FileResults::Alone(reader));
+            if let Some(store) = open_alone(self.rt, file, S::unread()) {
+                return Ok(FileResults::Alone(store, self.rt.alloc()));
             }
         }
         let results = Results::open(self.rt, file, S::unread())?;
@@ -68,7 +68,7 @@ impl<S: Past> Platform for Host<'_, S> {
                 results.close()?;
                 Ok(())
             }
-            FileResults::Alone(_reader) => Ok(()),
+            FileResults::Alone(_store, _alloc) => Ok(()),
         }
     }
 

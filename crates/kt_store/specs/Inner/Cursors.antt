@@ -5,8 +5,9 @@ use Rattle.std.specs.Ordering.{is_eq}
 use Rattle.sqlite.specs.declared.types.Value.TheVariants.{Int}
 use Rattle.sqlite.specs.Order.{Row}
 use Rattle.sqlite_value.specs.Order.{column}
-use Rattle.sqlite_trees.specs.Tree.{Trees, rowid, has_rowid, from_key}
-use Rattle.sqlite_trees.specs.View.{IsClean, KeepsSchema}
+use Rattle.sqlite_trees.specs.Tree.{IsIndex, Trees, rowid, has_rowid, from_key}
+use Rattle.sqlite_trees.specs.View.{IsClean, IsShaped, KeepsSchema}
+use Rattle.sqlite_trees.specs.declared.store.Shape.TheVariants.{Table}
 use Rattle.sqlite.specs.Store.{Ghosts}
 use Rattle.sqlite_value.specs.Keys.{plain, prefix_cmp}
 use Rattle.sqlite_sql.specs.Catalog.{entry_of}
@@ -38,10 +39,16 @@ in_columns columns row = map (column row) columns
 abbrev pub Shows : List ℕ → List Row → List Row → Type 0
 Shows columns mine shown = (rows : List Row) × (map (drop 1) rows ≡ mine) × (shown ≡ map (in_columns columns) rows)
 
--- a cursor with these places left gave the next one, which begins with the key, or it has none that does
-abbrev pub Goes : Row → List Row → Row → List Row → Bool → Type 0
-Goes key old place new true = (old ≡ place ∷ new) × (begins key place ≡ true)
-Goes key old place new false = AllByRecursion (λ e. begins key e ≡ false) (take 1 old)
+-- these columns of the rows of a table were shown whose places an index has from a key on, if it has them so
+abbrev pub ShowsUnder : ℕ → ℕ → Row → List ℕ → Trees → List Row → Type 0
+ShowsUnder table index key columns trees shown = (cs : List ℕ) (mine : List Row)
+    → (IsShaped Table (trees table) → IsIndex plain (trees index) → Places cs key mine (trees table) (trees index)) → Shows columns mine shown
+
+-- a cursor over places of a table, with these left, gave the next one, which begins with the key, and its row, or it has none that does
+abbrev pub Goes : Row → List Row → List Row → Row → Row → List Row → Bool → Type 0
+Goes key table old place row new true =
+    (old ≡ place ∷ new) × (begins key place ≡ true) × ((front : Row) (id : ℤ) → place ≡ front ++ Int id ∷ [] → filter (has_rowid id) table ≡ row ∷ [])
+Goes key table old place row new false = AllByRecursion (λ e. begins key e ≡ false) (take 1 old)
 
 -- a store was only read: it shows the same trees unless it is broken now, and a crash leaves what it left before
 pub record Looks {S : Type 0} (g : Ghosts S) (old new : S) : Type 0 where

@@ -1,17 +1,33 @@
-use Rattle.std.proofs.Common.{◌∙◌, map}
-use Rattle.kt_store.proofs.Common.{map-map, entries_of, run_at, with_pairs, without_outputs}
+use Rattle.std.proofs.Common.{◌∙◌, map, flat_map}
+use Rattle.kt_store.proofs.Common.{map-map, entries_of, run_at, with_pairs, without_outputs, entry_row, pair_rows}
 use Rattle.sqlite_trees.specs.View.{IsClean}
+use Rattle.kt_store.proofs.CursorLemmas.{cs, cs3, places_of_run, places_of_pairs}
 use Rattle.kt_store.proofs.EntriesLemmas.{sound_of, up_of}
-use Rattle.kt_store.proofs.Outlined.{still_sound, still_up, same_columns}
-use Rattle.kt_store.proofs.SeenLemmas.{still_has}
+use Rattle.kt_store.proofs.Outlined.{still_sound, still_up, same_columns, none_shown, all_shown}
+use Rattle.kt_store.proofs.SeenLemmas.{seen_entries, seen_pairs, still_has}
 use Rattle.kt_store.proofs.seeks.all_entries.Goals as goal
+
+pub returns-then-not-pairs-clause-all : goal.returns-then-not-pairs-clause-all
+returns-then-not-pairs-clause-all g c runs has clean =
+    let keeps = has (c.rows_in.ensures.looks.clean clean) (c.in_ok-rows.ensures.sound clean) in
+    let n = c.args.run in
+    let es = entries_of (run_at runs n) in
+    let pairs = c.args.pairs in
+    let rows = seen_entries n es _ (c.in_ok-rows.ensures.all clean cs (map (entry_row n) es) (λ shaped up. places_of_run runs _ keeps shaped up n)) in
+    c.in_ok-entries.ensures.entries (map (with_pairs pairs) es) (still_sound pairs es (sound_of runs n keeps.3.valid)) (still_up pairs es (up_of runs n keeps.3.valid))
+    (c.deref.ensures.value ∙ rows ∙ same_columns pairs es) (rw c.if-not-pairs.true (none_shown es))
+    ∙ map-map without_outputs (with_pairs pairs) es
 
 pub returns-clause-all : goal.returns-clause-all
 returns-clause-all g c runs has clean =
-    let early : IsClean (g.S.Store.view c.entry_rows.new.store) = c.pair_rows.ensures.looks.clean clean in
-    let valid = c.in_ok-rows.ensures.valid runs has early in
-    let es = entries_of (run_at runs c.args.run) in
+    let early : IsClean (g.S.Store.view c.rows_in.new.store) = c.rows_in-2.ensures.looks.clean clean in
+    let keeps = has (c.rows_in.ensures.looks.clean early) (c.in_ok-rows.ensures.sound early) in
+    let later = still_has g.S.Store _ _ c.rows_in.ensures.looks runs has early (c.in_ok-shown.ensures.sound clean) in
+    let n = c.args.run in
+    let es = entries_of (run_at runs n) in
     let pairs = c.args.pairs in
-    c.in_ok-entries.ensures.entries (map (with_pairs pairs) es) (still_sound pairs es (sound_of runs c.args.run valid)) (still_up pairs es (up_of runs c.args.run valid))
-    (c.deref.ensures.value ∙ c.in_ok-rows.ensures.all runs has early ∙ same_columns pairs es) (c.deref-2.ensures.value ∙ c.in_ok-shown.ensures.all runs (still_has g.S.Store _ _ c.entry_rows.ensures.looks runs has) clean)
+    let rows = seen_entries n es _ (c.in_ok-rows.ensures.all early cs (map (entry_row n) es) (λ shaped up. places_of_run runs _ keeps shaped up n)) in
+    let shown = seen_pairs n es _ (c.in_ok-shown.ensures.all clean cs3 (flat_map (pair_rows n) es) (λ shaped up. places_of_pairs runs _ later shaped up n)) in
+    c.in_ok-entries-2.ensures.entries (map (with_pairs pairs) es) (still_sound pairs es (sound_of runs n keeps.3.valid)) (still_up pairs es (up_of runs n keeps.3.valid))
+    (c.deref-2.ensures.value ∙ rows ∙ same_columns pairs es) (c.deref-3.ensures.value ∙ rw c.if-not-pairs.false (shown ∙ all_shown es))
     ∙ map-map without_outputs (with_pairs pairs) es

@@ -1,9 +1,17 @@
-use Rattle.std.proofs.Common.{◌∙◌, ap}
-use Rattle.kt_store.proofs.Common.{Trees}
-use Rattle.kt_store.proofs.SeenLemmas.{seen_heads}
+use Rattle.std.proofs.Common.{rules, ◌∙◌, map, subst, sym, ap}
+use Rattle.kt_store.proofs.Common.{AreWide, Trees}
+use Rattle.kt_store.specs.Inner.Cursors.{Looks, in_columns}
+use Rattle.kt_store.proofs.AloneLemmas.{heads_looked}
+use Rattle.kt_store.proofs.SeenLemmas.{all_wide, head_places, seen_heads}
 use Rattle.kt_store.proofs.seeks.heads.Goals as goal
 
-pub returns-clause-all : goal.returns-clause-all
-returns-clause-all g c runs has clean =
-    let keeps = has (c.rows_of.ensures.looks.clean clean) (c.in_ok-rows.ensures.sound clean) in
-    c.in_ok-heads.ensures.heads runs (c.deref.ensures.value ∙ seen_heads runs _ _ (ap (λ (t : Trees). t 2) keeps.2 ∙ keeps.3.runs_are) (c.in_ok-rows.ensures.all clean))
+pub heads_in-requires : goal.heads_in-requires
+heads_in-requires g c = subst (AreWide 4) (sym (c.deref-2.ensures.value ∙ c.in_ok-rows.ensures)) (all_wide head_places _)
+
+pub returns-clause-served : goal.returns-clause-served
+returns-clause-served g c =
+    let looks : Looks g.S.Store c.args.store.now c.all_rows.new.store = search rules in
+    heads_looked g.S.Store _ _ looks _ (λ runs has clean.
+    let keeps = has (looks.clean clean) (c.in_ok-stored.ensures.sound clean) in
+    let shown = c.in_ok-rows.ensures ∙ ap (map (in_columns head_places)) (c.deref.ensures.value ∙ c.in_ok-stored.ensures.ok clean) in
+    c.in_ok-heads.ensures.heads runs (c.deref-2.ensures.value ∙ seen_heads runs _ _ (ap (λ (t : Trees). t 2) keeps.2 ∙ keeps.3.runs_are) shown))

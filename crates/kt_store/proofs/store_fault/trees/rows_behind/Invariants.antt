@@ -13,6 +13,6 @@ invariant-places g l =
     let old = g.S.Store.view l.fn.store in
     let now = g.S.Store.view l.store in
     IsSome (now.cursors 0) × (IsClean now → OnlyReads old now) × Looks g.S.Store l.fn.store l.store
-    × (IsClean now → (cs : List ℕ) (mine : List Row) (p : Places cs l.key mine (old.trees l.table) (old.trees l.index)) → Halfway l.columns cs l.key mine (old.trees l.table) (old.trees l.index) p (left_of now 0) l.rows.items)
+    × (IsClean now → (cs : List ℕ) (mine : List Row) (p : Places cs l.key mine (old.trees l.table.tree) (old.trees l.table.index)) → Halfway l.columns cs l.key mine (old.trees l.table.tree) (old.trees l.table.index) p (left_of now 0) l.rows.items)
     × AreWide (length l.columns) l.rows.items × (IsClean now → old.is_broken ≡ false)
-    × (now.shape l.table ≡ Table)
+    × (now.shape l.table.tree ≡ Table)

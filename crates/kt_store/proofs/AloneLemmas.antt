@@ -1,6 +1,6 @@
 -- How a store that is only read serves the calls of a store of runs.
-use Rattle.std.proofs.Common.{Result, Ok, Err, Bool, ◌≡◌, inl, inr, ℕ, List, [], ◌∷◌, ◌++◌, IsErrAnd, subst, sym, ap, ◌∙◌}
-use Rattle.kt_store.proofs.Common.{Trees, Ghosts, Entry, Run, IsStoreFault, AreNumbered, AreOrdered, KeepsOne, new_run, with_entry, finish, Serves, Agrees, StoreCall, Began, Put, Finished, Heads, Outline, Outputs, StoreFault}
+use Rattle.std.proofs.Common.{Result, Err, Bool, inl, inr, ℕ, List, [], ◌∷◌, ◌++◌, sym, ap, ◌∙◌}
+use Rattle.kt_store.proofs.Common.{Ghosts, Entry, Run, IsStoreFault, new_run, with_entry, finish, Serves, Agrees, Began, Put, Finished, Heads, Outline, Outputs, StoreFault}
 use Rattle.sqlite_trees.specs.View.{View, IsClean, KeepsSchema}
 use Rattle.kt_store.specs.declared.result_store.CaseOutputs.{CaseOutputs}
 use Rattle.kt_store.specs.declared.result_store.RunHead.{RunHead}
@@ -10,15 +10,6 @@ use Rattle.kt_store.specs.Seeks.{HasRuns}
 use Rattle.kt_store.proofs.SeenLemmas.{still_has}
 
 module _ {S : Type 0} (g : Ghosts S) where
-  -- a call hands on the refusal of a part of it, and is seen as its store
-  pub refused_at : {T : Type 0} (call : Result T StoreFault → StoreCall) (inside now new : S) → inside ≡ now → (r : Result T StoreFault) (e : StoreFault) → IsErrAnd r (λ x. x ≡ e)
-      → Serves (readings g) (call (Err e)) inside new → Serves (readings g) (call r) now new
-  refused_at call inside now new is (Ok x) e h s = absurd h
-  refused_at call inside now new is (Err fault) e h s = subst (λ o. Serves (readings g) (call (Err fault)) o new) is (subst (λ f. Serves (readings g) (call (Err f)) inside new) (sym h) s)
-
-  pub read_at : (call : StoreCall) (inside now new : S) → inside ≡ now → Serves (readings g) call inside new → Serves (readings g) call now new
-  read_at call inside now new is s = subst (λ o. Serves (readings g) call o new) is s
-
   schema_then : (u v w : View) → KeepsSchema u v → KeepsSchema v w → KeepsSchema u w
   schema_then u v w first second = record {
     shape = second.shape ∙ first.shape;
