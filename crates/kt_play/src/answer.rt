@@ -1,8 +1,9 @@
-use kt_base::{NoMemory, Text};
+use kt_base::{NoMemory, Text, Variable};
 use std::alloc::Global;
-use std::fmt::Debug;
+use std::fmt::{Debug, Display};
 
-/// A text that is written piece by piece. After a refusal of memory nothing more is taken, and there is no text.
+/// A text that is written piece by piece, also by `write!`. After a refusal of memory nothing more is taken, and there is no
+/// text.
 #[derive(Drop)]
 pub struct Answer {
     pub alloc: Global,
@@ -21,19 +22,14 @@ impl Answer {
 
     /// Appends a text.
     pub fn push(&mut self, text: &str) {
-        if self.refusal.is_some() {
-            return;
-        }
-        if let Err(refusal) = self.text.push_str(text) {
-            self.refusal = Some(NoMemory::from(refusal));
+        if self.refusal.is_none() {
+            self.refusal = self.text.push_str(text).err().map(NoMemory::from);
         }
     }
 
-    /// Appends texts.
-    pub fn push_all(&mut self, parts: &[&str]) {
-        for part in parts {
-            self.push(*part);
-        }
+    /// Appends what `write!` prints.
+    pub fn write_fmt<D: Display + Drop>(&mut self, text: D) {
+        self.made(text.to_string(self.alloc));
     }
 
     /// Appends what stands between two pieces, unless there is none before.
@@ -50,7 +46,7 @@ impl Answer {
     }
 
     /// Appends a text for which the allocator was asked.
-    pub fn made<E: Drop>(&mut self, text: Result<String, E>)
+    fn made<E: Drop>(&mut self, text: Result<String, E>)
     where
         NoMemory: From<E>,
     {
@@ -58,6 +54,12 @@ impl Answer {
             Ok(text) => self.push(text.as_str()),
             Err(refusal) => self.fail(NoMemory::from(refusal)),
         }
+    }
+
+    /// Appends a pair behind another text: its name, a sign and its value.
+    pub fn pair(&mut self, before: &str, pair: &Variable, sign: &str) {
+        let (name, value) = (pair.name.as_str(), pair.value.as_str());
+        write!(self, "{before}{name}{sign}{value}");
     }
 
     /// Appends a text of the crates.
@@ -70,27 +72,17 @@ impl Answer {
         self.made(String::from_utf8_lossy(self.alloc, bytes));
     }
 
-    /// Appends a number.
-    pub fn number(&mut self, number: u64) {
-        self.made(number.to_string(self.alloc));
-    }
-
     /// Appends the name of a value's variant, without what it holds.
     pub fn name<T: Debug>(&mut self, value: &T) {
         match format!(in self.alloc; "{value:?}") {
-            Ok(text) => {
-                let text = text.as_str();
-                self.push(text.split_once('(').unwrap_or((text, "")).0);
-            }
+            Ok(text) => self.push(text.as_str().split('(').next().unwrap_or("")),
             Err(refusal) => self.fail(NoMemory::from(refusal)),
         }
     }
 
     /// Keeps a refusal of memory, unless there was one.
     pub fn fail(&mut self, refusal: NoMemory) {
-        if self.refusal.is_none() {
-            self.refusal = Some(refusal);
-        }
+        self.refusal = self.refusal.or(Some(refusal));
     }
 
     /// The text so far.

@@ -25,20 +25,14 @@ fn block_at(lines: &[&str], at: usize) -> (usize, usize) {
 
 /// Appends a block, and how often it stands there.
 fn push_block(out: &mut Answer, block: &[&str], times: usize) {
-    let (open, close) = if block.len() > 1 {
-        ("(", ")")
-    } else {
-        ("", "")
-    };
-    let mut separator = open;
+    let mut separator = if block.len() > 1 { "(" } else { "" };
     for line in block {
-        out.push_all(&[separator, *line]);
+        write!(out, "{separator}{line}");
         separator = ", ";
     }
-    out.push(close);
+    out.push(if block.len() > 1 { ")" } else { "" });
     if times > 1 {
-        out.push(" x");
-        out.number(times as u64);
+        write!(out, " x{times}");
     }
 }
 

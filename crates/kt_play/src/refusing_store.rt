@@ -7,9 +7,7 @@ use std::alloc::Global;
 /// What a statement that failed leaves: the tables of a store are looked for where another table
 /// stands. Nothing if memory ran out.
 pub fn failed_statement(alloc: Global) -> Option<FailedStatement> {
-    let Ok(mut conn) = Connection::open_in_memory(alloc) else {
-        return None;
-    };
+    let mut conn = Connection::open_in_memory(alloc).ok()?;
     let _ = conn.execute("CREATE TABLE other (id INTEGER)", &[]);
     match Results::attach(alloc, conn) {
         Err((StoreFault::Store(failed), _conn)) => Some(failed),
@@ -21,37 +19,20 @@ pub fn failed_statement(alloc: Global) -> Option<FailedStatement> {
 /// Runs in memory, some of whose calls are refused.
 #[derive(Drop)]
 pub struct RefusingStore {
-    runs: MemRuns,
+    pub runs: MemRuns,
     /// How many calls there were.
-    calls: u64,
+    pub calls: u64,
     /// The calls from the first number on, counted from 1, up to the second one are refused.
-    refused: (u64, u64),
+    pub refused: (u64, u64),
     /// Why they are refused, if memory doesn't run out.
-    failed: FailedStatement,
+    pub failed: FailedStatement,
     /// Why memory ran out, if they are refused for that.
-    shortage: Option<NoMemory>,
+    pub shortage: Option<NoMemory>,
 }
 
 impl RefusingStore {
     ghost use Rattle.std.specs.Prelude.{◌≡◌, IfErr};
     ghost use Rattle.kt_store.specs.Ask.{IsStoreFault};
-
-    /// No runs. The calls from the first number to the last are refused, counted from 1, for a lack
-    /// of memory or, without one, because a statement failed.
-    pub fn new(
-        alloc: Global,
-        refused: (u64, u64),
-        failed: FailedStatement,
-        shortage: Option<NoMemory>,
-    ) -> RefusingStore {
-        RefusingStore {
-            runs: MemRuns::new(alloc),
-            calls: 0,
-            refused,
-            failed,
-            shortage,
-        }
-    }
 
     /// Lets the next call go on, or refuses it.
     fn ask(&mut self) -> Result<(), StoreFault>

@@ -29,6 +29,7 @@ pub struct Holding {
 /// What a scripted system does, and what a scripted machine has.
 #[derive(Drop)]
 pub struct Scene {
+    pub alloc: Global,
     /// The lives of the children in the order of their starts. Further children live as the last one.
     pub lives: Vec<Life>,
     /// The files that can be read.
@@ -46,22 +47,16 @@ pub struct Scene {
     pub step: u64,
     /// The moments that the machine answers; the last one stays.
     pub clock: Vec<u64>,
-    /// The programs of the tree that are there.
-    pub programs: Vec<String>,
-    /// Files that can't be read.
-    pub locked: Vec<String>,
-    /// Files that can't be read for want of memory.
-    pub dear: Vec<String>,
-    /// The required files that are there.
-    pub found_files: Vec<String>,
-    /// The required programs that are there.
-    pub found_programs: Vec<String>,
+    /// Paths behind a word that says what there is: a `program` of the tree, a `locked` file that can't be read, a `dear` one
+    /// that can't be read for want of memory, a required `found-file` or `found-program`.
+    pub paths: Vec<(String, String)>,
 }
 
 impl Scene {
     /// A machine that has nothing, and a system whose children exit with 0 and whose moments are 1, 2 and so on.
     pub fn new(alloc: Global) -> Scene {
         Scene {
+            alloc,
             lives: Vec::new(alloc),
             files: Vec::new(alloc),
             others: None,
@@ -71,11 +66,7 @@ impl Scene {
             moments: Vec::new(alloc),
             step: 1,
             clock: Vec::new(alloc),
-            programs: Vec::new(alloc),
-            locked: Vec::new(alloc),
-            dear: Vec::new(alloc),
-            found_files: Vec::new(alloc),
-            found_programs: Vec::new(alloc),
+            paths: Vec::new(alloc),
         }
     }
 
@@ -88,6 +79,12 @@ impl Scene {
         }
         self.others.as_deref()
     }
+
+    /// Whether a path is one of those behind a word.
+    pub fn has(&self, word: &str, path: &str) -> bool {
+        let mut paths = self.paths.as_slice().iter();
+        paths.any(|(known, pattern)| known.as_str() == word && is_path_of(pattern.as_str(), path))
+    }
 }
 
 /// Whether a path is the one of a file.
@@ -95,23 +92,9 @@ fn is_path_of(pattern: &str, path: &str) -> bool {
     let Some((front, back)) = pattern.split_once('*') else {
         return pattern == path;
     };
-    match path
-        .strip_prefix(front)
-        .and_then(|rest| rest.strip_suffix(back))
-    {
-        Some(name) => name.split_once('/').is_none(),
-        None => false,
-    }
-}
-
-/// Whether a path is one of these.
-pub fn is_among(patterns: &[String], path: &str) -> bool {
-    for pattern in patterns {
-        if is_path_of(pattern.as_str(), path) {
-            return true;
-        }
-    }
-    false
+    let rest = path.strip_prefix(front);
+    let name = rest.and_then(|rest| rest.strip_suffix(back));
+    name.is_some_and(|name| !name.contains('/'))
 }
 
 /// Asks for more memory than any machine has, so that the allocator refuses it.

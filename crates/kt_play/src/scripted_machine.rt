@@ -1,7 +1,6 @@
 ghost use Rattle.std.specs.Prelude.{◌≤◌, IfOk, length};
 ghost use Rattle.kt_cli.specs.Machines.{read_limit};
 
-use crate::scene::is_among;
 use crate::{Scene, ask_too_much};
 use kt_base::{Bytes, LATEST_MOMENT};
 use kt_cli::Machine;
@@ -14,7 +13,6 @@ const READ_LIMIT: usize = 1_048_577;
 /// A machine of files in memory, with a clock of its own.
 #[derive(Drop)]
 pub struct ScriptedMachine<'a> {
-    alloc: Global,
     scene: &'a Scene,
     /// How many moments were answered.
     told: usize,
@@ -32,12 +30,8 @@ fn front_of(alloc: Global, bytes: &[u8]) -> Result<Bytes, ReadFault>
 }
 
 impl<'a> ScriptedMachine<'a> {
-    pub fn new(alloc: Global, scene: &'a Scene) -> ScriptedMachine<'a> {
-        ScriptedMachine {
-            alloc,
-            scene,
-            told: 0,
-        }
+    pub fn new(scene: &'a Scene) -> ScriptedMachine<'a> {
+        ScriptedMachine { scene, told: 0 }
     }
 }
 
@@ -46,32 +40,30 @@ impl Machine for ScriptedMachine<'_> {
     ghost answers = { λ _ _ _. Unit {0} };
 
     fn front(&mut self, path: &str) -> Result<Bytes, ReadFault> {
-        let scene = self.scene;
-        if is_among(scene.dear.as_slice(), path) {
-            if let Err(refusal) = ask_too_much(self.alloc) {
+        if self.scene.has("dear", path) {
+            if let Err(refusal) = ask_too_much(self.scene.alloc) {
                 return Err(ReadFault::Memory(refusal));
             }
+        }
+        if self.scene.has("locked", path) {
             return Err(ReadFault::Failed);
         }
-        if is_among(scene.locked.as_slice(), path) {
-            return Err(ReadFault::Failed);
-        }
-        match scene.bytes_at(path) {
+        match self.scene.bytes_at(path) {
             None => Err(ReadFault::Missing),
-            Some(bytes) => front_of(self.alloc, bytes),
+            Some(bytes) => front_of(self.scene.alloc, bytes),
         }
     }
 
     fn is_file(&mut self, path: &str) -> bool {
-        is_among(self.scene.programs.as_slice(), path)
+        self.scene.has("program", path)
     }
 
     fn is_there(&mut self, path: &str) -> bool {
-        is_among(self.scene.found_files.as_slice(), path)
+        self.scene.has("found-file", path)
     }
 
     fn is_program(&mut self, path: &str) -> bool {
-        is_among(self.scene.found_programs.as_slice(), path)
+        self.scene.has("found-program", path)
     }
 
     fn moment(&mut self) -> u64 {

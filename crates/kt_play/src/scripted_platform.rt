@@ -8,7 +8,6 @@ use std::alloc::Global;
 /// A platform with one file of results, whatever its name, that keeps a line of its calls.
 #[derive(Drop)]
 pub struct ScriptedPlatform<R: ResultStore + Drop> {
-    alloc: Global,
     /// The results while they are closed.
     pub results: Option<R>,
     /// Why results aren't opened.
@@ -25,19 +24,10 @@ pub struct ScriptedPlatform<R: ResultStore + Drop> {
     pub calls: Answer,
 }
 
-/// A variable, once more.
-fn copied(variable: &Option<Text>) -> Result<Option<Text>, NoMemory> {
-    match variable {
-        Some(value) => Ok(Some(value.copy()?)),
-        None => Ok(None),
-    }
-}
-
 impl<R: ResultStore + Drop> ScriptedPlatform<R> {
     /// A platform with these results in its file; none of its calls fails.
     pub fn new(alloc: Global, results: R) -> ScriptedPlatform<R> {
         ScriptedPlatform {
-            alloc,
             results: Some(results),
             not_opened: None,
             not_closed: None,
@@ -52,7 +42,7 @@ impl<R: ResultStore + Drop> ScriptedPlatform<R> {
     fn note(&mut self, word: &str, file: &str) -> Result<(), NoMemory> {
         let was_refused = self.calls.so_far().is_err();
         self.calls.separate(", ");
-        self.calls.push_all(&[word, file]);
+        write!(self.calls, "{word}{file}");
         if !was_refused {
             self.calls.so_far()?;
         }
@@ -61,9 +51,9 @@ impl<R: ResultStore + Drop> ScriptedPlatform<R> {
 
     /// What is found around the process: a directory, and nothing in the environment but two variables.
     fn around(&self) -> Result<Surroundings, NoMemory> {
-        let here = Text::from_str(self.alloc, "/here")?;
-        let path = copied(&self.path)?;
-        let user = copied(&self.user)?;
+        let here = Text::from_str(self.calls.alloc, "/here")?;
+        let path = self.path.as_ref().map(Text::copy).transpose()?;
+        let user = self.user.as_ref().map(Text::copy).transpose()?;
         Ok(Surroundings { here, path, user })
     }
 }
@@ -85,16 +75,12 @@ impl<R: ResultStore + Drop> Platform for ScriptedPlatform<R> {
     fn close(&mut self, results: R) -> Result<(), StoreFault> {
         self.results = Some(results);
         self.note("close", "")?;
-        match self.not_closed {
-            Some(fault) => Err(fault),
-            None => Ok(()),
-        }
+        self.not_closed.map_or(Ok(()), Err)
     }
 
     fn surroundings(&mut self) -> Result<Surroundings, DriverFault> {
-        if let Err(refusal) = self.note("surroundings", "") {
-            return Err(DriverFault::NoMemory(refusal));
-        }
+        self.note("surroundings", "")
+            .map_err(DriverFault::NoMemory)?;
         match self.not_found {
             Some(fault) => Err(fault),
             None => self.around().map_err(DriverFault::NoMemory),

@@ -3,7 +3,6 @@ ghost use Rattle.kt_child.specs.Ending.Reads.{IsReadWithin};
 use crate::{Answer, Life, PartFault, Scene};
 use kt_base::{Bytes, Items, NoMemory, Role, Text};
 use kt_child::{Child, EnvPlan, FileRead, Os, OsFault, Polled};
-use std::alloc::Global;
 
 /// A system that does what a scene says. It keeps a line for each call, which ends in `failed` for
 /// a failed one. A call is done even if there is no memory for its line; then there is no log.
@@ -24,13 +23,9 @@ pub struct ScriptedSystem<'a> {
 
 /// The life of the child that was started as this one.
 fn life_of(lives: &[Life], number: usize) -> Life {
-    match lives.get(number).or(lives.last()) {
-        Some(life) => *life,
-        None => Life {
-            running: 0,
-            ending: Polled::Exited(0),
-        },
-    }
+    let ending = Polled::Exited(0);
+    let life = lives.get(number).or(lives.last());
+    life.copied().unwrap_or(Life { running: 0, ending })
 }
 
 /// How a child stands.
@@ -48,61 +43,47 @@ fn status_of(lives: &[Life], children: &mut [(Child, u32)], child: Child) -> Pol
     Polled::Exited(99)
 }
 
-/// What a file holds from a byte on, of as many bytes as the limit says.
-fn read(
-    alloc: Global,
-    scene: &Scene,
-    path: &Text,
-    from: u64,
-    limit: u64,
-) -> Result<FileRead, OsFault>
+/// What a file holds from a byte on, of as many bytes as the limit says; behind the first part perhaps what a system that
+/// breaks its promise gives in its place.
+fn read(scene: &Scene, path: &Text, from: u64, limit: u64) -> Result<FileRead, OsFault>
     ensures { IsReadWithin limit result }
 {
+    match scene.part_fault {
+        PartFault::EmptyPart if from > 0 => return Ok(FileRead::Part(
+            Bytes::new(scene.alloc),
+            true,
+        )),
+        PartFault::Gone if from > 0 => return Ok(FileRead::Missing),
+        _ => {}
+    }
     let Some(bytes) = scene.bytes_at(path.as_str()) else {
         return Ok(FileRead::Missing);
     };
     let rest = bytes.get(from as usize..).unwrap_or(&[]);
     let count = rest.len().min(limit as usize);
-    match Bytes::from_slice(alloc, &rest[..count]) {
+    match Bytes::from_slice(scene.alloc, &rest[..count]) {
         Ok(part) => Ok(FileRead::Part(part, count < rest.len())),
         Err(refusal) => Err(OsFault::Memory(refusal)),
-    }
-}
-
-/// A part of a file, or behind the first one what a system that breaks its promise gives in its place.
-fn read_with_fault(
-    alloc: Global,
-    scene: &Scene,
-    path: &Text,
-    from: u64,
-    limit: u64,
-) -> Result<FileRead, OsFault>
-    ensures { IsReadWithin limit result }
-{
-    match scene.part_fault {
-        PartFault::EmptyPart if from > 0 => Ok(FileRead::Part(Bytes::new(alloc), true)),
-        PartFault::Gone if from > 0 => Ok(FileRead::Missing),
-        _ => read(alloc, scene, path, from, limit),
     }
 }
 
 /// Appends texts with a space before each.
 fn push_texts(line: &mut Answer, texts: &[Text]) {
     for text in texts {
-        line.push_all(&[" ", text.as_str()]);
+        write!(line, " {}", text.as_str());
     }
 }
 
 impl<'a> ScriptedSystem<'a> {
-    pub fn new(alloc: Global, scene: &'a Scene) -> ScriptedSystem<'a> {
+    pub fn new(scene: &'a Scene) -> ScriptedSystem<'a> {
         ScriptedSystem {
             scene,
             calls: 0,
-            children: Vec::new(alloc),
+            children: Vec::new(scene.alloc),
             told: 0,
             moment: 0,
-            log: Answer::new(alloc),
-            spawned: Answer::new(alloc),
+            log: Answer::new(scene.alloc),
+            spawned: Answer::new(scene.alloc),
         }
     }
 
@@ -124,18 +105,17 @@ impl<'a> ScriptedSystem<'a> {
 
     /// Writes the line of the next call, and returns whether it is done.
     fn ask(&mut self, word: &str, path: &Text) -> Result<(), OsFault> {
-        self.log.push_all(&[word, " ", path.as_str()]);
+        write!(self.log, "{word} {}", path.as_str());
         self.end_call()
     }
 
     /// Writes a word and a child: its number, and whether it is a cleanup.
     fn push_child(&mut self, word: &str, child: Child) {
-        self.log.push(word);
-        self.log.push(match child.role {
-            Role::Body => " ",
-            Role::Cleanup => " cleanup ",
-        });
-        self.log.number(child.attempt);
+        let role = match child.role {
+            Role::Body => "",
+            Role::Cleanup => "cleanup ",
+        };
+        write!(self.log, "{word} {role}{}", child.attempt);
     }
 
     fn ask_child(&mut self, word: &str, child: Child) -> Result<(), OsFault> {
@@ -160,9 +140,7 @@ impl Os for ScriptedSystem<'_> {
 
     fn set_limit(&mut self, child: Child, limit: u64) {
         self.push_child("limit", child);
-        self.log.push(" ");
-        self.log.number(limit);
-        self.log.push("\n");
+        write!(self.log, " {limit}\n");
     }
 
     fn make_dir(&mut self, path: &Text) -> Result<(), OsFault> {
@@ -189,9 +167,9 @@ impl Os for ScriptedSystem<'_> {
         let line = &mut self.spawned;
         line.push(program.as_str());
         push_texts(line, words.as_slice());
-        line.push_all(&[", in ", dir.as_str(), ", with"]);
+        write!(line, ", in {}, with", dir.as_str());
         for variable in env.set.as_slice() {
-            line.push_all(&[" ", variable.name.as_str(), "=", variable.value.as_str()]);
+            line.pair(" ", variable, "=");
         }
         line.push(", without");
         push_texts(line, env.removed.as_slice());
@@ -219,12 +197,12 @@ impl Os for ScriptedSystem<'_> {
 
     fn read_file(&mut self, path: &Text, limit: u64) -> Result<FileRead, OsFault> {
         self.ask("read", path)?;
-        read(self.log.alloc, self.scene, path, 0, limit)
+        read(self.scene, path, 0, limit)
     }
 
     fn read_part(&mut self, path: &Text, from: u64, limit: u64) -> Result<FileRead, OsFault> {
         self.ask("part", path)?;
-        read_with_fault(self.log.alloc, self.scene, path, from, limit)
+        read(self.scene, path, from, limit)
     }
 
     fn now(&mut self) -> Result<u64, OsFault> {

@@ -30,14 +30,14 @@ pub struct ScriptedWriter {
 }
 
 impl ScriptedWriter {
-    /// A writer that takes all before its first write that fails, counted from 1; 0 for none.
-    pub fn new(alloc: Global, failing: u64) -> ScriptedWriter {
+    /// A writer that takes all.
+    pub fn new(alloc: Global) -> ScriptedWriter {
         ScriptedWriter {
             kept: Vec::new(alloc),
             refusal: None,
             at_most: usize::MAX,
             writes: 0,
-            failing,
+            failing: 0,
             fault: WriteFault::Broken,
             flush_fails: false,
         }

@@ -3,10 +3,10 @@
 use crate::escapes::unescaped;
 use crate::numbers::append_numbered;
 use crate::properties::{push_props, set_known};
-use crate::row::{Result, Row, RowFault, append, asked, due, halves};
+use crate::row::{Result, Row, RowFault, append, asked, due};
 use crate::verdicts::{ending_of, push_reason, refused_of};
 use kt_atflist::{CaseDef, ListBytes, Listing, cases, parse_list};
-use kt_base::{Bytes, Interface, Items, Verdict};
+use kt_base::{Bytes, Interface, Items, Outcome, Verdict};
 use kt_metadata::Props;
 use kt_play::Answer;
 use std::alloc::Global;
@@ -21,38 +21,31 @@ fn after_header(alloc: Global, blocks: &str) -> Result<Vec<u8>> {
     Ok(text)
 }
 
-/// What a program wrote, cut off from how it ended.
-fn ended_of<'a>(alloc: Global, text: &'a str) -> Result<(&'a str, ListBytes)> {
-    if let Some(ending) = text.strip_suffix(" unreadable") {
-        return Ok((ending, ListBytes::Unreadable));
-    }
-    if let Some(ending) = text.strip_suffix(" too-long") {
-        return Ok((ending, ListBytes::TooLong));
-    }
-    if let Some((ending, blocks)) = text.split_once(" blocks ") {
-        let list = after_header(alloc, blocks)?;
-        return Ok((ending, ListBytes::Read(Bytes::from_vec(list))));
-    }
-    let (ending, list) = halves(text, " list ", "an ending stands before a list")?;
-    let list = unescaped(alloc, list)?;
-    Ok((ending, ListBytes::Read(Bytes::from_vec(list))))
-}
-
 /// What comes of asking for a list: `refused WHY`, or `ENDING` and `blocks TEXT`, `list TEXT`, `unreadable` or `too-long`.
 fn listing_of(alloc: Global, text: &str) -> Result<Listing> {
     if let Some(cause) = text.strip_prefix("refused ") {
         return Ok(Listing::Refused(refused_of(cause)?));
     }
-    let (ending, bytes) = ended_of(alloc, text)?;
-    Ok(Listing::Ended(ending_of(ending)?, bytes))
+    if let Some(ending) = text.strip_suffix(" unreadable") {
+        return Ok(Listing::Ended(ending_of(ending)?, ListBytes::Unreadable));
+    }
+    if let Some(ending) = text.strip_suffix(" too-long") {
+        return Ok(Listing::Ended(ending_of(ending)?, ListBytes::TooLong));
+    }
+    let blocks = text.split_once(" blocks ");
+    let (ending, list) = match blocks.or(text.split_once(" list ")) {
+        Some((ending, list)) if blocks.is_none() => (ending, unescaped(alloc, list)?),
+        Some((ending, list)) => (ending, after_header(alloc, list)?),
+        None => return Err(RowFault::Misspelled("an ending stands before a list")),
+    };
+    Ok(Listing::Ended(ending_of(ending)?, ListBytes::Read(Bytes::from_vec(list))))
 }
 
 /// Appends cases in the form of a row, each with the properties that differ from the defaults and its fault; or their
 /// number if the row says `count`.
 fn push_cases(out: &mut Answer, row: &Row<'_>, found: Items<CaseDef>) -> Result<()> {
     if row.text("count").is_some() {
-        out.number(found.len() as u64);
-        out.push(" cases");
+        write!(out, "{} cases", found.len());
         return Ok(());
     }
     for case in found.into_vec() {
@@ -78,39 +71,25 @@ fn list_text(alloc: Global, row: &Row<'_>) -> Result<Vec<u8>> {
     Ok(text)
 }
 
-fn props_of(alloc: Global, row: &Row<'_>) -> Result<Props> {
+/// The cases of a program: `program INTERFACE`, `set NAME=VALUE` for its properties, and what came of its listing, which is
+/// unreadable if no line says it.
+fn program_cases(alloc: Global, row: &Row<'_>, word: &str) -> Result<Items<CaseDef>> {
     let mut props = Props::new(alloc);
-    for entry in row.entries.as_slice() {
-        if entry.word == "set" {
-            set_known(alloc, &mut props, entry.text)?;
+    let mut listing = Listing::Ended(Outcome::Exited(0), ListBytes::Unreadable);
+    for line in row.entries.as_slice() {
+        match line.word {
+            "set" => set_known(alloc, &mut props, line.text)?,
+            "lists" => listing = listing_of(alloc, line.text)?,
+            _ => {}
         }
     }
-    Ok(props)
-}
-
-/// The cases of a program of this interface; one of ATF has a listing.
-fn cases_by(
-    alloc: Global,
-    word: &str,
-    props: &Props,
-    listing: &Option<Listing>,
-) -> Result<Items<CaseDef>> {
-    match word {
-        "tap" => asked(cases(alloc, Interface::Tap, props, listing)),
-        "plain" => asked(cases(alloc, Interface::Plain, props, listing)),
-        _ if listing.is_some() => asked(cases(alloc, Interface::Atf, props, listing)),
-        _ => Err(RowFault::Misspelled("no listing")),
-    }
-}
-
-/// The cases of a program: `program INTERFACE`, `set NAME=VALUE` for its properties, and what came of its listing.
-fn program_cases(alloc: Global, row: &Row<'_>, word: &str) -> Result<Items<CaseDef>> {
-    let props = props_of(alloc, row)?;
-    let listing = match row.text("lists") {
-        Some(text) => Some(listing_of(alloc, text)?),
-        None => None,
+    let interface = match word {
+        "atf" => Interface::Atf,
+        "tap" => Interface::Tap,
+        "plain" => Interface::Plain,
+        _ => return Err(RowFault::Misspelled("no such interface")),
     };
-    cases_by(alloc, word, &props, &listing)
+    asked(cases(alloc, interface, &props, &Some(listing)))
 }
 
 /// The cases that the text of a list gives or its fault, or the cases of a program.
@@ -119,10 +98,8 @@ pub fn answer(out: &mut Answer, row: &Row<'_>) -> Result<()> {
         return push_cases(out, row, program_cases(out.alloc, row, word)?);
     }
     match parse_list(out.alloc, &list_text(out.alloc, row)?) {
-        Ok(found) => push_cases(out, row, found),
-        Err(fault) => {
-            out.made(fault.to_string(out.alloc));
-            Ok(())
-        }
+        Ok(found) => return push_cases(out, row, found),
+        Err(fault) => write!(out, "{fault}"),
     }
+    Ok(())
 }

@@ -7,12 +7,12 @@ use crate::numbers::number;
 use crate::played::Played;
 use crate::printing::push_pieces;
 use crate::row::{Result, Row, RowFault, halves};
-use crate::scenes::{failure, scene_of, shortage, store_of};
+use crate::scenes::{failure, scene_of, shortage};
 use crate::store_calls::{push_call, push_runs};
 use crate::systems::push_calls;
 use kt_base::Text;
 use kt_child::DriverFault;
-use kt_cli::source_of;
+use kt_cli::{MemRuns, source_of};
 use kt_play::{Answer, RefusingStore, Scene, ScriptedPlatform};
 use kt_store::StoreFault;
 use std::alloc::Global;
@@ -20,30 +20,40 @@ use std::alloc::Global;
 /// The most writes that fail in turn.
 const LIMIT: u64 = 10_000;
 
-/// Why a store refuses, if it does.
-fn store_fault(alloc: Global, fault: Option<&str>) -> Result<Option<StoreFault>> {
+/// Why a store refuses.
+fn store_fault(alloc: Global, fault: &str) -> Result<StoreFault> {
     match fault {
-        None => Ok(None),
-        Some("no-memory") => Ok(Some(StoreFault::from(shortage(alloc)?))),
-        Some("failed") => Ok(Some(StoreFault::Store(failure(alloc)?))),
-        Some("unknown-schema") => Ok(Some(StoreFault::UnknownSchema)),
-        Some(_) => Err(RowFault::Misspelled("there is no such fault of a store")),
+        "no-memory" => Ok(StoreFault::from(shortage(alloc)?)),
+        "failed" => Ok(StoreFault::Store(failure(alloc)?)),
+        "unknown-schema" => Ok(StoreFault::UnknownSchema),
+        _ => Err(RowFault::Misspelled("there is no such fault of a store")),
     }
 }
 
-/// Why there is no driver, if there is none.
-fn driver_fault(alloc: Global, fault: Option<&str>) -> Result<Option<DriverFault>> {
+/// Why there is no driver.
+fn driver_fault(alloc: Global, fault: &str) -> Result<DriverFault> {
     match fault {
-        None => Ok(None),
-        Some("no-memory") => Ok(Some(DriverFault::NoMemory(shortage(alloc)?))),
-        Some("no-work-directory") => Ok(Some(DriverFault::NoWorkDirectory)),
-        Some(_) => Err(RowFault::Misspelled("there is no such fault of a driver")),
+        "no-memory" => Ok(DriverFault::NoMemory(shortage(alloc)?)),
+        "no-work-directory" => Ok(DriverFault::NoWorkDirectory),
+        _ => Err(RowFault::Misspelled("there is no such fault of a driver")),
     }
 }
 
-/// The results of a row, into which its lines `begin`, `put` and `finish` have put some.
+/// The results of a row, in memory, into which its lines `begin`, `put` and `finish` have put some: `refused CALLS`, or
+/// `refused-memory CALLS`, of `N` or `N M`, counted from 1.
 fn results_of(alloc: Global, row: &Row<'_>) -> Result<RefusingStore> {
-    let mut results = store_of(alloc, row)?;
+    let (calls, shortage) = match row.text("refused-memory") {
+        Some(calls) => (calls, Some(shortage(alloc)?)),
+        None => (row.text("refused").unwrap_or("0"), None),
+    };
+    let (first, last) = calls.split_once(' ').unwrap_or((calls, calls));
+    let mut results = RefusingStore {
+        runs: MemRuns::new(alloc),
+        calls: 0,
+        refused: (number(first)?, number(last)?),
+        failed: failure(alloc)?,
+        shortage,
+    };
     let mut unread = Answer::new(alloc);
     let lines = row.entries.as_slice();
     for (place, line) in lines.iter().enumerate() {
@@ -51,38 +61,31 @@ fn results_of(alloc: Global, row: &Row<'_>) -> Result<RefusingStore> {
             push_call(&mut unread, &mut results, line, content_at(lines, place))?;
         }
     }
-    unread.end()?;
+    unread.so_far()?;
     Ok(results)
-}
-
-/// The value of a variable of the environment, if the row sets it.
-fn variable_of(alloc: Global, raw: Option<&str>) -> Result<Option<Text>> {
-    match raw {
-        Some(raw) => lossy_of(alloc, raw).map(Some),
-        None => Ok(None),
-    }
 }
 
 /// The platform of a row: `open FAULT`, `close FAULT` and `surroundings FAULT` name its calls that fail, `path VALUE` and
 /// `user VALUE` set `PATH` and `USER`.
 fn platform_of(alloc: Global, row: &Row<'_>) -> Result<ScriptedPlatform<RefusingStore>> {
     let mut platform = ScriptedPlatform::new(alloc, results_of(alloc, row)?);
-    platform.not_opened = store_fault(alloc, row.text("open"))?;
-    platform.not_closed = store_fault(alloc, row.text("close"))?;
-    platform.not_found = driver_fault(alloc, row.text("surroundings"))?;
-    platform.path = variable_of(alloc, row.text("path"))?;
-    platform.user = variable_of(alloc, row.text("user"))?;
+    for line in row.entries.as_slice() {
+        match line.word {
+            "open" => platform.not_opened = Some(store_fault(alloc, line.text)?),
+            "close" => platform.not_closed = Some(store_fault(alloc, line.text)?),
+            "surroundings" => platform.not_found = Some(driver_fault(alloc, line.text)?),
+            "path" => platform.path = Some(lossy_of(alloc, line.text)?),
+            "user" => platform.user = Some(lossy_of(alloc, line.text)?),
+            _ => {}
+        }
+    }
     Ok(platform)
 }
 
 /// Carries out the lines of a row. Of standard output the write with this number fails and all after it, or `flush
 /// fails`; of standard error `error N`.
-fn played_by(
-    alloc: Global,
-    row: &Row<'_>,
-    scene: &Scene,
-    failing: u64,
-) -> Result<Played<RefusingStore>> {
+fn played_by(row: &Row<'_>, scene: &Scene, failing: u64) -> Result<Played<RefusingStore>> {
+    let alloc = scene.alloc;
     let mut played = Played::new(alloc, platform_of(alloc, row)?);
     played.page.at_most = row.number("takes", 4096)? as usize;
     played.page.failing = failing;
@@ -124,9 +127,8 @@ fn wrong(
     if cut_page.len() >= whole_page.len() || !whole_page.starts_with(cut_page) {
         return Ok(Some("the page is no beginning"));
     }
-    match cut.exits.last() {
-        Some(status) if *status == 2 => {}
-        _ => return Ok(Some("the exit is another one")),
+    if cut.exits.last().copied() != Some(2) {
+        return Ok(Some("the exit is another one"));
     }
     let (mut due, mut told) = (Answer::new(alloc), Answer::new(alloc));
     push_closed(&mut due, whole);
@@ -139,16 +141,16 @@ fn wrong(
 
 /// Makes each write fail in turn, until there is no such write or something is wrong, and appends what was written then.
 fn push_each_failing(out: &mut Answer, row: &Row<'_>, scene: &Scene) -> Result<()> {
-    let mut whole = played_by(out.alloc, row, scene, 0)?;
+    let mut whole = played_by(row, scene, 0)?;
     push_played(out, row, &mut whole)?;
     for failing in 1..LIMIT {
-        let mut cut = played_by(out.alloc, row, scene, failing)?;
+        let mut cut = played_by(row, scene, failing)?;
         if cut.page.writes < failing {
             break;
         }
         if let Some(what) = wrong(out.alloc, &mut whole, &mut cut)? {
             out.separate("\n");
-            out.made(format!(in out.alloc; "at write {failing}: {what}\n"));
+            write!(out, "at write {failing}: {what}\n");
             return push_played(out, row, &mut cut);
         }
     }
@@ -163,13 +165,11 @@ fn done(out: &mut Answer, row: &Row<'_>, is_asked: bool) -> Result<()> {
     if writes == "each" {
         return push_each_failing(out, row, &scene);
     }
-    let mut played = played_by(out.alloc, row, &scene, number(writes)?)?;
-    if is_asked {
-        let calls = played.platform.calls.so_far()?;
-        if calls.is_empty() {
-            out.push("nothing");
-        }
-        out.push_all(&[calls, "\n"]);
+    let mut played = played_by(row, &scene, number(writes)?)?;
+    match played.platform.calls.so_far()? {
+        _ if !is_asked => {}
+        "" => out.push("nothing\n"),
+        calls => write!(out, "{calls}\n"),
     }
     push_played(out, row, &mut played)
 }

@@ -1,6 +1,6 @@
 //! The command `test` over a store whose disk fails at a call, and what the store then holds.
 
-use crate::disks::{empty_files, filled, fused, is_cut, left_by, open};
+use crate::disks::{filled, fused, is_cut, left_by, open};
 use crate::played::Played;
 use crate::printing::page_text;
 use crate::row::{Result, Row, RowFault, due};
@@ -9,7 +9,6 @@ use kt_play::{Answer, Scene, ScriptedPlatform};
 use kt_store::{ResultStore, Results, StoreFault};
 use sqlite::{Alter, Connection};
 use sqlite_disk::{Crash, Files, Memory};
-use std::alloc::Global;
 
 /// The most calls of the disk that fail in turn.
 const LIMIT: u64 = 400;
@@ -19,6 +18,9 @@ const LINE: &str = "kyua: E: results store failed\n";
 
 /// What ends it if memory ran out.
 const MEMORY: &str = "kyua: E: out of memory\n";
+
+/// What is wrong where the store holds something else.
+const NEITHER: &str = ", and then the runs are neither from before the call nor from after it";
 
 /// What `test` did.
 #[derive(Drop)]
@@ -37,23 +39,8 @@ struct Attempt {
     left: Vec<String>,
 }
 
-/// Where the store stopped a command.
-#[derive(Clone, Copy, PartialEq, Eq)]
-enum Stop {
-    /// Before it, as its tables were taken, which leaves a schema.
-    Attach(i64),
-    Begin,
-    /// In the put after this many others.
-    Put(usize),
-    Finish,
-    Nowhere,
-    /// Memory ran out.
-    Memory,
-    /// What is wrong with what was printed or is left.
-    Wrong(&'static str),
-}
-
-/// A command whose disk never failed, and what the store held before it and after it.
+/// A command whose disk never failed, and what the store held before it and after it. Its calls of the store are numbered:
+/// 1 is `begin`, then comes a `put` for each entry, and then `finish`. As call 0 its tables are taken.
 #[derive(Drop)]
 struct Whole {
     tested: Tested,
@@ -62,78 +49,65 @@ struct Whole {
 }
 
 impl Whole {
-    fn entries(&self) -> usize {
-        self.left
-            .len()
-            .saturating_sub(self.before.len().saturating_add(2))
+    /// The number of `finish`.
+    fn last(&self) -> usize {
+        self.left.len().saturating_sub(self.before.len())
     }
 
-    /// Whether the runs that are left are those from before the refused call or those from after it.
-    fn may_leave(&self, stop: Stop, left: &[String]) -> bool {
+    /// The last call that was done where this is left, if a call leaves it.
+    fn done_by(&self, left: &[String]) -> Option<usize> {
         let (before, whole) = (self.before.as_slice(), self.left.as_slice());
-        let is_cut = |entries: usize| is_cut(left, whole, before.len(), entries);
-        match stop {
-            Stop::Attach(_) => left == before,
-            Stop::Begin => left == before || is_cut(0),
-            Stop::Put(done) => is_cut(done) || is_cut(done.saturating_add(1)),
-            Stop::Finish => is_cut(self.entries()) || left == whole,
-            Stop::Nowhere => left == whole,
-            Stop::Memory => { left == before || left == whole || (0..=self.entries()).any(is_cut) }
-            Stop::Wrong(_) => true,
+        if left == before {
+            return Some(0);
         }
+        if left == whole {
+            return Some(self.last());
+        }
+        (1..self.last()).find(|done| is_cut(left, whole, before.len(), *done))
     }
 
-    /// Where the store stopped a command, by what was printed and spawned.
-    fn stop_by(&self, cut: &Tested) -> Stop {
+    /// The call that stopped a command, by what was printed and spawned: behind the last if none did; or why that can't be
+    /// told.
+    fn stop_by(&self, cut: &Tested) -> Result<usize, &'static str> {
         let (page, whole) = (cut.page.as_str(), self.tested.page.as_str());
         let memory = page.strip_suffix(MEMORY);
         let front = match memory.or(page.strip_suffix(LINE)) {
-            _ if page == whole && cut.status == self.tested.status => return Stop::Nowhere,
+            _ if page == whole && cut.status == self.tested.status => {
+                return Ok(self.last().saturating_add(1));
+            }
             Some(front) if cut.status == 2 => front,
-            Some(_) => return Stop::Wrong("the exit is another one"),
-            None => return Stop::Wrong("the line is missing"),
+            Some(_) => return Err("and then the exit is another one"),
+            None => return Err("and then the line is missing"),
         };
-        let printed = front.lines().count();
         if !whole.starts_with(front) {
-            Stop::Wrong("the page is no beginning")
+            Err("and then the page is no beginning")
         } else if memory.is_some() {
-            Stop::Memory
+            Err("out of memory")
         } else if !cut.spawned {
-            Stop::Begin
-        } else if printed < self.entries() {
-            Stop::Put(printed)
+            Ok(1)
         } else {
-            Stop::Finish
+            Ok(front.lines().count().saturating_add(2).min(self.last()))
         }
     }
 
-    /// Where the store stopped a command, or what is wrong with what is left.
-    fn judged(&self, cut: &Attempt) -> Stop {
+    /// Appends where a command was stopped, if what is left is from before that call or from after it: ` attach 1`, ` begin`,
+    /// ` put 1` or ` finish`; or behind a comma why no other disk is tried.
+    fn push_stop(&self, out: &mut Answer, cut: &Attempt) {
         let stop = match &cut.tested {
-            None => Stop::Attach(cut.schema),
+            None => Ok(0),
             Some(tested) => self.stop_by(tested),
         };
-        if self.may_leave(stop, cut.left.as_slice()) {
-            stop
-        } else {
-            Stop::Wrong("the runs are neither from before the call nor from after it")
+        match (stop, self.done_by(cut.left.as_slice())) {
+            (Err(what), Some(_)) => write!(out, ", {what}"),
+            (Ok(stop), Some(done)) if stop == done || stop == done.saturating_add(1) => match stop {
+                0 => write!(out, " attach {}", cut.schema),
+                1 => out.push(" begin"),
+                _ if stop < self.last() => write!(out, " put {}", stop.saturating_sub(1)),
+                _ if stop == self.last() => out.push(" finish"),
+                _ => out.push(", then not"),
+            },
+            _ => out.push(NEITHER),
         }
-    }
-}
-
-/// Appends where a command was stopped: `attach 1`, `begin`, `put 1` or `finish`.
-fn push_stop(out: &mut Answer, stop: Stop) {
-    match stop {
-        Stop::Attach(schema) => out.made(format!(in out.alloc; " attach {schema}")),
-        Stop::Begin => out.push(" begin"),
-        Stop::Put(done) => {
-            out.push(" put ");
-            out.number(done.saturating_add(1) as u64);
-        }
-        Stop::Finish => out.push(" finish"),
-        Stop::Nowhere => out.push(", then not"),
-        Stop::Memory => out.push(", out of memory"),
-        Stop::Wrong(what) => out.push_all(&[", and then ", what]),
     }
 }
 
@@ -152,7 +126,6 @@ fn push_tested(out: &mut Answer, word: &str, tested: Option<&Tested>, left: &[St
 /// schema 1 and a log of this many frames.
 #[derive(Clone, Copy)]
 struct Trial<'a> {
-    alloc: Global,
     row: &'a Row<'a>,
     scene: &'a Scene,
     in_log: bool,
@@ -163,11 +136,14 @@ struct Trial<'a> {
 impl Trial<'_> {
     /// Carries out the lines over a store, and returns how the last one ended, and the store.
     fn done_over<R: ResultStore + Drop>(self, results: R) -> Result<(Tested, R)> {
-        let mut played = Played::new(self.alloc, ScriptedPlatform::new(self.alloc, results));
+        let mut played = Played::new(
+            self.scene.alloc,
+            ScriptedPlatform::new(self.scene.alloc, results),
+        );
         played.play(self.row.entries.as_slice(), self.scene)?;
         let status = *due(played.exits.last(), "there is no command")?;
         let tested = Tested {
-            page: page_text(self.alloc, &played.page)?,
+            page: page_text(self.scene.alloc, &played.page)?,
             status,
             spawned: played.log.so_far()?.contains("spawn "),
         };
@@ -176,7 +152,7 @@ impl Trial<'_> {
 
     /// Carries out the lines over a database, unless its tables are not taken, and hands its store back.
     fn over<S: Alter + Drop>(self, conn: Connection<S>) -> Result<(Option<Tested>, S)> {
-        match Results::attach(self.alloc, conn) {
+        match Results::attach(self.scene.alloc, conn) {
             Ok(results) => {
                 let (tested, results) = self.done_over(results)?;
                 Ok((Some(tested), results.detach().into_store()))
@@ -189,11 +165,11 @@ impl Trial<'_> {
 
     /// Does the commands over files that fail, and looks at what a crash leaves of them; nothing if they do not open.
     fn tried<D: Crash + Drop>(self, files: Files<D>) -> Result<Option<Attempt>> {
-        let Some(conn) = open(self.alloc, files, self.frames) else {
+        let Some(conn) = open(self.scene.alloc, files, self.frames) else {
             return Ok(None);
         };
         let (tested, store) = self.over(conn)?;
-        let (schema, left) = left_by(self.alloc, store.close(), self.frames)?;
+        let (schema, left) = left_by(self.scene.alloc, store.close(), self.frames)?;
         Ok(Some(Attempt {
             tested,
             schema,
@@ -203,17 +179,17 @@ impl Trial<'_> {
 
     /// The files that the commands begin with: empty ones, or those of an older store.
     fn files(self) -> Result<Files<Memory>> {
-        let files = empty_files(self.alloc);
+        let (log, db) = (Memory::new(self.scene.alloc), Memory::new(self.scene.alloc));
         if !self.is_old {
-            return Ok(files);
+            return Ok(Files { log, db });
         }
-        let filled = filled(self.alloc, files, self.frames);
+        let filled = filled(self.scene.alloc, Files { log, db }, self.frames);
         due(filled, "the old store is not made")
     }
 
     /// The commands over a disk that fails at no call.
     fn whole(self) -> Result<Whole> {
-        let (_, before) = left_by(self.alloc, self.files()?, self.frames)?;
+        let (_, before) = left_by(self.scene.alloc, self.files()?, self.frames)?;
         let whole = due(self.tried(self.files()?)?, "there is no store")?;
         Ok(Whole {
             tested: due(whole.tested, "its tables are not taken")?,
@@ -222,56 +198,40 @@ impl Trial<'_> {
         })
     }
 
-    /// Where a disk that fails after this many calls stops the command, and what it did; nothing if the store doesn't open.
-    fn stop_at(self, whole: &Whole, calls: u64) -> Result<Option<(Stop, Attempt)>> {
-        match self.tried(fused(self.files()?, self.in_log, calls))? {
-            Some(cut) => Ok(Some((whole.judged(&cut), cut))),
-            None => Ok(None),
-        }
-    }
-
     /// Appends where the disk that fails at each call in turn stops the command, each place once, until none is refused or
     /// something is wrong: then what the command did without a failure and with it.
     fn push_stops(self, out: &mut Answer, whole: &Whole) -> Result<()> {
         out.push("stopped in");
-        let mut last = None;
+        let mut last = String::new(self.scene.alloc);
         for calls in 0..LIMIT {
-            let Some((stop, cut)) = self.stop_at(whole, calls)? else {
+            let Some(cut) = self.tried(fused(self.files()?, self.in_log, calls))? else {
                 continue;
             };
-            if last != Some(stop) {
-                last = Some(stop);
-                push_stop(out, stop);
+            let mut stop = Answer::new(self.scene.alloc);
+            whole.push_stop(&mut stop, &cut);
+            let stop = stop.end()?;
+            if stop.as_str() != last.as_str() {
+                out.push(stop.as_str());
             }
-            if matches!(stop, Stop::Wrong(_)) {
+            if stop.as_str().starts_with(", and then") {
                 push_tested(out, "whole", Some(&whole.tested), whole.left.as_slice());
                 push_tested(out, "cut", cut.tested.as_ref(), cut.left.as_slice());
             }
-            if matches!(stop, Stop::Nowhere | Stop::Memory | Stop::Wrong(_)) {
+            if stop.as_str().starts_with(',') {
                 break;
             }
+            last = stop;
         }
         Ok(())
     }
 }
 
-/// Appends what was printed over a disk that fails at no call, the last exit, and what a crash leaves of the store, a line
-/// each.
-fn push_whole(out: &mut Answer, whole: &Whole) {
-    out.push_all(&[whole.tested.page.as_str(), "exit "]);
-    out.number(u64::from(whole.tested.status));
-    for line in whole.left.as_slice() {
-        out.line(line.as_str());
-    }
-}
-
 /// Commands, the last of them `test`, over a store whose disk fails at each call in turn until none is refused: where it
 /// was stopped, each place once. `disk log` or `disk database`, `frames N`, and `old` for a store of schema 1; `disk
-/// sound` fails at no call.
+/// sound` fails at no call: what was printed, the last exit, and what a crash leaves of the store, a line each.
 pub fn answer(out: &mut Answer, row: &Row<'_>, disk: &str) -> Result<()> {
     let scene = scene_of(out.alloc, row)?;
     let trial = Trial {
-        alloc: out.alloc,
         row,
         scene: &scene,
         in_log: disk == "log",
@@ -279,9 +239,13 @@ pub fn answer(out: &mut Answer, row: &Row<'_>, disk: &str) -> Result<()> {
         frames: row.number("frames", 1000)? as usize,
     };
     let whole = trial.whole()?;
-    if disk == "sound" {
-        push_whole(out, &whole);
-        return Ok(());
+    if disk != "sound" {
+        return trial.push_stops(out, &whole);
     }
-    trial.push_stops(out, &whole)
+    let Tested { page, status, .. } = &whole.tested;
+    write!(out, "{page}exit {status}");
+    for line in whole.left.as_slice() {
+        out.line(line.as_str());
+    }
+    Ok(())
 }

@@ -9,7 +9,7 @@ use kt_base::Entry;
 use kt_play::Answer;
 use kt_store::{ResultStore, Results, RunHead, entries};
 use sqlite::{Alter, Connection, FileStore, Options};
-use sqlite_disk::{Crash, Disk, Files, Fuse, Memory};
+use sqlite_disk::{Crash, Disk, Files, Fuse};
 use std::alloc::Global;
 
 /// What an earlier version made: the tables of schema 1, and a finished run with one entry.
@@ -41,48 +41,23 @@ pub fn open<D: Disk + Drop>(
     }
 }
 
-/// Files that hold nothing.
-pub fn empty_files(alloc: Global) -> Files<Memory> {
-    Files {
-        log: Memory::new(alloc),
-        db: Memory::new(alloc),
-    }
-}
-
-/// Runs the statements of an earlier version, and hands the store back.
-fn fill<S: Alter + Drop>(mut conn: Connection<S>) -> Option<S> {
+/// Empty files, filled with a store of schema 1.
+pub fn filled<D: Disk + Drop>(alloc: Global, files: Files<D>, frames: usize) -> Option<Files<D>> {
+    let mut conn = open(alloc, files, frames)?;
     for sql in &SCHEMA_1 {
         if conn.execute(*sql, &[]).is_err() {
             return None;
         }
     }
-    Some(conn.into_store())
-}
-
-/// Empty files, filled with a store of schema 1.
-pub fn filled<D: Disk + Drop>(alloc: Global, files: Files<D>, frames: usize) -> Option<Files<D>> {
-    let store = fill(open(alloc, files, frames)?)?;
-    Some(store.close())
+    Some(conn.into_store().close())
 }
 
 /// Files of which the log or the database file fails after this many calls.
 pub fn fused<D: Disk>(files: Files<D>, in_log: bool, calls: u64) -> Files<Fuse<D>> {
-    let (log, db) = if in_log {
-        (calls, u64::MAX)
-    } else {
-        (u64::MAX, calls)
-    };
     Files {
-        log: Fuse::new(files.log, log),
-        db: Fuse::new(files.db, db),
+        log: Fuse::new(files.log, if in_log { calls } else { u64::MAX }),
+        db: Fuse::new(files.db, if in_log { u64::MAX } else { calls }),
     }
-}
-
-/// What a crash leaves of files.
-fn crashed<D: Crash>(mut files: Files<D>) -> Files<D> {
-    files.log.crash();
-    files.db.crash();
-    files
 }
 
 /// All that is shown of an entry, one of a list of its own.
@@ -105,8 +80,10 @@ fn push_told<R: ResultStore>(
     let Ok(found) = entries(alloc, results, head.number) else {
         return Err(RowFault::Misspelled("its entries can not be told"));
     };
-    let (number, started, total) = (head.number, head.started, head.total);
-    let text = format!(in alloc; "run {number} at {started}, {total} cases");
+    let text = format!(in alloc;
+        "run {} at {}, {} cases",
+        head.number, head.started, head.total
+    );
     push_made(told, asked(text))?;
     for entry in found.as_slice().chunks(1) {
         push_made(told, whole_text(alloc, entry))?;
@@ -132,22 +109,15 @@ fn asked_schema<S: Alter>(conn: &mut Connection<S>) -> Option<i64> {
     row.ok()?.get(0).ok()
 }
 
-/// The number of the schema; 0 where there is none. It is asked for twice, since memory may run out once.
-fn schema_of<S: Alter>(conn: &mut Connection<S>) -> i64 {
-    match asked_schema(conn) {
-        Some(schema) => schema,
-        None => asked_schema(conn).unwrap_or(0),
-    }
-}
-
-/// The schema of the tables of a store that is opened again, and all that it holds.
+/// The schema of the tables of a store that is opened again, 0 where there is none, and all that it holds. The schema is
+/// asked for twice, since memory may run out once.
 fn told_by<S: Alter + Drop>(alloc: Global, mut conn: Connection<S>) -> Result<(i64, Vec<String>)> {
-    let schema = schema_of(&mut conn);
+    let schema = asked_schema(&mut conn).or_else(|| asked_schema(&mut conn));
     if !conn.is_autocommit() {
         return Err(RowFault::Misspelled("a transaction is open"));
     }
     match Results::attach(alloc, conn) {
-        Ok(mut results) => told(alloc, &mut results).map(|told| (schema, told)),
+        Ok(mut results) => told(alloc, &mut results).map(|told| (schema.unwrap_or(0), told)),
         Err(_) => Err(RowFault::Misspelled("it can not be attached again")),
     }
 }
@@ -155,21 +125,22 @@ fn told_by<S: Alter + Drop>(alloc: Global, mut conn: Connection<S>) -> Result<(i
 /// What a crash leaves of files: the schema of their tables, and all that a store then holds.
 pub fn left_by<D: Crash + Drop>(
     alloc: Global,
-    files: Files<D>,
+    mut files: Files<D>,
     frames: usize,
 ) -> Result<(i64, Vec<String>)> {
-    match open(alloc, crashed(files), frames) {
+    files.log.crash();
+    files.db.crash();
+    match open(alloc, files, frames) {
         Some(conn) => told_by(alloc, conn),
         None => Err(RowFault::Misspelled("it does not open again")),
     }
 }
 
-/// Whether this is what was shown first, then the next run with this many entries, without its end.
-pub fn is_cut(left: &[String], whole: &[String], first: usize, entries: usize) -> bool {
-    let Some((last, front)) = left.split_last() else {
-        return false;
-    };
-    last.as_str() == "unfinished"
-        && front.len() == first.saturating_add(entries).saturating_add(1)
-        && whole.starts_with(front)
+/// Whether this is what was shown first, then this many lines of the next run, without its end.
+pub fn is_cut(left: &[String], whole: &[String], first: usize, lines: usize) -> bool {
+    left.split_last().is_some_and(|(last, front)| {
+        last.as_str() == "unfinished"
+            && front.len() == first.saturating_add(lines)
+            && whole.starts_with(front)
+    })
 }

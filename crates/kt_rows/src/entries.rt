@@ -114,28 +114,20 @@ fn count_of(entries: &Items<Entry>) -> Result<u32> {
     due(u32::try_from(entries.len()).ok(), "too many entries")
 }
 
-/// Appends an entry, as often as `times N` below it says.
-fn add_entries(
-    alloc: Global,
-    entries: &mut Items<Entry>,
-    content: &[Line<'_>],
-    verdict: &str,
-) -> Result<()> {
-    for _ in 0..number_in(content, "times", 1)? {
-        let position = count_of(entries)?;
-        entries.push(entry_of(alloc, content, verdict, position)?)?;
-    }
-    Ok(())
-}
-
-/// The run of a row: `run NUMBER`, `at MILLISECONDS`, `unfinished`, and its entries, `entry VERDICT` each.
+/// The run of a row: `run NUMBER`, `at MILLISECONDS`, `unfinished`, and its entries, `entry VERDICT` each, as
+/// often as `times N` below it says.
 pub fn run_of(alloc: Global, row: &Row<'_>) -> Result<Run> {
     let lines = row.entries.as_slice();
     let (number, started) = both(row.number("run", 1), row.number("at", 0))?;
     let mut entries = Items::new(alloc);
     for (place, line) in lines.iter().enumerate() {
-        if line.word == "entry" {
-            add_entries(alloc, &mut entries, content_at(lines, place), line.text)?;
+        if line.word != "entry" {
+            continue;
+        }
+        let content = content_at(lines, place);
+        for _ in 0..number_in(content, "times", 1)? {
+            let position = count_of(&entries)?;
+            entries.push(entry_of(alloc, content, line.text, position)?)?;
         }
     }
     Ok(Run {
@@ -149,20 +141,20 @@ pub fn run_of(alloc: Global, row: &Row<'_>) -> Result<Run> {
 
 /// The four outputs of a case.
 fn push_outputs(out: &mut Answer, entry: &Entry) {
-    for (name, bytes) in [
-        ("out=", &entry.body.out),
-        (", err=", &entry.body.err),
-        (", cleanup out=", &entry.cleanup.out),
-        (", cleanup err=", &entry.cleanup.err),
-    ] {
-        out.push(name);
-        out.bytes(bytes.as_slice());
-    }
+    out.push("out=");
+    out.bytes(entry.body.out.as_slice());
+    out.push(", err=");
+    out.bytes(entry.body.err.as_slice());
+    out.push(", cleanup out=");
+    out.bytes(entry.cleanup.out.as_slice());
+    out.push(", cleanup err=");
+    out.bytes(entry.cleanup.err.as_slice());
 }
 
 /// Six digits: 1 where the start and the time of a case are not 0, and how many bytes are kept of its four outputs.
 fn push_marks(out: &mut Answer, entry: &Entry) {
     let (body, cleanup) = (&entry.body, &entry.cleanup);
+    out.push(" ");
     for count in [
         entry.started.min(1) as usize,
         entry.millis.min(1) as usize,
@@ -180,21 +172,15 @@ fn push_entry(out: &mut Answer, word: &str, entry: &Entry) {
     if word == "outputs" {
         return push_outputs(out, entry);
     }
-    out.number(u64::from(entry.position));
-    out.push(" ");
+    write!(out, "{} ", entry.position);
+    let (program, case_name) = (entry.program.as_str(), entry.case_name.as_str());
     if word == "cases" {
-        out.push_all(&[entry.program.as_str(), ":", entry.case_name.as_str(), " "]);
+        write!(out, "{program}:{case_name} ");
     }
     push_verdict(out, &entry.verdict);
     match word {
-        "cases" => {
-            let (started, millis) = (entry.started, entry.millis);
-            out.made(format!(in out.alloc; ", started {started}, took {millis}"));
-        }
-        "marks" => {
-            out.push(" ");
-            push_marks(out, entry);
-        }
+        "cases" => write!(out, ", started {}, took {}", entry.started, entry.millis),
+        "marks" => push_marks(out, entry),
         _ => {}
     }
 }
@@ -204,9 +190,8 @@ fn push_pairs(out: &mut Answer, entries: &[Entry]) {
     let mut separator = "";
     for entry in entries {
         for pair in entry.meta.as_slice() {
-            out.push(separator);
-            out.number(u64::from(entry.position));
-            out.push_all(&[" ", pair.name.as_str(), "=", pair.value.as_str()]);
+            write!(out, "{separator}{}", entry.position);
+            out.pair(" ", pair, "=");
             separator = "\n";
         }
     }

@@ -3,7 +3,7 @@ use crate::numbers::numbered;
 use crate::row::{Entry, Result, Row, RowFault, both, due, halves, push_made};
 use kt_base::Text;
 use kt_play::Answer;
-use kt_suite::{Filter, FilterFault, Item, Selection, check_disjoint, select};
+use kt_suite::{Filter, FilterFault, Item, check_disjoint, select};
 use std::alloc::Global;
 
 /// What a row has said so far: the cases and the filters.
@@ -28,52 +28,37 @@ fn filter_of(alloc: Global, raw: &str) -> Result<Filter> {
 }
 
 /// Appends what a text says as a filter, `d/b, case main`, or why it is refused.
-fn read(out: &mut Answer, raw: &str) -> Result<()> {
+fn push_read(out: &mut Answer, raw: &str) -> Result<()> {
     match Filter::parse(out.alloc, &text_of(out.alloc, raw)?) {
         Ok(filter) => {
             out.push(filter.program.as_str());
             if let Some(case_name) = &filter.case_name {
-                out.push_all(&[", case ", case_name.as_str()]);
+                write!(out, ", case {}", case_name.as_str());
             }
         }
-        Err(fault) => out.made(fault.to_string(out.alloc)),
+        Err(fault) => write!(out, "{fault}"),
     }
     Ok(())
 }
 
-/// Appends positions with a space before each.
-fn push_places(out: &mut Answer, places: &[usize]) {
+/// Appends a word, and positions with a space before each.
+fn push_places(out: &mut Answer, word: &str, places: &[usize]) {
+    out.push(word);
+    for place in places {
+        write!(out, " {place}");
+    }
     if places.is_empty() {
         out.push(" none");
     }
-    for place in places {
-        out.push(" ");
-        out.number(*place as u64);
-    }
-}
-
-/// Appends the positions that were selected, or how many: `cases 0 2, unmatched none` or `2 cases, 0 unmatched`.
-fn push_selection(out: &mut Answer, selection: &Selection, brief: bool) {
-    if brief {
-        let (cases, unmatched) = (selection.cases.len(), selection.unmatched.len());
-        out.made(format!(in out.alloc; "{cases} cases, {unmatched} unmatched"));
-        return;
-    }
-    out.push("cases");
-    push_places(out, &selection.cases);
-    out.push(", unmatched");
-    push_places(out, &selection.unmatched);
 }
 
 /// Appends whether no filter matches what another one does.
 fn push_disjoint(out: &mut Answer, filters: &[Filter]) {
     match check_disjoint(filters) {
         Ok(()) => out.push("disjoint"),
-        Err(FilterFault::Repeated(at)) => out.made(format!(in out.alloc; "repeated at {at}")),
-        Err(FilterFault::NotDisjoint(at)) => out.made(format!(in out.alloc;
-            "not disjoint at {at}"
-        )),
-        Err(fault) => out.made(fault.to_string(out.alloc)),
+        Err(FilterFault::Repeated(at)) => write!(out, "repeated at {at}"),
+        Err(FilterFault::NotDisjoint(at)) => write!(out, "not disjoint at {at}"),
+        Err(fault) => write!(out, "{fault}"),
     }
 }
 
@@ -81,16 +66,9 @@ impl Example {
     /// Adds a filter or a case.
     fn add(&mut self, alloc: Global, word: &str, raw: &str) -> Result<()> {
         match word {
-            "filter" => push_made(&mut self.filters, filter_of(alloc, raw)),
+            "filter" | "filters" => push_made(&mut self.filters, filter_of(alloc, raw)),
             _ => push_made(&mut self.items, item_of(alloc, raw)),
         }
-    }
-
-    fn add_numbered(&mut self, alloc: Global, word: &str, raw: &str) -> Result<()> {
-        for text in numbered(alloc, raw)?.as_slice() {
-            self.add(alloc, word, text.as_str())?;
-        }
-        Ok(())
     }
 
     /// Appends for each filter whether it matches this case, or if there is none whether it may match a case of this
@@ -102,15 +80,23 @@ impl Example {
                 Some(name) => filter.matches(path, name),
                 None => filter.may_match(path),
             };
-            out.push_all(&[separator, if matches { "yes" } else { "no" }]);
+            write!(out, "{separator}{}", if matches { "yes" } else { "no" });
             separator = " ";
         }
     }
 
+    /// Appends the positions that were selected, or how many: `cases 0 2, unmatched none` or `2 cases, 0 unmatched`.
     fn push_selected(&self, out: &mut Answer, brief: bool) {
         match select(out.alloc, &self.items, &self.filters) {
-            Ok(selection) => push_selection(out, &selection, brief),
-            Err(fault) => out.made(fault.to_string(out.alloc)),
+            Ok(found) if brief => {
+                let (cases, unmatched) = (found.cases.len(), found.unmatched.len());
+                write!(out, "{cases} cases, {unmatched} unmatched");
+            }
+            Ok(found) => {
+                push_places(out, "cases", &found.cases);
+                push_places(out, ", unmatched", &found.unmatched);
+            }
+            Err(fault) => write!(out, "{fault}"),
         }
     }
 
@@ -118,7 +104,7 @@ impl Example {
     fn push_told(&self, out: &mut Answer, line: &Entry<'_>) -> Result<()> {
         out.separate("\n");
         match line.word {
-            "read" => return read(out, line.text),
+            "read" => return push_read(out, line.text),
             "matches" => {
                 let item = item_of(out.alloc, line.text)?;
                 self.push_matches(out, &item.path, Some(&item.case_name));
@@ -142,8 +128,11 @@ pub fn answer(out: &mut Answer, row: &Row<'_>) -> Result<()> {
     for line in row.entries.as_slice() {
         match line.word {
             "filter" | "item" => example.add(out.alloc, line.word, line.text)?,
-            "filters" => example.add_numbered(out.alloc, "filter", line.text)?,
-            "items" => example.add_numbered(out.alloc, "item", line.text)?,
+            "filters" | "items" => {
+                for text in numbered(out.alloc, line.text)?.as_slice() {
+                    example.add(out.alloc, line.word, text.as_str())?;
+                }
+            }
             _ => example.push_told(out, line)?,
         }
     }

@@ -35,7 +35,7 @@ fn carried<'a, R: ResultStore + Drop, W: Write, E: Write>(
     errors: &mut E,
 ) -> Result<(u8, ScriptedMachine<'a>)> {
     let alloc = log.alloc;
-    let os = ScriptedSystem::new(alloc, scene);
+    let os = ScriptedSystem::new(scene);
     let outside = Outside { alloc, machine, os };
     let mut lines = LineOutput::new(out, true);
     let (exit, outside) = carry_out(outside, platform, command, &mut lines, errors);
@@ -47,15 +47,11 @@ fn carried<'a, R: ResultStore + Drop, W: Write, E: Write>(
 fn push_errors(out: &mut Answer, errors: &ScriptedWriter) -> Result<()> {
     let mut page = Answer::new(out.alloc);
     push_page(&mut page, errors)?;
-    let page = page.end()?;
-    let text = page.as_str();
-    if !text.is_empty() {
-        out.push("error: ");
-    }
+    let text = page.so_far()?;
     if text.contains("Usage:") {
-        out.push("usage\n");
-    } else {
-        out.push(text);
+        out.push("error: usage\n");
+    } else if !text.is_empty() {
+        write!(out, "error: {text}");
     }
     Ok(())
 }
@@ -65,8 +61,8 @@ impl<R: ResultStore + Drop> Played<R> {
     pub fn new(alloc: Global, platform: ScriptedPlatform<R>) -> Played<R> {
         Played {
             platform,
-            page: ScriptedWriter::new(alloc, 0),
-            errors: ScriptedWriter::new(alloc, 0),
+            page: ScriptedWriter::new(alloc),
+            errors: ScriptedWriter::new(alloc),
             exits: Vec::new(alloc),
             log: Answer::new(alloc),
         }
@@ -75,24 +71,16 @@ impl<R: ResultStore + Drop> Played<R> {
     /// Carries out the command lines among these: `do WORDS` or `line WORDS`, or `words no-memory` for none.
     pub fn play(&mut self, lines: &[Entry<'_>], scene: &Scene) -> Result<()> {
         let alloc = self.log.alloc;
-        let mut machine = ScriptedMachine::new(alloc, scene);
+        let mut machine = ScriptedMachine::new(scene);
         for line in lines {
             let command = match line.word {
                 "do" | "line" => read_line(alloc, line.text)?,
                 "words" => Err(CommandFault::from(shortage(alloc)?)),
                 _ => continue,
             };
+            let (log, platform) = (&mut self.log, &mut self.platform);
             let (out, errors) = (&mut self.page, &mut self.errors);
-            let platform = &mut self.platform;
-            let (status, left) = carried(
-                &mut self.log,
-                scene,
-                machine,
-                platform,
-                command,
-                out,
-                errors,
-            )?;
+            let (status, left) = carried(log, scene, machine, platform, command, out, errors)?;
             machine = left;
             self.exits.push(status)?;
         }
@@ -105,8 +93,7 @@ impl<R: ResultStore + Drop> Played<R> {
         push_errors(out, &self.errors)?;
         out.push("exit");
         for status in self.exits.as_slice() {
-            out.push(" ");
-            out.number(u64::from(*status));
+            write!(out, " {status}");
         }
         Ok(())
     }

@@ -13,71 +13,36 @@ const FAULTS: [WriteFault; 3] = [
     WriteFault::Nothing,
 ];
 
-/// Pieces that are printed, perhaps to lines before the writer.
-#[derive(Clone, Copy)]
-struct Printed<'a> {
-    pieces: &'a [Vec<u8>],
-    to_lines: bool,
+/// A writer that takes this many bytes at a time. From this write on, counted from 1, all fail so; 0 for none.
+pub fn writer(alloc: Global, at_most: usize, failing: u64, fault: WriteFault) -> ScriptedWriter {
+    let mut writer = ScriptedWriter::new(alloc);
+    writer.at_most = at_most;
+    writer.failing = failing;
+    writer.fault = fault;
+    writer
 }
 
 /// Prints pieces, also after a failure, and flushes them: whether all went well.
 fn print<W: Write>(pieces: &[Vec<u8>], out: &mut W, flushes: bool) -> bool {
     let mut well = true;
     for piece in pieces {
-        if emit(piece.as_slice(), out).is_err() {
-            well = false;
-        }
+        well = emit(piece.as_slice(), out).is_ok() && well;
     }
-    if flushes && out.flush().is_err() {
-        well = false;
-    }
-    well
+    (!flushes || out.flush().is_ok()) && well
 }
 
-impl Printed<'_> {
-    fn print(self, out: &mut ScriptedWriter) -> bool {
-        if self.to_lines {
-            print(self.pieces, &mut LineOutput::new(out, true), true)
-        } else {
-            print(self.pieces, out, true)
-        }
+/// Prints pieces, perhaps to lines before the writer: whether all went well.
+fn print_whole(pieces: &[Vec<u8>], to_lines: bool, out: &mut ScriptedWriter) -> bool {
+    if to_lines {
+        print(pieces, &mut LineOutput::new(out, true), true)
+    } else {
+        print(pieces, out, true)
     }
-
-    /// What is wrong where one of the first hundred writes fails.
-    fn wrong_where_cut(
-        self,
-        alloc: Global,
-        whole: &ScriptedWriter,
-    ) -> Result<Option<&'static str>, NoMemory> {
-        for failing in 1..=whole.writes.min(100) {
-            for fault in &FAULTS {
-                let mut cut = writer(alloc, whole.at_most, failing, *fault);
-                let well = self.print(&mut cut);
-                let what = wrong(whole, &cut, well)?;
-                if what.is_some() {
-                    return Ok(what);
-                }
-            }
-        }
-        Ok(None)
-    }
-}
-
-/// A writer that takes this many bytes at a time. From this write on, counted from 1, all fail so; 0 for none.
-pub fn writer(alloc: Global, at_most: usize, failing: u64, fault: WriteFault) -> ScriptedWriter {
-    let mut writer = ScriptedWriter::new(alloc, failing);
-    writer.at_most = at_most;
-    writer.fault = fault;
-    writer
 }
 
 /// What is wrong with a writer after one of its writes failed.
-fn wrong(
-    whole: &ScriptedWriter,
-    cut: &ScriptedWriter,
-    well: bool,
-) -> Result<Option<&'static str>, NoMemory> {
-    let (whole, kept) = (whole.kept()?, cut.kept()?);
+fn wrong(whole: &[u8], cut: &ScriptedWriter, well: bool) -> Result<Option<&'static str>, NoMemory> {
+    let kept = cut.kept()?;
     if well {
         return Ok(Some("all went well"));
     }
@@ -90,33 +55,43 @@ fn wrong(
     Ok(None)
 }
 
-/// Appends the text that is printed, or what is wrong: it is the same into a writer that takes all at a time, seven bytes
-/// or one, and one that fails at one of its first writes gets a beginning.
-fn push_printed(out: &mut Answer, printed: Printed<'_>) -> Result<()> {
-    let mut whole = ScriptedWriter::new(out.alloc, 0);
-    printed.print(&mut whole);
-    for at_most in [usize::MAX, 7, 1] {
-        let mut slow = writer(out.alloc, at_most, 0, WriteFault::Broken);
-        if !printed.print(&mut slow) || slow.kept()? != whole.kept()? {
-            out.line("another text into a slow writer");
-        }
-        if let Some(what) = printed.wrong_where_cut(out.alloc, &slow)? {
-            out.line(what);
+/// Appends what is wrong with pieces that are printed into a writer that takes this many bytes at a time: another text than
+/// the whole one, or where one of the first hundred writes fails no beginning of it.
+fn push_wrong(
+    out: &mut Answer,
+    pieces: &[Vec<u8>],
+    to_lines: bool,
+    whole: &[u8],
+    at_most: usize,
+) -> Result<()> {
+    let mut slow = writer(out.alloc, at_most, 0, WriteFault::Broken);
+    let well = print_whole(pieces, to_lines, &mut slow);
+    if slow.kept()? != whole || !well {
+        out.line("another text into a slow writer");
+    }
+    for failing in 1..=slow.writes.min(100) {
+        for fault in &FAULTS {
+            let mut cut = writer(out.alloc, at_most, failing, *fault);
+            let well = print_whole(pieces, to_lines, &mut cut);
+            if let Some(what) = wrong(whole, &cut, well)? {
+                out.line(what);
+            }
         }
     }
-    out.bytes(whole.kept()?);
     Ok(())
 }
 
-/// Appends what is printed of bytes.
-pub fn push_emitted(out: &mut Answer, bytes: Vec<u8>) -> Result<()> {
-    let mut pieces = Vec::new(out.alloc);
-    push_made(&mut pieces, Ok(bytes))?;
-    let printed = Printed {
-        pieces: &pieces,
-        to_lines: false,
-    };
-    push_printed(out, printed)
+/// Appends the text of pieces that are printed, perhaps to lines before the writer, or what is wrong: it is the same into a
+/// writer that takes all at a time, seven bytes or one, and one that fails at one of its first writes gets a beginning.
+pub fn push_printed(out: &mut Answer, pieces: &[Vec<u8>], to_lines: bool) -> Result<()> {
+    let mut page = ScriptedWriter::new(out.alloc);
+    print_whole(pieces, to_lines, &mut page);
+    let whole = page.kept()?;
+    for at_most in [usize::MAX, 7, 1] {
+        push_wrong(out, pieces, to_lines, whole, at_most)?;
+    }
+    out.bytes(whole);
+    Ok(())
 }
 
 /// Appends what is written of pieces before a writer of lines, `piece TEXT` each; with `unflushed` before the flush, and
@@ -129,13 +104,9 @@ pub fn push_pieces(out: &mut Answer, row: &Row<'_>) -> Result<()> {
         }
     }
     if row.text("unflushed").is_none() {
-        let printed = Printed {
-            pieces: &pieces,
-            to_lines: true,
-        };
-        return push_printed(out, printed);
+        return push_printed(out, &pieces, true);
     }
-    let mut page = ScriptedWriter::new(out.alloc, 0);
+    let mut page = ScriptedWriter::new(out.alloc);
     let mut lines = LineOutput::new(&mut page, row.text("held").is_none());
     print(&pieces, &mut lines, false);
     out.bytes(page.kept()?);

@@ -1,12 +1,11 @@
-use crate::configurations::set_in;
 use crate::escapes::text_of;
 use crate::numbers::{numbered, set_number};
 use crate::row::{Entry, Result, Row, RowFault, asked, due, pair_of};
 use crate::verdicts::push_reason;
-use kt_base::{Text, Variable, Variables, Verdict};
-use kt_config::Config;
+use kt_base::{Text, Variables, Verdict};
+use kt_config::{Config, ConfigFault};
 use kt_metadata::{Host, Need, PropFault, Props, is_kyuafile_property, property_of_key, unmet};
-use kt_play::Answer;
+use kt_play::{Answer, retried};
 use std::alloc::Global;
 
 /// What a row has said so far: the properties of a program and of its case, the configuration and the host.
@@ -18,20 +17,12 @@ struct Example {
     host: Host,
 }
 
-/// Sets a property. It is set once more if memory ran out, since that must have changed nothing.
-fn set_pair(props: &mut Props, pair: &Variable) -> Result<(), PropFault> {
-    match props.set(&pair.name, &pair.value) {
-        Err(PropFault::NoMemory(_)) => props.set(&pair.name, &pair.value),
-        done => done,
-    }
-}
-
 /// Sets a property, and appends the fault if it is refused.
 fn set_property(out: &mut Answer, props: &mut Props, raw: &str) -> Result<()> {
     let pair = pair_of(out.alloc, raw)?;
-    if let Err(fault) = set_pair(props, &pair) {
+    if let Err(fault) = retried!(PropFault, props.set(&pair.name, &pair.value)) {
         out.separate("\n");
-        out.made(fault.to_string(out.alloc));
+        write!(out, "{fault}");
     }
     Ok(())
 }
@@ -39,35 +30,22 @@ fn set_property(out: &mut Answer, props: &mut Props, raw: &str) -> Result<()> {
 /// Sets a property that there is: `NAME=VALUE`.
 pub fn set_known(alloc: Global, props: &mut Props, raw: &str) -> Result<()> {
     let pair = pair_of(alloc, raw)?;
-    let set = set_pair(props, &pair).ok();
+    let set = retried!(PropFault, props.set(&pair.name, &pair.value)).ok();
     due(set, "there is no such property or value")
-}
-
-/// Sets the properties of `COUNT NAME=VALUE`, where `#` is the number.
-fn set_numbered(alloc: Global, props: &mut Props, raw: &str) -> Result<()> {
-    for text in numbered(alloc, raw)?.as_slice() {
-        set_known(alloc, props, text.as_str())?;
-    }
-    Ok(())
 }
 
 /// The value of a name among pairs.
 fn value_in<'a>(pairs: &'a Variables, name: &str) -> Option<&'a str> {
-    for pair in pairs.as_slice() {
-        if pair.name.as_str() == name {
-            return Some(pair.value.as_str());
-        }
-    }
-    None
+    let mut pairs = pairs.as_slice().iter();
+    Some(pairs.find(|pair| pair.name.is_word(name))?.value.as_str())
 }
 
 /// Appends the properties that differ from the defaults: ` timeout=20`.
 pub fn push_props(out: &mut Answer, props: &Props) -> Result<()> {
     let defaults = Props::new(out.alloc).listing()?;
     for pair in props.listing()?.as_slice() {
-        let (name, value) = (pair.name.as_str(), pair.value.as_str());
-        if value_in(&defaults, name) != Some(value) {
-            out.push_all(&[" ", name, "=", value]);
+        if value_in(&defaults, pair.name.as_str()) != Some(pair.value.as_str()) {
+            out.pair(" ", pair, "=");
         }
     }
     Ok(())
@@ -76,33 +54,15 @@ pub fn push_props(out: &mut Answer, props: &Props) -> Result<()> {
 /// Sets a variable of the configuration.
 fn set_variable(alloc: Global, config: &mut Config, raw: &str) -> Result<()> {
     let pair = pair_of(alloc, raw)?;
-    let set = set_in(config, &pair).ok();
+    let set = retried!(ConfigFault, config.set(&pair.name, &pair.value)).ok();
     due(set, "there is no such variable")
-}
-
-/// Appends the property that a key of a list of cases stands for.
-fn push_property(out: &mut Answer, raw: &str) -> Result<()> {
-    match property_of_key(out.alloc, &text_of(out.alloc, raw)?)? {
-        Some(name) => out.push(name.as_str()),
-        None => out.push("unknown"),
-    }
-    Ok(())
-}
-
-/// Appends the value of a property as it was given.
-fn push_given(out: &mut Answer, props: &Props, raw: &str) -> Result<()> {
-    match props.get(&text_of(out.alloc, raw)?) {
-        Some(value) => out.push(value.as_str()),
-        None => out.push("-"),
-    }
-    Ok(())
 }
 
 /// Appends the pairs that are listed, as a report has them, a line each.
 fn push_listed(out: &mut Answer, pairs: &Variables) {
     let mut separator = "";
     for pair in pairs.as_slice() {
-        out.push_all(&[separator, pair.name.as_str(), " = ", pair.value.as_str()]);
+        out.pair(separator, pair, " = ");
         separator = "\n";
     }
 }
@@ -123,13 +83,18 @@ impl Example {
         asked(self.host.note(need, &text_of(alloc, raw)?))
     }
 
-    /// Takes a line that says something, and appends what is refused.
+    /// Takes a line that says something, and appends what is refused; or appends what the line asks.
     fn take(&mut self, out: &mut Answer, line: &Entry<'_>) -> Result<()> {
         let (alloc, text) = (out.alloc, line.text);
         match line.word {
             "set" => set_property(out, &mut self.program, text),
             "case" => set_property(out, &mut self.case, text),
-            "numbered" => set_numbered(alloc, &mut self.program, text),
+            "numbered" => {
+                for text in numbered(alloc, text)?.as_slice() {
+                    set_known(alloc, &mut self.program, text.as_str())?;
+                }
+                Ok(())
+            }
             "config" => set_variable(alloc, &mut self.config, text),
             "file" => self.note(alloc, Need::File, text),
             "program" => self.note(alloc, Need::Program, text),
@@ -139,39 +104,33 @@ impl Example {
                 self.host.root = true;
                 Ok(())
             }
-            _ => Err(RowFault::Misspelled("there is no such word")),
+            _ => self.push_asked(out, line),
         }
     }
 
-    /// Appends what a line asks of the properties together.
+    /// Appends what a line asks of a name, or of the properties together.
     fn push_asked(&self, out: &mut Answer, line: &Entry<'_>) -> Result<()> {
+        out.separate("\n");
+        let name = text_of(out.alloc, line.text)?;
         let props = Props::overlay(&self.program, &self.case)?;
-        match line.word {
-            "get" => return push_given(out, &props, line.text),
-            "unmet" => return self.push_unmet(out, &props),
-            _ => {}
-        }
         let pairs = props.listing()?;
         match line.word {
-            "show" => out.push(value_in(&pairs, line.text).unwrap_or("-")),
-            "count" => out.number(pairs.len() as u64),
-            _ => push_listed(out, &pairs),
+            "key" => {
+                let property = property_of_key(out.alloc, &name)?;
+                out.push(property.as_ref().map_or("unknown", Text::as_str));
+            }
+            "kyuafile" => {
+                let may = is_kyuafile_property(&name);
+                out.push(if may { "yes" } else { "no" });
+            }
+            "get" => out.push(props.get(&name).map_or("-", Text::as_str)),
+            "show" => out.push(value_in(&pairs, name.as_str()).unwrap_or("-")),
+            "unmet" => return self.push_unmet(out, &props),
+            "count" => write!(out, "{}", pairs.len()),
+            "listing" => push_listed(out, &pairs),
+            _ => return Err(RowFault::Misspelled("there is no such word")),
         }
         Ok(())
-    }
-}
-
-/// Appends what a line asks.
-fn push_told(out: &mut Answer, example: &Example, line: &Entry<'_>) -> Result<()> {
-    out.separate("\n");
-    match line.word {
-        "key" => push_property(out, line.text),
-        "kyuafile" => {
-            let may = is_kyuafile_property(&text_of(out.alloc, line.text)?);
-            out.push(if may { "yes" } else { "no" });
-            Ok(())
-        }
-        _ => example.push_asked(out, line),
     }
 }
 
@@ -184,12 +143,7 @@ pub fn answer(out: &mut Answer, row: &Row<'_>) -> Result<()> {
         host: Host::new(out.alloc, false, None, None),
     };
     for line in row.entries.as_slice() {
-        match line.word {
-            "get" | "show" | "listing" | "count" | "unmet" | "key" | "kyuafile" => {
-                push_told(out, &example, line)?;
-            }
-            _ => example.take(out, line)?,
-        }
+        example.take(out, line)?;
     }
     Ok(())
 }

@@ -1,6 +1,6 @@
 use crate::entries::kind_of;
 use crate::escapes::unescaped;
-use crate::printing::{page_text, push_emitted, writer};
+use crate::printing::{push_printed, writer};
 use crate::row::{Entry, Result, Row, RowFault};
 use crate::verdicts::push_reason;
 use kt_base::{Bytes, NoMemory, Reason, Text, Verdict, emit_number, emit_wide_number, lossy, send};
@@ -9,7 +9,8 @@ use std::alloc::Global;
 
 fn push_kind(out: &mut Answer, word: &str) -> Result<()> {
     let kind = kind_of(word)?;
-    out.push_all(&[kind.word(), ", ", if kind.good() { "good" } else { "bad" }]);
+    let quality = if kind.good() { "good" } else { "bad" };
+    write!(out, "{}, {quality}", kind.word());
     Ok(())
 }
 
@@ -24,7 +25,7 @@ fn text_of_bytes(alloc: Global, bytes: &[u8]) -> Result<Text, NoMemory> {
 
 /// Appends a number as it is printed.
 fn push_number(out: &mut Answer, text: &str) -> Result<()> {
-    let mut page = ScriptedWriter::new(out.alloc, 0);
+    let mut page = ScriptedWriter::new(out.alloc);
     if let Ok(n) = text.parse::<u64>() {
         let _ = emit_number(n, &mut page);
     } else if let Ok(n) = text.parse::<u128>() {
@@ -32,7 +33,7 @@ fn push_number(out: &mut Answer, text: &str) -> Result<()> {
     } else {
         return Err(RowFault::Misspelled("no number"));
     }
-    out.push(page_text(out.alloc, &page)?.as_str());
+    out.bytes(page.kept()?);
     Ok(())
 }
 
@@ -43,9 +44,8 @@ fn push_sent(out: &mut Answer, row: &Row<'_>, bytes: &[u8]) -> Result<()> {
     let mut page = writer(out.alloc, at_most, failing, WriteFault::Broken);
     let (count, failed) = send(bytes, &mut page);
     page.kept()?;
-    let writes = page.writes;
-    out.made(format!(in out.alloc; "{count} in {writes} writes, "));
-    out.push(if failed { "failed" } else { "done" });
+    let end = if failed { "failed" } else { "done" };
+    write!(out, "{count} in {} writes, {end}", page.writes);
     Ok(())
 }
 
@@ -61,7 +61,7 @@ fn push_told(out: &mut Answer, row: &Row<'_>, word: &str, bytes: Vec<u8>) -> Res
             Ok(())
         }
         "send" => push_sent(out, row, &bytes),
-        "emit" => push_emitted(out, bytes),
+        "emit" => push_printed(out, &[bytes], false),
         _ => Err(RowFault::Misspelled("nothing like that is asked of a reason")),
     }
 }

@@ -29,7 +29,7 @@ fn print_junit(out: &mut Answer, run: &Run, page: &mut ScriptedWriter) {
     match kt_report::junit(out.alloc, run, page) {
         Ok(()) => {}
         Err(ReportFault::NoMemory(refusal)) => out.fail(refusal),
-        Err(fault) => out.made(fault.to_string(out.alloc)),
+        Err(fault) => write!(out, "{fault}"),
     }
 }
 
@@ -37,24 +37,24 @@ fn print_junit(out: &mut Answer, run: &Run, page: &mut ScriptedWriter) {
 /// first write fails.
 pub fn answer(out: &mut Answer, row: &Row<'_>) -> Result<()> {
     let run = run_of(out.alloc, row)?;
-    let mut page = ScriptedWriter::new(out.alloc, 0);
-    match row.text("report") {
-        Some("line") => {
+    let mut page = ScriptedWriter::new(out.alloc);
+    let report = row.text("report").unwrap_or("");
+    match report {
+        "line" => {
             for entry in run.entries.as_slice() {
                 let _ = kt_report::line(entry, &mut page);
             }
         }
-        Some("text" | "moment") => print_text(out.alloc, row, &run, &mut page)?,
-        Some("junit") => print_junit(out, &run, &mut page),
-        Some("fault") => {
-            page.failing = 1;
+        "text" | "moment" => print_text(out.alloc, row, &run, &mut page)?,
+        "junit" | "fault" => {
+            page.failing = u64::from(report == "fault");
             print_junit(out, &run, &mut page);
         }
         _ => return Err(RowFault::Misspelled("no such report")),
     }
     let text = page_text(out.alloc, &page)?;
-    match row.text("report") {
-        Some("moment") => push_moment(out, text.as_str()),
+    match report {
+        "moment" => push_moment(out, text.as_str()),
         _ => out.push(text.as_str()),
     }
     Ok(())

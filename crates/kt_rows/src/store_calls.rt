@@ -1,40 +1,11 @@
 //! Calls on a store of runs, and what they answer.
 
-ghost use Rattle.kt_base.specs.Moments.{IsMoment, IsStorable};
-
 use crate::entries::{push_entries, storable_entry};
 use crate::numbers::{count, number};
 use crate::row::{Entry as Line, Result, RowFault, number_in};
-use kt_base::{Entry, LATEST_MOMENT};
-use kt_play::Answer;
+use kt_base::LATEST_MOMENT;
+use kt_play::{Answer, retried};
 use kt_store::{ResultStore, RunHead, StoreFault, entries};
-
-// Calls that are made once more if memory ran out, since that must have changed nothing.
-
-fn begin_run<R: ResultStore>(results: &mut R, total: u32, moment: u64) -> Result<u64, StoreFault>
-    requires { IsMoment moment }
-{
-    match results.begin(total, moment) {
-        Err(StoreFault::NoMemory(_)) => results.begin(total, moment),
-        begun => begun,
-    }
-}
-
-fn put_entry<R: ResultStore>(results: &mut R, run: u64, entry: &Entry) -> Result<(), StoreFault>
-    requires { IsStorable entry.now }
-{
-    match results.put(run, entry) {
-        Err(StoreFault::NoMemory(_)) => results.put(run, entry),
-        done => done,
-    }
-}
-
-fn finish_run<R: ResultStore>(results: &mut R, run: u64) -> Result<(), StoreFault> {
-    match results.finish(run) {
-        Err(StoreFault::NoMemory(_)) => results.finish(run),
-        done => done,
-    }
-}
 
 /// Appends whether a call was done.
 fn push_done(out: &mut Answer, done: Result<(), StoreFault>) {
@@ -52,11 +23,11 @@ fn begin<R: ResultStore>(out: &mut Answer, results: &mut R, text: &str, times: u
     let mut last = Ok(0);
     for _ in 0..times {
         if last.is_ok() {
-            last = begin_run(results, total, moment);
+            last = retried!(StoreFault, results.begin(total, moment));
         }
     }
     match last {
-        Ok(number) => out.made(format!(in out.alloc; "run {number}")),
+        Ok(number) => write!(out, "run {number}"),
         Err(fault) => out.name(&fault),
     }
     Ok(())
@@ -78,7 +49,7 @@ fn put<R: ResultStore>(
     for _ in 0..times {
         if done.is_ok() {
             let entry = storable_entry(out.alloc, content, verdict, place)?;
-            done = put_entry(results, run, &entry);
+            done = retried!(StoreFault, results.put(run, &entry));
             place = place.saturating_add(1);
         }
     }
@@ -97,14 +68,11 @@ pub fn state_text(head: &RunHead) -> &'static str {
 
 /// Appends a run with the number of its entries: `run 1 at 500: 2 of 3, unfinished`.
 fn push_run<R: ResultStore>(out: &mut Answer, results: &mut R, head: &RunHead) {
-    let (number, started, total) = (head.number, head.started, head.total);
-    let state = state_text(head);
-    match results.outline(number, true) {
+    match results.outline(head.number, true) {
         Ok(entries) => {
-            let count = entries.len();
-            out.made(format!(in out.alloc;
-                "run {number} at {started}: {count} of {total}, {state}"
-            ));
+            let (count, state) = (entries.len(), state_text(head));
+            write!(out, "run {} at {}: ", head.number, head.started);
+            write!(out, "{count} of {}, {state}", head.total);
         }
         Err(fault) => out.name(&fault),
     }
@@ -117,8 +85,7 @@ pub fn push_runs<R: ResultStore>(out: &mut Answer, results: &mut R, is_brief: bo
         Err(fault) => return out.name(&fault),
     };
     if is_brief {
-        out.number(heads.len() as u64);
-        return out.push(" runs");
+        return write!(out, "{} runs", heads.len());
     }
     let mut separator = "";
     for head in heads.as_slice() {
@@ -131,10 +98,7 @@ pub fn push_runs<R: ResultStore>(out: &mut Answer, results: &mut R, is_brief: bo
 /// Appends what a word shows of the entries of a run, or how many they are.
 fn push_run_entries<R: ResultStore>(out: &mut Answer, results: &mut R, word: &str, run: u64) {
     match entries(out.alloc, results, run) {
-        Ok(found) if word == "count" => {
-            out.number(found.len() as u64);
-            out.push(" entries");
-        }
+        Ok(found) if word == "count" => write!(out, "{} entries", found.len()),
         Ok(found) => push_entries(out, word, found.as_slice()),
         Err(fault) => out.name(&fault),
     }
@@ -151,7 +115,10 @@ pub fn push_call<R: ResultStore>(
     match line.word {
         "begin" => return begin(out, results, line.text, times),
         "put" => return put(out, results, line.text, content, times),
-        "finish" => push_done(out, finish_run(results, number(line.text)?)),
+        "finish" => {
+            let run = number(line.text)?;
+            push_done(out, retried!(StoreFault, results.finish(run)));
+        }
         "runs" => push_runs(out, results, false),
         "count-runs" => push_runs(out, results, true),
         "cases" | "outputs" | "pairs" | "count" => {

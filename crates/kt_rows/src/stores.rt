@@ -7,91 +7,80 @@ use kt_play::{Answer, Scene, ScriptedPlatform};
 use kt_store::{ResultStore, Results};
 use sqlite::{Alter, Connection};
 
-/// A database, and whether its tables were taken.
+/// Runs in a database whose tables were taken or not, or in memory.
 #[derive(Drop)]
-enum Database<S: Alter + Drop> {
+enum Store<S: Alter + Drop> {
     Open(Connection<S>),
     Attached(Results<S>),
+    Memory(MemRuns),
 }
 
 /// The connection of a database, without its tables.
-fn detached<S: Alter + Drop>(database: Database<S>) -> Connection<S> {
-    match database {
-        Database::Open(connection) => connection,
-        Database::Attached(results) => results.detach(),
+fn detached<S: Alter + Drop>(store: Store<S>) -> Result<Connection<S>> {
+    match store {
+        Store::Open(connection) => Ok(connection),
+        Store::Attached(results) => Ok(results.detach()),
+        Store::Memory(_) => Err(RowFault::Misspelled("there is no database")),
     }
 }
 
 /// Takes the tables, and appends whether that was refused.
-fn attach<S: Alter + Drop>(out: &mut Answer, connection: Connection<S>) -> Result<Database<S>> {
+fn attach<S: Alter + Drop>(out: &mut Answer, connection: Connection<S>) -> Result<Store<S>> {
     if !connection.is_autocommit() {
         return Err(RowFault::Misspelled("a transaction is open"));
     }
     match Results::attach(out.alloc, connection) {
         Ok(results) => {
             out.push("attached");
-            Ok(Database::Attached(results))
+            Ok(Store::Attached(results))
         }
         Err((fault, connection)) => {
             out.name(&fault);
-            Ok(Database::Open(connection))
+            Ok(Store::Open(connection))
         }
     }
 }
 
-/// Carries out a command line over the store, and appends its page and its exit.
-fn carry_out<R: ResultStore + Drop>(out: &mut Answer, results: R, line: Entry<'_>) -> Result<R> {
-    let platform = ScriptedPlatform::new(out.alloc, results);
-    let mut played = Played::new(out.alloc, platform);
-    played.play(&[line], &Scene::new(out.alloc))?;
+/// Appends what a call on runs answers, or a command line over them its page and its exit, and hands the runs back.
+fn ask<R: ResultStore + Drop>(
+    out: &mut Answer,
+    mut results: R,
+    line: &Entry<'_>,
+    content: &[Entry<'_>],
+) -> Result<R> {
+    if line.word != "do" {
+        push_call(out, &mut results, line, content)?;
+        return Ok(results);
+    }
+    let mut played = Played::new(out.alloc, ScriptedPlatform::new(out.alloc, results));
+    played.play(&[*line], &Scene::new(out.alloc))?;
     played.push_ended(out)?;
     played.into_results()
 }
 
-/// Appends what a call on a store answers, which is handed back.
-fn ask<R: ResultStore + Drop>(
-    out: &mut Answer,
-    results: R,
-    line: &Entry<'_>,
-    content: &[Entry<'_>],
-) -> Result<R> {
-    if line.word == "do" {
-        return carry_out(out, results, *line);
-    }
-    let mut results = results;
-    push_call(out, &mut results, line, content)?;
-    Ok(results)
-}
-
-/// Runs a statement.
-fn run_sql<S: Alter + Drop>(
-    out: &mut Answer,
-    mut connection: Connection<S>,
-    sql: &str,
-) -> Result<Database<S>> {
-    out.push("done");
-    match connection.execute(sql, &[]) {
-        Ok(_) => Ok(Database::Open(connection)),
-        Err(_) => Err(RowFault::Misspelled("the statement fails")),
-    }
-}
-
-/// Does a line of a row over a database, and appends the answer.
+/// Does a line of a row over a store, and appends the answer.
 fn step<S: Alter + Drop>(
     out: &mut Answer,
-    database: Database<S>,
+    store: Store<S>,
     line: &Entry<'_>,
     content: &[Entry<'_>],
-) -> Result<Database<S>> {
+) -> Result<Store<S>> {
     out.separate("\n");
     match line.word {
-        "attach" => attach(out, detached(database)),
-        "sql" => run_sql(out, detached(database), line.text),
-        _ => match database {
-            Database::Open(_) => Err(RowFault::Misspelled("no tables were taken")),
-            Database::Attached(results) => {
-                Ok(Database::Attached(ask(out, results, line, content)?))
+        "attach" => attach(out, detached(store)?),
+        "sql" => {
+            let mut connection = detached(store)?;
+            if connection.execute(line.text, &[]).is_err() {
+                return Err(RowFault::Misspelled("the statement fails"));
             }
+            out.push("done");
+            Ok(Store::Open(connection))
+        }
+        "memory" => Ok(Store::Memory(MemRuns::new(out.alloc))),
+        _ => match store {
+            Store::Open(_) => Err(RowFault::Misspelled("no tables were taken")),
+            Store::Attached(results) => Ok(Store::Attached(ask(out, results, line, content)?)),
+            Store::Memory(runs) => Ok(Store::Memory(ask(out, runs, line, content)?)),
         },
     }
 }
@@ -102,22 +91,10 @@ fn over<S: Alter + Drop>(
     lines: &[Entry<'_>],
     connection: Connection<S>,
 ) -> Result<()> {
-    let mut database = Database::Open(connection);
+    let mut store = Store::Open(connection);
     for (place, line) in lines.iter().enumerate() {
         if !is_content(line) {
-            database = step(out, database, line, content_at(lines, place))?;
-        }
-    }
-    Ok(())
-}
-
-/// The answers to the lines of a row over runs in memory.
-fn over_memory(out: &mut Answer, lines: &[Entry<'_>]) -> Result<()> {
-    let mut results = MemRuns::new(out.alloc);
-    for (place, line) in lines.iter().enumerate() {
-        if !is_content(line) && line.word != "memory" {
-            out.separate("\n");
-            results = ask(out, results, line, content_at(lines, place))?;
+            store = step(out, store, line, content_at(lines, place))?;
         }
     }
     Ok(())
@@ -125,9 +102,9 @@ fn over_memory(out: &mut Answer, lines: &[Entry<'_>]) -> Result<()> {
 
 /// What calls on a store answer, one after the other: over a database in memory, or after `memory` over runs in memory.
 pub fn answer(out: &mut Answer, row: &Row<'_>) -> Result<()> {
-    let lines = row.entries.as_slice();
-    if row.text("memory").is_some() {
-        return over_memory(out, lines);
-    }
-    over(out, lines, Connection::open_in_memory(out.alloc)?)
+    over(
+        out,
+        row.entries.as_slice(),
+        Connection::open_in_memory(out.alloc)?,
+    )
 }

@@ -34,51 +34,41 @@ impl Reader {
     }
 
     /// Appends what was read, in the form of a row.
-    fn push_read(self, out: &mut Answer) {
+    fn push_read(self, out: &mut Answer) -> Result<()> {
         match self {
-            Reader::Claim(reader) => push_claim(out, reader.finish()),
-            Reader::Tap(reader) => push_tap(out, reader.finish()),
+            Reader::Claim(reader) => push_claim(out, &reader.finish()?),
+            Reader::Tap(reader) => push_tap(out, &reader.finish()?),
         }
+        Ok(())
     }
 }
 
-/// Appends what a claim has after its name: its number if it has one, and its reason.
-fn push_reason(out: &mut Answer, claim: &Claim) {
+/// Appends a claim: its name, its number if it has one, and its reason.
+fn push_claim(out: &mut Answer, claim: &Claim) {
+    out.name(claim);
     match claim {
         Claim::Missing | Claim::Unreadable | Claim::Passed => {}
-        Claim::Malformed(fault) => out.made(format!(in out.alloc; ": {fault:?}")),
+        Claim::Malformed(fault) => write!(out, ": {fault:?}"),
         Claim::Failed(reason)
         | Claim::Skipped(reason)
         | Claim::ExpectedFailure(reason)
         | Claim::ExpectedDeath(reason)
         | Claim::ExpectedTimeout(reason)
         | Claim::ExpectedExit(None, reason)
-        | Claim::ExpectedSignal(None, reason) => out.push_all(&[": ", reason.as_str()]),
+        | Claim::ExpectedSignal(None, reason) => write!(out, ": {}", reason.as_str()),
         Claim::ExpectedExit(Some(number), reason) | Claim::ExpectedSignal(Some(number), reason) => {
-            out.made(format!(in out.alloc; "({number}): "));
-            out.push(reason.as_str());
+            write!(out, "({number}): {}", reason.as_str());
         }
-    }
-}
-
-fn push_claim(out: &mut Answer, claim: Result<Claim, NoMemory>) {
-    match claim {
-        Ok(claim) => {
-            out.name(&claim);
-            push_reason(out, &claim);
-        }
-        Err(refusal) => out.fail(refusal),
     }
 }
 
 /// Appends the result of a stream.
-fn push_tap(out: &mut Answer, tap: Result<Tap, NoMemory>) {
+fn push_tap(out: &mut Answer, tap: &Tap) {
     match tap {
-        Ok(Tap::Invalid(fault)) => out.made(format!(in out.alloc; "invalid: {fault:?}")),
-        Ok(Tap::BailedOut) => out.push("bailed out"),
-        Ok(Tap::SkipAll(reason)) => out.push_all(&["skipped: ", reason.as_str()]),
-        Ok(Tap::Counted(bad, all)) => out.made(format!(in out.alloc; "{bad} of {all} failed")),
-        Err(refusal) => out.fail(refusal),
+        Tap::Invalid(fault) => write!(out, "invalid: {fault:?}"),
+        Tap::BailedOut => out.push("bailed out"),
+        Tap::SkipAll(reason) => write!(out, "skipped: {}", reason.as_str()),
+        Tap::Counted(bad, all) => write!(out, "{bad} of {all} failed"),
     }
 }
 
@@ -97,7 +87,7 @@ fn pieces_text(
         reader.take(piece)?;
     }
     let mut out = Answer::new(alloc);
-    reader.push_read(&mut out);
+    reader.push_read(&mut out)?;
     asked(out.end())
 }
 
@@ -105,15 +95,15 @@ fn pieces_text(
 fn push_agreed(out: &mut Answer, word: &str, bytes: &[u8]) -> Result<()> {
     let mut whole = Answer::new(out.alloc);
     match word {
-        "tap" => push_tap(&mut whole, read_tap(out.alloc, bytes)),
-        _ => push_claim(&mut whole, read_claim(out.alloc, bytes)),
+        "tap" => push_tap(&mut whole, &read_tap(out.alloc, bytes)?),
+        _ => push_claim(&mut whole, &read_claim(out.alloc, bytes)?),
     }
     let whole = whole.end()?;
     let cuts = if bytes.len() > LONG { 1 } else { bytes.len() };
     for cut in 0..cuts {
         let other = pieces_text(out.alloc, word, bytes, cut, bytes.len())?;
         if other.as_str() != whole.as_str() {
-            out.made(format!(in out.alloc; "cut at {cut}: {other}"));
+            write!(out, "cut at {cut}: {other}");
             return Ok(());
         }
     }
@@ -137,6 +127,5 @@ pub fn answer(out: &mut Answer, row: &Row<'_>, word: &str) -> Result<()> {
             asked(reader.take(&unescaped(out.alloc, line.text)?))?;
         }
     }
-    reader.push_read(out);
-    Ok(())
+    reader.push_read(out)
 }

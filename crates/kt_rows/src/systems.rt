@@ -1,36 +1,41 @@
 //! What is asked of a scripted system: the cases of a plan, the list of a program, the bytes of a file.
 
+ghost use Rattle.kt_sched.specs.Plan.{IsPlan, IsWidth};
+
 use crate::entries::push_entries;
-use crate::row::{Result, Row, RowFault, asked, both, pairs_of};
+use crate::escapes::unescaped;
+use crate::numbers::{limit_of, number};
+use crate::row::{Result, Row, RowFault, both, pairs_of};
 use crate::scenes::{failing_of, scene_of};
-use crate::system_runs::{Ran, run_plan};
+use crate::schedules::width_of;
 use crate::verdicts::push_verdict;
 use kt_atflist::{ListBytes, Listing};
-use kt_base::{Entry, Interface, Kind, Text, Variables};
-use kt_child::{Driver, FileRead, Os, read_front, read_start};
+use kt_base::{Entry, Interface, Items, Kind, Text, Variables};
+use kt_child::{Driver, DriverFault, FileRead, Os, read_front, read_start, run_driver};
 use kt_metadata::Props;
-use kt_play::{Answer, EndlessReader, Scene, ScriptedSystem, push_folded};
+use kt_play::{Answer, EndlessReader, MemorySink, Scene, ScriptedSystem, plan_of, push_folded};
+use kt_sched::{Job, RunFault, SinkFault};
 use kt_suite::Program;
 use std::alloc::Global;
 
 /// How many bytes of a file a machine reads at the most: one more than a script may have.
 const MACHINE_LIMIT: usize = 1_048_577;
 
-/// What a word shows of a call, if it shows that call.
-fn call_of<'a>(shown: &str, line: &'a str) -> Option<&'a str> {
-    let (word, _) = line.split_once(' ').unwrap_or((line, ""));
-    match shown {
-        "words" => Some(word),
-        "watching" if !matches!(word, "poll" | "kill" | "pause") => None,
-        _ => Some(line),
-    }
+/// What a run leaves: its system, its entries in the order of recording, and why it ended early, if it did.
+#[derive(Drop)]
+struct Driven<O: Drop> {
+    os: O,
+    entries: Vec<Entry>,
+    fault: Option<&'static str>,
 }
 
 /// Appends the calls of a log, folded: all of `calls`, their first `words`, or those for `watching` children.
 pub fn push_calls(out: &mut Answer, shown: &str, log: &str) -> Result<()> {
     let mut lines = Vec::new(out.alloc);
     for line in log.lines() {
-        if let Some(call) = call_of(shown, line) {
+        let (word, _) = line.split_once(' ').unwrap_or((line, ""));
+        if shown != "watching" || matches!(word, "poll" | "kill" | "pause") {
+            let call = if shown == "words" { word } else { line };
             lines.push(call)?;
         }
     }
@@ -47,8 +52,7 @@ fn push_totals(out: &mut Answer, entries: &[Entry]) {
             _ => other = other.or(Some(entry)),
         }
     }
-    let all = entries.len();
-    out.made(format!(in out.alloc; "{passed} of {all} passed"));
+    write!(out, "{passed} of {} passed", entries.len());
     if let Some(entry) = other {
         out.push(", ");
         push_verdict(out, &entry.verdict);
@@ -64,35 +68,89 @@ fn push_left(out: &mut Answer, log: &str) {
             killed = killed.saturating_add(1);
         } else if line.starts_with("remove ") {
             left = left.saturating_sub(1);
-        } else if line.starts_with("make ")
-            && !line.ends_with("/work")
-            && !line.ends_with(" failed")
-        {
-            left = left.saturating_add(1);
+        } else if line.starts_with("make ") && !line.ends_with(" failed") {
+            left = left.saturating_add(usize::from(!line.ends_with("/work")));
         }
     }
-    out.made(format!(in out.alloc; "{killed} killed, {left} left"));
+    write!(out, "{killed} killed, {left} left");
 }
 
 /// Appends what is shown of a run by a word.
-fn push_shown(out: &mut Answer, word: &str, run: &Ran<'_>) -> Result<()> {
+fn push_shown(out: &mut Answer, word: &str, run: &Driven<ScriptedSystem<'_>>) -> Result<()> {
+    let (log, spawned) = (run.os.log.so_far()?, run.os.spawned.so_far()?);
     match word {
-        "calls" | "words" | "watching" => return push_calls(out, word, run.os.log.so_far()?),
-        "spawns" => out.push(run.os.spawned.so_far()?.trim()),
-        "spawned" => {
-            out.number(run.os.spawned.so_far()?.lines().count() as u64);
-            out.push(" spawned");
-        }
-        "left" => push_left(out, run.os.log.so_far()?),
+        "calls" | "words" | "watching" => return push_calls(out, word, log),
+        "spawns" => out.push(spawned.trim()),
+        "spawned" => write!(out, "{} spawned", spawned.lines().count()),
+        "left" => push_left(out, log),
         "totals" => push_totals(out, run.entries.as_slice()),
         _ => push_entries(out, word, run.entries.as_slice()),
     }
     Ok(())
 }
 
+/// Two texts of the crates.
+fn texts_of(alloc: Global, first: &str, second: &str) -> Result<(Text, Text)> {
+    let first = Text::from_str(alloc, first)?;
+    Ok((first, Text::from_str(alloc, second)?))
+}
+
+/// Runs a plan over a driver of its own.
+fn drive<O: Os + Drop>(
+    alloc: Global,
+    os: O,
+    plan: Items<Job>,
+    width: u32,
+    base: &Text,
+    source: Text,
+    mut sink: MemorySink,
+) -> Driven<O>
+    requires plan { IsPlan plan }
+    requires width { IsWidth width }
+{
+    let (os, fault) = match Driver::new(alloc, os, base, source) {
+        Err((DriverFault::NoMemory(_), os)) => (os, Some("out of memory")),
+        Err((DriverFault::NoWorkDirectory, os)) => (os, Some("failed")),
+        Ok(mut driver) => {
+            let fault = match run_driver(alloc, plan, width, &mut driver, &mut sink) {
+                Ok(_) => None,
+                Err(RunFault::NoMemory(_) | RunFault::SinkFailed(SinkFault::Memory)) => {
+                    Some("out of memory")
+                }
+                Err(_fault) => Some("failed"),
+            };
+            (driver.close(), fault)
+        }
+    };
+    Driven {
+        os,
+        entries: sink.entries,
+        fault,
+    }
+}
+
+/// Runs the plan of a row over a scripted system: `plan LETTERS`, perhaps `program PATH`, `limit SECONDS` and `variable
+/// NAME=VALUE` each; `width N`, `failing PUT`, `base PATH` and `source PATH`.
+fn run_plan<'a>(row: &Row<'_>, scene: &'a Scene) -> Result<Driven<ScriptedSystem<'a>>> {
+    let alloc = scene.alloc;
+    let width = width_of(row.text("width"))?;
+    let limit = limit_of(row.text("limit"))?;
+    let variables = pairs_of(alloc, row.entries.as_slice(), "variable");
+    let letters = unescaped(alloc, row.text("plan").unwrap_or(""));
+    let (letters, variables) = both(letters, variables)?;
+    let base = row.text("base").unwrap_or("");
+    let source = row.text("source").unwrap_or("/t");
+    let (base, source) = texts_of(alloc, base, source)?;
+    let program = row.text("program").unwrap_or("d/p");
+    let plan = plan_of(alloc, program, &letters, limit, &variables)?;
+    let sink = MemorySink::new(alloc, row.number("failing", 0)? as usize);
+    let os = ScriptedSystem::new(scene);
+    Ok(drive(alloc, os, plan, width, &base, source, sink))
+}
+
 /// Appends what `show WORDS` names of a run, or else its entries, and why it ended early, if it did.
 fn push_run(out: &mut Answer, row: &Row<'_>, scene: &Scene) -> Result<()> {
-    let run = run_plan(out.alloc, row, scene)?;
+    let run = run_plan(row, scene)?;
     for word in row.text("show").unwrap_or("entries").split_whitespace() {
         out.separate("\n");
         push_shown(out, word, &run)?;
@@ -104,8 +162,7 @@ fn push_run(out: &mut Answer, row: &Row<'_>, scene: &Scene) -> Result<()> {
 }
 
 /// What becomes of the cases of a plan, for each line `fails CALLS` if there are some.
-fn plan(out: &mut Answer, row: &Row<'_>, scene: Scene) -> Result<()> {
-    let mut scene = scene;
+fn plan(out: &mut Answer, row: &Row<'_>, mut scene: Scene) -> Result<()> {
     if row.text("fails").is_none() {
         return push_run(out, row, &scene);
     }
@@ -129,8 +186,7 @@ fn asked_for_list<O: Os + Drop>(
 ) -> (O, Option<Listing>) {
     match Driver::new(alloc, os, base, source) {
         Err((_fault, os)) => (os, None),
-        Ok(driver) => {
-            let mut driver = driver;
+        Ok(mut driver) => {
             let listing = driver.list(program, variables);
             (driver.close(), Some(listing))
         }
@@ -141,21 +197,12 @@ fn asked_for_list<O: Os + Drop>(
 fn push_listing(out: &mut Answer, listing: &Option<Listing>) {
     match listing {
         None => out.push("no driver"),
-        Some(Listing::Refused(cause)) => out.made(format!(in out.alloc; "Refused({cause:?})")),
+        Some(Listing::Refused(cause)) => write!(out, "Refused({cause:?})"),
         Some(Listing::Ended(outcome, ListBytes::Read(bytes))) => {
-            let length = bytes.len();
-            out.made(format!(in out.alloc; "{outcome:?}, {length} bytes"));
+            write!(out, "{outcome:?}, {} bytes", bytes.len());
         }
-        Some(Listing::Ended(how, bytes)) => out.made(format!(in out.alloc; "{how:?}, {bytes:?}")),
+        Some(Listing::Ended(how, bytes)) => write!(out, "{how:?}, {bytes:?}"),
     }
-}
-
-/// Two texts of the crates.
-pub fn texts_of(alloc: Global, first: &str, second: &str) -> Result<(Text, Text)> {
-    both(
-        asked(Text::from_str(alloc, first)),
-        asked(Text::from_str(alloc, second)),
-    )
 }
 
 /// A program `d/p` of ATF cases.
@@ -176,7 +223,7 @@ fn list(out: &mut Answer, row: &Row<'_>, scene: &Scene) -> Result<()> {
     let (base, source) = texts_of(alloc, row.text("base").unwrap_or(""), "/t")?;
     let variables = pairs_of(alloc, row.entries.as_slice(), "variable");
     let (program, variables) = both(program_of(alloc), variables)?;
-    let os = ScriptedSystem::new(alloc, scene);
+    let os = ScriptedSystem::new(scene);
     let (os, listing) = asked_for_list(alloc, os, &base, source, &program, &variables);
     push_calls(out, "words", os.log.so_far()?)?;
     if row.text("show") == Some("spawns") {
@@ -210,19 +257,14 @@ fn read(out: &mut Answer, row: &Row<'_>) -> Result<()> {
         given: 0,
         failed: 0,
     };
-    let limit = match row.text("limit") {
-        Some(_) => Some(row.number("limit", 0)?),
-        None => None,
-    };
+    let limit = row.text("limit").map(number).transpose()?;
     let read = front(out.alloc, &mut file, limit);
     let (given, failed) = (file.given, file.failed);
     match read {
-        None => {
-            out.made(format!(in out.alloc; "failed; {given} bytes given, {failed} reads failed"));
-        }
+        None => write!(out, "failed; {given} bytes given, {failed} reads failed"),
         Some((length, follows)) => {
             let more = if follows { " and more" } else { "" };
-            out.made(format!(in out.alloc; "{length} bytes{more}; {given} given"));
+            write!(out, "{length} bytes{more}; {given} given");
         }
     }
     Ok(())

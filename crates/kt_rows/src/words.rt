@@ -1,11 +1,12 @@
 use crate::escapes::text_of;
 use crate::numbers::number;
 use crate::row::{Result, Row, asked, due, halves, push_made};
-use kt_base::{Kind, Text};
+use kt_base::Text;
 use kt_plan::CaseOptions;
 use kt_play::Answer;
 use kt_words::{Command, CommandFault, ReportOptions, read_command};
 use std::alloc::Global;
+use std::slice;
 
 /// The words of a line, which have spaces between them.
 pub fn words_of(alloc: Global, line: &str) -> Result<Vec<String>> {
@@ -25,62 +26,51 @@ pub fn read_line(alloc: Global, line: &str) -> Result<Result<Command, CommandFau
 /// Appends the values of an option.
 fn push_values(out: &mut Answer, name: &str, values: &[Text]) {
     for value in values {
-        out.push_all(&[name, value.as_str()]);
+        write!(out, "{name}{}", value.as_str());
     }
-}
-
-/// Appends what stands before a command.
-fn push_given(out: &mut Answer, config: &Option<Text>, variables: &[Text]) {
-    if let Some(config) = config {
-        out.push_all(&[", config ", config.as_str()]);
-    }
-    push_values(out, ", variable ", variables);
 }
 
 /// Appends a command over test cases: its Kyuafile, its directory, its results file if it has one, and what it is given.
-fn push_cases(out: &mut Answer, name: &str, options: &CaseOptions, results: Option<&Text>) {
+fn push_cases(out: &mut Answer, name: &str, options: &CaseOptions, results: &[Text]) {
     let (kyuafile, work) = (options.kyuafile.as_str(), options.work.as_str());
-    out.push_all(&[name, kyuafile, ", work ", work]);
-    if let Some(results) = results {
-        out.push_all(&[", results ", results.as_str()]);
-    }
-    push_given(out, &options.config, options.variables.as_slice());
+    write!(out, "{name} {kyuafile}, work {work}");
+    push_values(out, ", results ", results);
+    push_values(out, ", config ", options.config.as_slice());
+    push_values(out, ", variable ", options.variables.as_slice());
     push_values(out, ", filter ", options.filters.as_slice());
 }
 
 /// Appends the run of a report, its results file and what it is given.
 fn push_report(out: &mut Answer, name: &str, options: &ReportOptions) {
-    out.push(name);
     match options.run {
-        Some(run) => out.number(run),
-        None => out.push("last"),
+        Some(run) => write!(out, "{name} {run}"),
+        None => write!(out, "{name} last"),
     }
-    out.push_all(&[", results ", options.results.as_str()]);
-    push_given(out, &options.config, options.variables.as_slice());
-}
-
-fn push_sections(out: &mut Answer, kinds: &[Kind], verbose: bool) {
-    out.push(", kinds");
-    for kind in kinds {
-        out.push_all(&[" ", kind.word()]);
-    }
-    out.push(if verbose { ", verbose" } else { "" });
+    write!(out, ", results {}", options.results.as_str());
+    push_values(out, ", config ", options.config.as_slice());
+    push_values(out, ", variable ", options.variables.as_slice());
 }
 
 fn push_command(out: &mut Answer, command: &Command) {
     match command {
-        Command::List(options) => push_cases(out, "list ", options, None),
-        Command::Test { options, results } => push_cases(out, "test ", options, Some(results)),
-        Command::Debug(options) => push_cases(out, "debug ", options, None),
+        Command::List(options) => push_cases(out, "list", options, &[]),
+        Command::Test { options, results } => {
+            push_cases(out, "test", options, slice::from_ref(results));
+        }
+        Command::Debug(options) => push_cases(out, "debug", options, &[]),
         Command::Report {
             options,
             kinds,
             verbose,
         } => {
-            push_report(out, "report ", options);
-            push_sections(out, kinds.as_slice(), *verbose);
+            push_report(out, "report", options);
+            out.push(", kinds");
+            for kind in kinds.as_slice() {
+                write!(out, " {}", kind.word());
+            }
+            out.push(if *verbose { ", verbose" } else { "" });
         }
-        Command::ReportJunit(options) => push_report(out, "report-junit ", options),
+        Command::ReportJunit(options) => push_report(out, "report-junit", options),
     }
 }
 
@@ -89,7 +79,7 @@ fn push_fault(out: &mut Answer, fault: &CommandFault) {
     match fault {
         CommandFault::Usage(text) if text.as_str().is_empty() => out.push("usage without a text"),
         CommandFault::Usage(_) => out.push("usage"),
-        _ => out.made(fault.to_string(out.alloc)),
+        _ => write!(out, "{fault}"),
     }
 }
 
