@@ -367,7 +367,7 @@ self.written = line(&entry, &mut full);
 BODY
 
 # By another name none of the rules above would find a value.
-types='(Refused|SinkFault|Claim|TapFault|ListBytes|ReadEnd|NextPart|OsFault|ReadFault)'
+types='(Refused|SinkFault|Claim|TapFault|ListBytes|ReadEnd|OsFault|ReadFault)'
 rule 'gives a name to what has one' lines "[A-Za-z] as [A-Z][A-Za-z]*([,;}]|\$)|::[*]|type [A-Z].*= .*$types|use .*$types::" <<'PLACES'
 # The result of what is displayed, two traits whose names others have, and the error of SQLite, which has rules of its own.
 kt_store/src/store_fault/statements.rt: Alter, Connection, Error as SqlError, ErrorCode, FileFrom, FileStore, Row, Start, Transaction,
