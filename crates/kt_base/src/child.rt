@@ -1,7 +1,7 @@
 use crate::{Phrase, Reason};
 
 /// How a test program speaks: atf-test-program(1), the Test Anything Protocol, or by its exit status alone.
-#[derive(Clone, Copy, Debug, PartialEq, Eq)]
+#[derive(Clone, Copy, PartialEq, Eq)]
 pub enum Interface {
     Atf,
     Tap,
@@ -9,7 +9,7 @@ pub enum Interface {
 }
 
 /// What a start asks of a test case: its body, or the cleanup that an ATF case may declare.
-#[derive(Clone, Copy, Debug, PartialEq, Eq, Hash)]
+#[derive(Clone, Copy, PartialEq, Eq, Hash)]
 pub enum Role {
     Body,
     Cleanup,

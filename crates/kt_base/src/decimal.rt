@@ -4,7 +4,7 @@ ghost use Rattle.kt_base.specs.Common.{decimal, digits_onto, utf8};
 use std::marker::Model;
 
 /// The decimal digits of a number, in a buffer of their own on the stack. Contracts see the digits' bytes.
-#[derive(Debug, Drop)]
+#[derive(Drop)]
 pub struct Decimal {
     room: [u8; 64],
     start: usize,

@@ -4,14 +4,14 @@ use crate::{Bytes, Items, Text, Variables, Verdict};
 pub const LATEST_MOMENT: u64 = 253_402_300_799_999;
 
 /// What is kept of the two output streams of a child process.
-#[derive(Debug, Drop)]
+#[derive(Drop)]
 pub struct Output {
     pub out: Bytes,
     pub err: Bytes,
 }
 
 /// What is recorded of one test case of a run.
-#[derive(Debug, Drop)]
+#[derive(Drop)]
 pub struct Entry {
     /// The place of the case among the selected ones, counted from 0.
     pub position: u32,
@@ -30,7 +30,7 @@ pub struct Entry {
 }
 
 /// A run of `kyua test`, with the entries recorded so far.
-#[derive(Debug, Drop)]
+#[derive(Drop)]
 pub struct Run {
     /// Counted from 1.
     pub number: u64,

@@ -1,7 +1,7 @@
 use crate::{NoMemory, Text};
 
 /// A name with its value, such as a variable of a test suite.
-#[derive(Debug, Drop)]
+#[derive(Drop)]
 pub struct Variable {
     pub name: Text,
     pub value: Text,

@@ -8,7 +8,7 @@ use std::rc::Rc;
 
 /// Names with their values, in order. Contracts see the list of the pairs, whether or not its memory
 /// is shared.
-#[derive(Debug, Drop)]
+#[derive(Drop)]
 pub struct Variables {
     own: Vec<Variable>,
     /// The pairs, if their memory is shared.

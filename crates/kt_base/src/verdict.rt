@@ -3,7 +3,7 @@ use std::io::Write;
 use std::marker::Model;
 
 /// Why a case has its verdict, kept without memory where its words are fixed.
-#[derive(Debug, Drop)]
+#[derive(Drop)]
 pub enum Reason {
     /// A passed case needs none.
     Nothing,
@@ -35,7 +35,7 @@ impl Reason {
 }
 
 /// What became of a test case.
-#[derive(Clone, Copy, Debug, PartialEq, Eq)]
+#[derive(Clone, Copy, PartialEq, Eq)]
 pub enum Kind {
     Passed,
     Skipped,
@@ -70,7 +70,7 @@ impl Kind {
 }
 
 /// What became of a case, and why. Contracts see the kind and the text of the reason.
-#[derive(Debug, Drop)]
+#[derive(Drop)]
 pub struct Verdict {
     kind: Kind,
     reason: Reason,
@@ -183,7 +183,7 @@ impl Verdict {
 }
 
 /// The text of a reason, cut so that each part is written without memory.
-#[derive(Clone, Copy, Debug)]
+#[derive(Clone, Copy)]
 pub struct Parts<'a> {
     pub head: &'a str,
     pub lead: &'static str,

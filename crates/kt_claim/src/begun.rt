@@ -1,5 +1,5 @@
 /// The kind of a line of a TAP stream. A failed test with a directive counts as a test.
-#[derive(Clone, Copy, Debug)]
+#[derive(Clone, Copy)]
 pub enum LineKind {
     Other,
     Bail,
@@ -11,7 +11,7 @@ pub enum LineKind {
 }
 
 /// The first letters of a directive, in any case.
-#[derive(Clone, Copy, Debug)]
+#[derive(Clone, Copy)]
 pub enum Letters {
     T,
     To,
@@ -22,7 +22,7 @@ pub enum Letters {
 }
 
 /// Why a directive is looked for.
-#[derive(Clone, Copy, Debug)]
+#[derive(Clone, Copy)]
 pub enum Purpose {
     /// To excuse a test that failed.
     Excuse,
@@ -31,7 +31,7 @@ pub enum Purpose {
 }
 
 /// The words with which the lines that count begin.
-#[derive(Clone, Copy, Debug)]
+#[derive(Clone, Copy)]
 pub enum Opening {
     BailOut,
     Ok,
@@ -40,7 +40,7 @@ pub enum Opening {
 }
 
 /// How much of a line was read: what may still decide it.
-#[derive(Clone, Copy, Debug)]
+#[derive(Clone, Copy)]
 pub enum Begun {
     /// Nothing of it.
     Nothing,
@@ -67,7 +67,7 @@ pub enum Begun {
 }
 
 /// An open line. Of its bytes only those of a plan's reason are kept.
-#[derive(Debug, Drop)]
+#[derive(Drop)]
 pub struct OpenLine {
     pub begun: Begun,
     /// The reason of a plan of no tests, as far as it came.

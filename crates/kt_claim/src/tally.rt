@@ -8,7 +8,7 @@ use kt_base::{NoMemory, Text, lossy};
 use std::alloc::Global;
 
 /// Counts of the lines of a stream before its first bail out.
-#[derive(Debug, Drop)]
+#[derive(Drop)]
 pub struct Tally {
     pub bailed: bool,
     /// The first plan: how many tests, and the reason if there are none.

@@ -7,7 +7,7 @@ use crate::words::{has_zero, is_variable};
 use kt_base::{NoMemory, Text, Variable};
 
 /// A variable with the value that it is given.
-#[derive(Debug, Drop)]
+#[derive(Drop)]
 pub enum Definition {
     Architecture(Text),
     Platform(Text),

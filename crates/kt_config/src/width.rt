@@ -10,7 +10,7 @@ use std::marker::Model;
 const GREATEST: u64 = 256;
 
 /// The number of cases that may run at once, 1 to 256. Contracts see the number.
-#[derive(Debug, Drop)]
+#[derive(Drop)]
 pub struct Width {
     cases: u32,
 }

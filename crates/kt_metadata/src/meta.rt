@@ -4,7 +4,7 @@ use crate::{Need, Props, User};
 use kt_base::{Items, NoMemory, Text};
 
 /// The properties of a case as kyuafile(5) names them, each by its value or its default.
-#[derive(Debug, Drop)]
+#[derive(Drop)]
 pub struct Meta {
     pub allowed_architectures: Items<Text>,
     pub allowed_platforms: Items<Text>,

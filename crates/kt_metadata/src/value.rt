@@ -5,7 +5,7 @@ use kt_base::{Items, NoMemory, Text};
 use std::alloc::Global;
 
 /// The user that a case asks for.
-#[derive(Clone, Copy, Debug, PartialEq, Eq)]
+#[derive(Clone, Copy, PartialEq, Eq)]
 pub enum User {
     Any,
     Root,
@@ -14,7 +14,7 @@ pub enum User {
 }
 
 /// The value of a property, as its form reads it.
-#[derive(Debug, Drop)]
+#[derive(Drop)]
 pub enum Value {
     Words(Items<Text>),
     /// The text itself.
@@ -105,7 +105,7 @@ impl Value {
 }
 
 /// What was given to a name: the text, as it was written, and the value that it was read as.
-#[derive(Debug, Drop)]
+#[derive(Drop)]
 pub struct Given {
     pub text: Text,
     pub value: Value,

@@ -10,7 +10,7 @@ use kt_suite::{FilterFault, SuiteFault};
 use std::io::Write;
 
 /// Why a command over test cases ended before it did anything: the first fault of its steps.
-#[derive(Debug, Drop)]
+#[derive(Drop)]
 pub enum Stop {
     NoMemory(NoMemory),
     /// The configuration file could not be read.

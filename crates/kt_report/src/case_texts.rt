@@ -1,7 +1,7 @@
 use kt_base::Text;
 
 /// The texts of a case as XML has them.
-#[derive(Debug, Drop)]
+#[derive(Drop)]
 pub struct CaseTexts {
     pub program: Text,
     pub case_name: Text,

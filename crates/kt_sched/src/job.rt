@@ -8,7 +8,7 @@ pub const MAX_WIDTH: u32 = 256;
 pub const MAX_TIMEOUT: u32 = 1_000_000;
 
 /// One test case of a plan.
-#[derive(Debug, Drop)]
+#[derive(Drop)]
 pub struct Job {
     /// The place in the plan, counted from 0.
     pub position: u32,
@@ -31,7 +31,7 @@ pub struct Job {
 }
 
 /// The answer of a launcher to a start.
-#[derive(Clone, Copy, Debug, PartialEq, Eq)]
+#[derive(Clone, Copy, PartialEq, Eq)]
 pub enum StartAnswer {
     /// With the moment, in milliseconds since 1970 in UTC.
     Started(u64),
@@ -39,7 +39,7 @@ pub enum StartAnswer {
 }
 
 /// The end of a child that a launcher started.
-#[derive(Debug, Drop)]
+#[derive(Drop)]
 pub struct Ended {
     pub position: u32,
     pub role: Role,

@@ -2,7 +2,7 @@ use crate::Ended;
 use kt_base::{Refused, Role};
 
 /// What is to be done next. Positions are those of the plan.
-#[derive(Clone, Copy, Debug, PartialEq, Eq)]
+#[derive(Clone, Copy, PartialEq, Eq)]
 pub enum Next {
     Start(u32, Role),
     Wait,
@@ -11,7 +11,7 @@ pub enum Next {
 }
 
 /// The result of the step that `next` asked for.
-#[derive(Debug, Drop)]
+#[derive(Drop)]
 pub enum Answer {
     /// With the moment, in milliseconds since 1970 in UTC.
     Started(u64),

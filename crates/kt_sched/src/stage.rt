@@ -2,7 +2,7 @@ use crate::Job;
 use kt_base::{Output, Verdict};
 
 /// The stage of a case.
-#[derive(Debug, Drop)]
+#[derive(Drop)]
 pub enum Stage {
     /// It waits for its turn to start.
     Waiting,
@@ -21,7 +21,7 @@ pub enum Stage {
 }
 
 /// The record of a case that is over: its entry without the names.
-#[derive(Debug, Drop)]
+#[derive(Drop)]
 pub struct CaseRecord {
     pub verdict: Verdict,
     /// In milliseconds since 1970 in UTC.
@@ -32,7 +32,7 @@ pub struct CaseRecord {
 }
 
 /// What is kept of a body that ended, if its case is not over.
-#[derive(Debug, Drop)]
+#[derive(Drop)]
 pub struct EndedBody {
     /// In milliseconds since 1970 in UTC.
     pub started: u64,
@@ -43,7 +43,7 @@ pub struct EndedBody {
 }
 
 /// A job, and the stage of its case.
-#[derive(Debug, Drop)]
+#[derive(Drop)]
 pub struct Case {
     pub job: Job,
     pub stage: Stage,

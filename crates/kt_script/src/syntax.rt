@@ -4,7 +4,7 @@ use kt_base::{Items, NoMemory, Text};
 use std::alloc::Global;
 
 /// A literal value: a string, a number or a truth value (kyuafile(5)).
-#[derive(Debug, Drop)]
+#[derive(Drop)]
 pub enum Literal {
     /// The characters of a string, its escapes replaced.
     Text(Text),
@@ -31,14 +31,14 @@ impl Literal {
 }
 
 /// A pair of a table.
-#[derive(Debug, Drop)]
+#[derive(Drop)]
 pub struct Pair {
     pub name: Text,
     pub value: Literal,
 }
 
 /// The argument of a call.
-#[derive(Debug, Drop)]
+#[derive(Drop)]
 pub enum Arg {
     Value(Literal),
     /// The pairs in the order of the text. A name may occur several times.
@@ -46,7 +46,7 @@ pub enum Arg {
 }
 
 /// What a statement does.
-#[derive(Debug, Drop)]
+#[derive(Drop)]
 pub enum Action {
     /// A function's name and its one argument.
     Call(Text, Arg),
@@ -55,7 +55,7 @@ pub enum Action {
 }
 
 /// A statement.
-#[derive(Debug, Drop)]
+#[derive(Drop)]
 pub struct Stmt {
     /// The line on which it begins, counted from 1.
     pub line: u32,

@@ -2,7 +2,7 @@ use crate::StoreFault;
 use kt_base::{Entry, Output};
 
 /// A run without its entries.
-#[derive(Clone, Copy, Debug, PartialEq, Eq)]
+#[derive(Clone, Copy, PartialEq, Eq)]
 pub struct RunHead {
     /// Counted from 1.
     pub number: u64,
@@ -15,7 +15,7 @@ pub struct RunHead {
 }
 
 /// What is kept of the outputs of a test case.
-#[derive(Debug, Drop)]
+#[derive(Drop)]
 pub struct CaseOutputs {
     pub body: Output,
     pub cleanup: Output,

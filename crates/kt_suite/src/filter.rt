@@ -53,7 +53,7 @@ impl From<NoMemory> for FilterFault {
 }
 
 /// Names cases to run: those of a program, of all programs under a directory, or one case (kyua(1)).
-#[derive(Debug, Drop)]
+#[derive(Drop)]
 pub struct Filter {
     /// The path of a program or a directory, relative to the directory of the root Kyuafile. `parse` leaves no component that
     /// is empty or `.`.

@@ -42,7 +42,7 @@ impl From<NoMemory> for SelectFault {
 }
 
 /// A case of a program, as filters see it.
-#[derive(Debug, Drop)]
+#[derive(Drop)]
 pub struct Item {
     /// The program's path, relative to the directory of the root Kyuafile.
     pub path: Text,
@@ -50,7 +50,7 @@ pub struct Item {
 }
 
 /// What filters select among some items.
-#[derive(Debug, Drop)]
+#[derive(Drop)]
 pub struct Selection {
     /// The positions of the selected items, ascending, from 0.
     pub cases: Vec<usize>,

@@ -8,7 +8,7 @@ use crate::{Child, EnvPlan, Paths};
 use kt_base::{Interface, Items, Role, Text, Variables};
 
 /// What an ATF program is started for (atf-test-program(1)).
-#[derive(Clone, Copy, Debug, PartialEq, Eq)]
+#[derive(Clone, Copy, PartialEq, Eq)]
 pub enum Want {
     /// The list of its test cases.
     List,
@@ -32,7 +32,7 @@ pub(crate) struct Purpose<'a> {
 
 /// What is kept of a case while a child of it runs, or while its cleanup is owed; the paths are its body's. A list has one,
 /// too.
-#[derive(Debug, Drop)]
+#[derive(Drop)]
 pub(crate) struct Case {
     /// The place in the plan, counted from 0, or 0 for a list.
     pub position: u32,
@@ -62,7 +62,7 @@ impl Case {
 }
 
 /// All that a child is started with.
-#[derive(Debug, Drop)]
+#[derive(Drop)]
 pub(crate) struct Spawning {
     pub child: Child,
     /// How long it may run, in seconds.

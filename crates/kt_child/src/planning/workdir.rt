@@ -7,7 +7,7 @@ use kt_removal::numbered_path;
 use std::alloc::Global;
 
 /// The absolute paths of one attempt (this profile).
-#[derive(Debug, Drop)]
+#[derive(Drop)]
 pub struct Paths {
     /// The directory that holds all of them.
     pub dir: Text,

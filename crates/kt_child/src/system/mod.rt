@@ -29,7 +29,7 @@ impl From<NoMemory> for OsFault {
 }
 
 /// A child process, named by what it was started for. A program that is asked for its list is a body.
-#[derive(Clone, Copy, Debug, PartialEq, Eq, Hash)]
+#[derive(Clone, Copy, PartialEq, Eq, Hash)]
 pub struct Child {
     /// The number of its attempt, counted from 0 over all bodies and lists of one driver.
     pub attempt: u64,
@@ -37,7 +37,7 @@ pub struct Child {
 }
 
 /// How the environment of a child differs from the runner's.
-#[derive(Debug, Drop)]
+#[derive(Drop)]
 pub struct EnvPlan {
     /// The names of the variables that are taken out.
     pub removed: Items<Text>,
@@ -46,7 +46,7 @@ pub struct EnvPlan {
 }
 
 /// The result of reading a file.
-#[derive(Debug, Drop)]
+#[derive(Drop)]
 pub enum FileRead {
     /// The file is missing.
     Missing,
@@ -55,7 +55,7 @@ pub enum FileRead {
 }
 
 /// The state of a child, as the system reports it.
-#[derive(Clone, Copy, Debug, PartialEq, Eq)]
+#[derive(Clone, Copy, PartialEq, Eq)]
 pub enum Polled {
     Running,
     /// It ended by itself, with this exit status.

@@ -11,7 +11,7 @@ use std::rt::Env;
 const LONGEST_VARIABLE: usize = 131_072;
 
 /// The working directory and the environment of the process that carries out a command.
-#[derive(Debug, Drop)]
+#[derive(Drop)]
 pub struct Surroundings {
     /// The absolute working directory.
     pub here: Text,

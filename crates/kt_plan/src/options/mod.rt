@@ -8,7 +8,7 @@ use kt_config::Config;
 use kt_suite::Filter;
 
 /// The options of a command over test cases (kyua(1)).
-#[derive(Debug, Drop)]
+#[derive(Drop)]
 pub struct CaseOptions {
     /// The configuration file, if one is given (`-c`).
     pub config: Option<Text>,
