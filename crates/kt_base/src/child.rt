@@ -1,7 +1,7 @@
 use crate::{Phrase, Reason};
 
 /// How a test program speaks: atf-test-program(1), the Test Anything Protocol, or by its exit status alone.
-#[derive(Clone, Copy, PartialEq, Eq)]
+#[derive(Clone, Copy)]
 pub enum Interface {
     Atf,
     Tap,
@@ -16,7 +16,7 @@ pub enum Role {
 }
 
 /// How a child process ended.
-#[derive(Clone, Copy, Debug, PartialEq, Eq)]
+#[derive(Clone, Copy, Debug)]
 pub enum Outcome {
     /// By itself, with this exit status.
     Exited(u8),
@@ -29,7 +29,7 @@ pub enum Outcome {
 }
 
 /// Why a child process could not be started.
-#[derive(Clone, Copy, Debug, PartialEq, Eq)]
+#[derive(Clone, Copy, Debug)]
 pub enum Refused {
     /// Its work directory could not be made.
     Directory,

@@ -5,13 +5,13 @@ use std::io::Write;
 
 /// A writer refused a write, was interrupted, or took no byte of a text that had some left. Only `emit` makes this value,
 /// after such a write; `?` hands it on.
-#[derive(Clone, Copy, Debug, PartialEq, Eq)]
+#[derive(Clone, Copy, Debug)]
 pub struct OutputFault {
     write: FailedWrite,
 }
 
 /// A type of this module alone, so that no other can write an `OutputFault`.
-#[derive(Clone, Copy, Debug, PartialEq, Eq)]
+#[derive(Clone, Copy, Debug)]
 struct FailedWrite;
 
 /// Writes until all the bytes are written or a write fails. An interrupted write is a failed one, and so is one that takes

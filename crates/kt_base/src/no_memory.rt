@@ -5,13 +5,13 @@ use std::io::ErrorKind;
 /// Memory ran out. Only a refusal of the allocator makes this value (`From`), or an error of the
 /// system that says so (`in_error`); `?` hands it on. Other modules neither name such a refusal nor
 /// make such an error. The call that returns it changed nothing that was lent to it.
-#[derive(Clone, Copy, Debug, PartialEq, Eq)]
+#[derive(Clone, Copy, Debug)]
 pub struct NoMemory {
     refusal: Refusal,
 }
 
 /// A type of this module alone, so that no other can write a `NoMemory`.
-#[derive(Clone, Copy, Debug, PartialEq, Eq)]
+#[derive(Clone, Copy, Debug)]
 struct Refusal;
 
 impl NoMemory {

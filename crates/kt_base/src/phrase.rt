@@ -2,7 +2,7 @@ ghost use Rattle.std.specs.Prelude.{◌≡◌};
 ghost use Rattle.kt_base.specs.Phrases.{phrase_text};
 
 /// The fixed words of reasons (this profile). Some are followed by an ending, others by one number or two.
-#[derive(Clone, Copy, PartialEq, Eq)]
+#[derive(Clone, Copy)]
 pub enum Phrase {
     // Bodies of ATF cases.
     CaseNotWaitedFor,

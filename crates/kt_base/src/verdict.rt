@@ -35,7 +35,7 @@ impl Reason {
 }
 
 /// What became of a test case.
-#[derive(Clone, Copy, PartialEq, Eq)]
+#[derive(Clone, Copy)]
 pub enum Kind {
     Passed,
     Skipped,

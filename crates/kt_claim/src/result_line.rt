@@ -10,7 +10,7 @@ use kt_base::{NoMemory, Text, decimal_up_to, digits_length, lossy};
 use std::alloc::Global;
 
 /// The words of result files.
-#[derive(Clone, Copy, PartialEq, Eq)]
+#[derive(Clone, Copy)]
 pub enum Word {
     Passed,
     Failed,

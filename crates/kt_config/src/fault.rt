@@ -6,7 +6,7 @@ use kt_script::ScriptFault;
 use thiserror::Error;
 
 /// Why a configuration file, or one variable, was refused.
-#[derive(Clone, Copy, Debug, PartialEq, Eq, Error)]
+#[derive(Clone, Copy, Debug, Error)]
 #[error("{}", self.words())]
 pub enum ConfigFault {
     NoMemory(NoMemory),

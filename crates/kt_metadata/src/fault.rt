@@ -5,7 +5,7 @@ use kt_base::NoMemory;
 use thiserror::Error;
 
 /// Why a property was refused. `Display` is the text of the fault's line (this profile).
-#[derive(Clone, Copy, Debug, PartialEq, Eq, Error)]
+#[derive(Clone, Copy, Debug, Error)]
 pub enum PropFault {
     #[error("out of memory")]
     NoMemory(NoMemory),

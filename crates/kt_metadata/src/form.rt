@@ -9,7 +9,7 @@ use kt_base::{Items, NoMemory, Text};
 use std::alloc::Global;
 
 /// How the values of a property are written.
-#[derive(Clone, Copy, PartialEq, Eq)]
+#[derive(Clone, Copy)]
 pub enum Form {
     Words,
     /// Words that are absolute paths.

@@ -6,7 +6,7 @@ use std::alloc::Global;
 use std::collections::BTreeSet;
 
 /// What a case may need to find on the host.
-#[derive(Clone, Copy, PartialEq, Eq)]
+#[derive(Clone, Copy)]
 pub enum Need {
     /// A required file, by its absolute path.
     File,

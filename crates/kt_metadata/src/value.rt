@@ -5,7 +5,7 @@ use kt_base::{Items, NoMemory, Text};
 use std::alloc::Global;
 
 /// The user that a case asks for.
-#[derive(Clone, Copy, PartialEq, Eq)]
+#[derive(Clone, Copy)]
 pub enum User {
     Any,
     Root,

@@ -3,14 +3,14 @@ use kt_child::Polled;
 use std::alloc::Global;
 
 /// How a child lives: how often it is reported to be running, and then how it ended.
-#[derive(Clone, Copy, PartialEq, Eq)]
+#[derive(Clone, Copy)]
 pub struct Life {
     pub running: u32,
     pub ending: Polled,
 }
 
 /// What goes wrong when a file is read in parts, by a system that breaks its promise.
-#[derive(Clone, Copy, PartialEq, Eq)]
+#[derive(Clone, Copy)]
 pub enum PartFault {
     None,
     /// Behind the first part comes one without bytes, and more follow.

@@ -4,7 +4,7 @@ use std::io;
 use std::io::{ErrorKind, Write};
 
 /// How a write fails.
-#[derive(Clone, Copy, PartialEq, Eq)]
+#[derive(Clone, Copy)]
 pub enum WriteFault {
     Broken,
     Interrupted,

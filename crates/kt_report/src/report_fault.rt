@@ -6,7 +6,7 @@ use thiserror::Error;
 
 /// Why a report ends early. A proper prefix of its text was written. A report can't give up on its
 /// own: each fault holds what it was made from, a refusal of memory or a failed write.
-#[derive(Clone, Copy, Debug, PartialEq, Eq, Error)]
+#[derive(Clone, Copy, Debug, Error)]
 pub enum ReportFault {
     #[error("out of memory")]
     NoMemory(NoMemory),

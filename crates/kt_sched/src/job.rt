@@ -31,7 +31,7 @@ pub struct Job {
 }
 
 /// The answer of a launcher to a start.
-#[derive(Clone, Copy, PartialEq, Eq)]
+#[derive(Clone, Copy)]
 pub enum StartAnswer {
     /// With the moment, in milliseconds since 1970 in UTC.
     Started(u64),

@@ -2,7 +2,7 @@ use crate::Ended;
 use kt_base::{Refused, Role};
 
 /// What is to be done next. Positions are those of the plan.
-#[derive(Clone, Copy, PartialEq, Eq)]
+#[derive(Clone, Copy)]
 pub enum Next {
     Start(u32, Role),
     Wait,

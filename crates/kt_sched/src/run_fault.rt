@@ -6,7 +6,7 @@ use kt_base::NoMemory;
 use thiserror::Error;
 
 /// Why a run did not record all of its cases.
-#[derive(Clone, Copy, Debug, PartialEq, Eq, Error)]
+#[derive(Clone, Copy, Debug, Error)]
 pub enum RunFault {
     /// Memory ran out before the first launcher call.
     #[error("out of memory")]

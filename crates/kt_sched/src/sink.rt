@@ -2,7 +2,7 @@ use kt_base::Entry;
 use thiserror::Error;
 
 /// Why an entry was not put.
-#[derive(Clone, Copy, Debug, PartialEq, Eq, Error)]
+#[derive(Clone, Copy, Debug, Error)]
 pub enum SinkFault {
     #[error("out of memory")]
     Memory,

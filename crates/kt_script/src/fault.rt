@@ -6,7 +6,7 @@ use thiserror::Error;
 
 /// Why a text was refused. A number is a line, counted from 1: the line of the token that is at
 /// fault, of what was opened and not closed, or of the statement that was not finished.
-#[derive(Clone, Copy, Debug, PartialEq, Eq, Error)]
+#[derive(Clone, Copy, Debug, Error)]
 #[error("{}", self.words())]
 pub enum ScriptFault {
     NoMemory(NoMemory),

@@ -1,7 +1,7 @@
 use kt_base::Outcome;
 
 /// What became of a declared cleanup.
-#[derive(Clone, Copy, PartialEq, Eq)]
+#[derive(Clone, Copy)]
 pub enum CleanupEnd {
     Refused,
     Ended(Outcome),

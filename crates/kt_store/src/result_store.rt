@@ -2,7 +2,7 @@ use crate::StoreFault;
 use kt_base::{Entry, Output};
 
 /// A run without its entries.
-#[derive(Clone, Copy, PartialEq, Eq)]
+#[derive(Clone, Copy)]
 pub struct RunHead {
     /// Counted from 1.
     pub number: u64,

@@ -17,7 +17,7 @@ const NOT_SUPPORTED: &str = " not supported";
 
 /// Why a tree of Kyuafiles was refused, by the rules of kyuafile(5) and of this profile. `Display`
 /// prints the words of the fault's line (this profile).
-#[derive(Clone, Copy, Debug, PartialEq, Eq, Error)]
+#[derive(Clone, Copy, Debug, Error)]
 #[error("{}", self.words())]
 pub enum SuiteCause {
     /// It has no file and no line.

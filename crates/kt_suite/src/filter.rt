@@ -10,7 +10,7 @@ use thiserror::Error;
 
 /// Why a filter, or a list of them, was refused. A number is a position in the list, from 0. `Display`
 /// prints the words of the fault's line (this profile), which shows the filter itself.
-#[derive(Clone, Copy, Debug, PartialEq, Eq, Error)]
+#[derive(Clone, Copy, Debug, Error)]
 #[error("{}", self.words())]
 pub enum FilterFault {
     NoMemory(NoMemory),

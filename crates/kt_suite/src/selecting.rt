@@ -11,7 +11,7 @@ use std::alloc::Global;
 use thiserror::Error;
 
 /// Why nothing was selected. `Display` prints the words of the fault's line (this profile).
-#[derive(Clone, Copy, Debug, PartialEq, Eq, Error)]
+#[derive(Clone, Copy, Debug, Error)]
 #[error("{}", self.words())]
 pub enum SelectFault {
     NoMemory(NoMemory),

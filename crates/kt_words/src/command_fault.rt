@@ -10,13 +10,13 @@ use std::alloc::Global;
 use thiserror::Error;
 
 /// Memory ran out while words were read. Only a refusal of the allocator, or of `clap`, makes this value.
-#[derive(Clone, Copy, Debug, PartialEq, Eq)]
+#[derive(Clone, Copy, Debug)]
 pub struct Shortage {
     refusal: Refusal,
 }
 
 /// A type of this module alone, so that no other can write a `Shortage`.
-#[derive(Clone, Copy, Debug, PartialEq, Eq)]
+#[derive(Clone, Copy, Debug)]
 struct Refusal;
 
 /// Why a command line was refused. `Display` is the text of the fault line (this profile), or what `clap` says.

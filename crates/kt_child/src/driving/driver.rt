@@ -15,7 +15,7 @@ use std::alloc::Global;
 use thiserror::Error;
 
 /// Why there is no driver. `Display` is the text of the fault line (this profile).
-#[derive(Clone, Copy, Debug, PartialEq, Eq, Error)]
+#[derive(Clone, Copy, Debug, Error)]
 pub enum DriverFault {
     #[error("out of memory")]
     NoMemory(NoMemory),

@@ -5,7 +5,7 @@ pub(crate) mod gathering;
 pub(crate) mod parts;
 
 /// How the reading of a file in parts ended.
-#[derive(Clone, Copy, PartialEq, Eq)]
+#[derive(Clone, Copy)]
 pub(crate) enum ReadEnd {
     /// There is no such file.
     Missing,

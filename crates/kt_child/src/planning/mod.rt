@@ -8,7 +8,7 @@ use crate::{Child, EnvPlan, Paths};
 use kt_base::{Interface, Items, Role, Text, Variables};
 
 /// What an ATF program is started for (atf-test-program(1)).
-#[derive(Clone, Copy, PartialEq, Eq)]
+#[derive(Clone, Copy)]
 pub enum Want {
     /// The list of its test cases.
     List,

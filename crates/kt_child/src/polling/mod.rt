@@ -6,7 +6,7 @@ use crate::planning::Case;
 use kt_base::Outcome;
 
 /// What is kept of a running child's answers. The deadline is counted in polls, of which there are 100 a second.
-#[derive(Clone, Copy, PartialEq, Eq)]
+#[derive(Clone, Copy)]
 pub(crate) struct Watch {
     /// How often it was running before a kill.
     pub before: u64,
@@ -25,7 +25,7 @@ pub(crate) struct Watched {
 }
 
 /// What a poll makes of a child.
-#[derive(Clone, Copy, PartialEq, Eq)]
+#[derive(Clone, Copy)]
 pub(crate) enum Turn {
     /// It is not over.
     More,

@@ -71,7 +71,7 @@ fn still_running<O: Os>(os: &mut O, child: Child, limit: u64, watch: &mut Watch)
 }
 
 /// The child that is over, by its place among the running children.
-#[derive(Clone, Copy, PartialEq, Eq)]
+#[derive(Clone, Copy)]
 pub(crate) struct Over {
     pub place: usize,
     pub outcome: Outcome,

@@ -10,7 +10,7 @@ use kt_base::{Bytes, Items, NoMemory, Role, Text, Variables};
 use thiserror::Error;
 
 /// Why a call to the system failed.
-#[derive(Clone, Copy, Debug, PartialEq, Eq, Error)]
+#[derive(Clone, Copy, Debug, Error)]
 pub enum OsFault {
     /// Any other cause. It makes no difference, so it isn't kept.
     #[error("system call failed")]
@@ -55,7 +55,7 @@ pub enum FileRead {
 }
 
 /// The state of a child, as the system reports it.
-#[derive(Clone, Copy, PartialEq, Eq)]
+#[derive(Clone, Copy)]
 pub enum Polled {
     Running,
     /// It ended by itself, with this exit status.

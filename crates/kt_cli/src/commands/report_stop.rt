@@ -7,7 +7,7 @@ use kt_report::ReportFault;
 use kt_store::StoreFault;
 
 /// Why no run is shown.
-#[derive(Clone, Copy, PartialEq, Eq)]
+#[derive(Clone, Copy)]
 pub enum NotShown {
     /// There is no run.
     NoRuns,
@@ -18,7 +18,7 @@ pub enum NotShown {
 }
 
 /// Why a JUnit report ends early.
-#[derive(Clone, Copy, PartialEq, Eq)]
+#[derive(Clone, Copy)]
 pub enum JunitStop {
     /// The store refused the outputs of an entry.
     Refused(StoreFault),

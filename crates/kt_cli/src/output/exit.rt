@@ -7,7 +7,7 @@ use kt_base::OutputFault;
 pub const FAILED: u8 = 2;
 
 /// How a command ends, as kyua(1) has it.
-#[derive(Clone, Copy, PartialEq, Eq)]
+#[derive(Clone, Copy)]
 pub struct Exit {
     /// 0 if all is well, 1 if a case is bad, 2 if something failed, 3 for a wrong command line.
     pub status: u8,

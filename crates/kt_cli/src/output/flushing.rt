@@ -3,13 +3,13 @@ ghost use Rattle.kt_cli.specs.Common.{Keeps};
 use std::io::Write;
 
 /// A writer refused to flush. Only `flush_own` makes this value, after such a flush.
-#[derive(Clone, Copy, PartialEq, Eq)]
+#[derive(Clone, Copy)]
 pub struct FlushFault {
     flush: FailedFlush,
 }
 
 /// A type of this module alone, so that no other can write a `FlushFault`.
-#[derive(Clone, Copy, PartialEq, Eq)]
+#[derive(Clone, Copy)]
 struct FailedFlush;
 
 /// Asks a writer to flush itself.

@@ -6,7 +6,7 @@ pub(crate) mod trees;
 use thiserror::Error;
 
 /// Why a call of the store is refused. `Display` is the text of the fault line (this profile).
-#[derive(Clone, Copy, Debug, PartialEq, Eq, Error)]
+#[derive(Clone, Copy, Debug, Error)]
 pub enum StoreFault {
     #[error("out of memory")]
     NoMemory(Shortage),
@@ -36,7 +36,7 @@ pub enum StoreFault {
 }
 
 /// Memory ran out. Only a refusal of the allocator, or of SQLite, makes this value.
-#[derive(Clone, Copy, Debug, PartialEq, Eq)]
+#[derive(Clone, Copy, Debug)]
 pub struct Shortage {
     refusal: Refusal,
 }
@@ -44,13 +44,13 @@ pub struct Shortage {
 /// A statement failed, a value of a row could not be read, the file could not be opened or closed, or the connection
 /// is in a transaction, a tree is damaged, or the database is only read. Only the functions of `statements` and `trees`
 /// make this value.
-#[derive(Clone, Copy, Debug, PartialEq, Eq)]
+#[derive(Clone, Copy, Debug)]
 pub struct FailedStatement {
     cause: Cause,
 }
 
 /// What a failed statement comes from.
-#[derive(Clone, Copy, Debug, PartialEq, Eq)]
+#[derive(Clone, Copy, Debug)]
 enum Cause {
     /// SQLite returned an error.
     Reported,
@@ -63,5 +63,5 @@ enum Cause {
 }
 
 /// A type of this module, of `statements` and of `trees`, so that no other can write a `Shortage`.
-#[derive(Clone, Copy, Debug, PartialEq, Eq)]
+#[derive(Clone, Copy, Debug)]
 struct Refusal;
