@@ -53,7 +53,6 @@ pub use Rattle.kt_cli.specs.CaseLines.{case_line}
 pub use Rattle.kt_cli.specs.Debugging.{all_debug_bytes, debug_bytes, debug_exit}
 pub use Rattle.kt_cli.specs.FaultLines.{memory_line, refusal_line}
 pub use Rattle.kt_cli.specs.HostAnswers.{HostStarts, HostWaits, IsHostAnswer, IsLook, host_world, look_kept, running_kept}
-pub use Rattle.kt_cli.specs.Hosts.{NoDriver, NoRoot, no_world, none_made, not_absolute}
 pub use Rattle.kt_cli.specs.Inner.Debugging.{DebugEnds, Debugged, Prints}
 pub use Rattle.kt_cli.specs.Inner.FaultLines.{run_line}
 pub use Rattle.kt_cli.specs.Inner.MemoryRuns.{FindsPlace, ServesInMemory, closing_refusal, entry_refusal, place_among}
@@ -67,7 +66,7 @@ pub use Rattle.kt_cli.specs.Machines.{InDirectory, MachineAnswer, Searched, dire
 pub use Rattle.kt_cli.specs.Meaning.{AsksFirst, Course, CutShort, Did, IsAskedOnly, IsPrepared, IsUnasked, Means, Seen, cut, debugged, idle, junit_cut, listed, listing, listing_exit, no_memory, preparing, report_cut, reported, reported_junit, selecting, stopped, taken, tested}
 pub use Rattle.kt_cli.specs.MemoryRuns.{LeavesInMemory, memory_runs}
 pub use Rattle.kt_cli.specs.Pages.{Printed}
-pub use Rattle.kt_cli.specs.Performing.{DoneBy, DoneIn, DoneOver, Program, State, alone, closed, done, no_driver, no_place, not_opened, program, state}
+pub use Rattle.kt_cli.specs.Performing.{DoneBy, DoneIn, DoneOver, NoDriver, NoRoot, Program, State, alone, closed, done, no_driver, no_place, no_world, none_made, not_absolute, not_opened, program, state}
 pub use Rattle.kt_cli.specs.Recordings.{AllRecorded, IsStopped}
 pub use Rattle.kt_cli.specs.Reports.{JunitCut, Reported, ReportedJunit, Unread, asked_outputs, chosen, filled, no_outputs, no_run, run_of, told}
 pub use Rattle.kt_cli.specs.Scenes.{Scene, World, launcher_of, scene, world_of}

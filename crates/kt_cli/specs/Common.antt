@@ -25,7 +25,6 @@ pub use Rattle.kt_cli.specs.Closings.{Concluded}
 pub use Rattle.kt_cli.specs.Debugging.{debug_bytes}
 pub use Rattle.kt_cli.specs.FaultLines.{memory_line, refusal_line, store_line}
 pub use Rattle.kt_cli.specs.HostAnswers.{HostStarts, HostWaits, IsHostAnswer, look_kept, running_kept}
-pub use Rattle.kt_cli.specs.Hosts.{IsMade, NoDriver, NoRoot, OnDriver}
 pub use Rattle.kt_cli.specs.Inner.Debugging.{Debugged, Prints}
 pub use Rattle.kt_cli.specs.Inner.FaultLines.{run_line}
 pub use Rattle.kt_cli.specs.Inner.HostFiles.{may_execute}
@@ -41,7 +40,7 @@ pub use Rattle.kt_cli.specs.LineOutputs.{HandedOn, given_bytes, has_failed, is_b
 pub use Rattle.kt_cli.specs.Machines.{longest_path, read_limit}
 pub use Rattle.kt_cli.specs.Meaning.{CutShort, Did, Means, Seen}
 pub use Rattle.kt_cli.specs.Pages.{Printed}
-pub use Rattle.kt_cli.specs.Performing.{CarriedOut, DoneIn, DoneOver, Flushed, Performed, Rejected, program, state}
+pub use Rattle.kt_cli.specs.Performing.{CarriedOut, DoneIn, DoneOver, Flushed, IsMade, NoDriver, NoRoot, OnDriver, Performed, Rejected, program, state}
 pub use Rattle.kt_cli.specs.Places.{absolute, source_directory}
 pub use Rattle.kt_cli.specs.Refused.{Refused, command_exit, command_text, driver_line, failure_exit}
 pub use Rattle.kt_cli.specs.Reports.{Reported, ReportedJunit, Unread, chosen}

@@ -4,7 +4,6 @@ pub mod Closings
 pub mod Debugging
 pub mod FaultLines
 pub mod HostAnswers
-pub mod Hosts
 pub mod Inner
 pub mod LineOutputs
 pub mod Machines
