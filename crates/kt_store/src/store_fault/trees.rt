@@ -78,11 +78,12 @@ pub(crate) fn columns_of(
 }
 
 /// The same, as a query shows them.
-fn shown(alloc: Global, row: &row::Row, columns: &[usize]) -> Result<Row, NoMemory>
-    ensures { IfOk result (λ shown. shown ≡ in_columns columns.now row.now) }
+fn shown<T: FromRow>(alloc: Global, row: &row::Row, columns: &[usize]) -> Result<T, NoMemory>
+    ensures { IfOk result (λ shown. shown
+        ≡ T.FromRow.from_row_gives (in_columns columns.now row.now)) }
 {
     let values = columns_of(alloc, row, columns)?;
-    Ok(Row::from_row(alloc, &values)?)
+    Ok(T::from_row(alloc, &values)?)
 }
 
 /// The rowid that a place of an index ends with.
@@ -224,12 +225,13 @@ pub(crate) fn rows_in<S: Store>(
 }
 
 /// These columns of each of these rows.
-pub(crate) fn all_shown(
+pub(crate) fn all_shown<T: FromRow>(
     alloc: Global,
     rows: &[row::Row],
     columns: &[usize],
-) -> Result<Vec<Row>, NoMemory>
-    ensures { IfOk result (λ found. found.items ≡ map (in_columns columns.now) rows.now) }
+) -> Result<Vec<T>, NoMemory>
+    ensures { IfOk result (λ found. found.items
+        ≡ map (λ row. T.FromRow.from_row_gives (in_columns columns.now row)) rows.now) }
 {
     let mut found = Vec::new(alloc);
     for row in rows {
