@@ -23,14 +23,10 @@ use std::alloc::Global;
 use std::cmp::Ordering;
 
 /// A tree has another shape than that of its number, or a place of an index has no row.
-pub(crate) const DAMAGED: StoreFault = StoreFault::Store(FailedStatement {
-    cause: Cause::Damaged,
-});
+pub(crate) const DAMAGED: StoreFault = StoreFault::Store(FailedStatement(Cause::Damaged));
 
 /// The database is only read.
-pub(crate) const READ_ONLY: StoreFault = StoreFault::Store(FailedStatement {
-    cause: Cause::ReadOnly,
-});
+pub(crate) const READ_ONLY: StoreFault = StoreFault::Store(FailedStatement(Cause::ReadOnly));
 
 /// A table and the index of its key, with the columns of the key and those that are blobs.
 pub(crate) struct Table<'a> {
@@ -45,10 +41,8 @@ impl From<StoreError> for StoreFault {
 
     fn from(error: StoreError) -> StoreFault {
         match error {
-            StoreError::OutOfMemory => StoreFault::NoMemory(Shortage { refusal: Refusal }),
-            _ => StoreFault::Store(FailedStatement {
-                cause: Cause::Reported,
-            }),
+            StoreError::OutOfMemory => StoreFault::NoMemory(Shortage(Refusal)),
+            _ => StoreFault::Store(FailedStatement(Cause::Reported)),
         }
     }
 }
