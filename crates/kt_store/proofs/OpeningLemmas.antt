@@ -1,5 +1,7 @@
 -- A file that holds runs lists the schema of their tables.
-use Rattle.std.proofs.Common.{◌≡◌, ◌≢◌, ◌%◌, ◌-◌, ℕ, pos, true, List, [], ◌∷◌, map, Some, IsTrue, refl, sym, ap, ap₂, subst, ◌∙◌}
+use Rattle.std.proofs.Common.{◌≡◌, ◌≢◌, ◌%◌, ◌-◌, ℕ, pos, true, List, [], ◌∷◌, map, Option, Some, Result, Ok, Err, IfSome, IsTrue, refl, sym, ap, ap₂, subst, ◌∙◌}
+use Rattle.std.proofs.lemmas.Option.{none-some, same_Some}
+use Rattle.std.specs.Result.{result_ok}
 use Rattle.kt_store.proofs.Common.{AllByRecursion, AreOrdered, IsRun, map-map, Int, Row, Trees, Run, Keeps, rowid, schema_2, meta_1, entries_1, props_1, plain, Value, Table}
 use Rattle.sqlite_wal.specs.Recovery.{Image}
 use Rattle.sqlite_pages.specs.PageMap.{PageMap}
@@ -30,6 +32,15 @@ use Rattle.sqlite.specs.Files.{over_files}
 use Rattle.kt_store.specs.Inner.Cursors.{Looks}
 use Rattle.kt_store.specs.Inner.Opening.{OpensOver}
 use Rattle.kt_store.specs.Seeks.{ReadsRuns}
+
+-- a result that was taken as an option
+pub ok_is : {T E : Type 0} (r : Result T E) (o : Option T) (x : T) → o ≡ result_ok r → o ≡ Some x → r ≡ Ok x
+ok_is (Ok y) o x is some = ap Ok (same_Some y x (sym is ∙ some))
+ok_is (Err e) o x is some = absurd (none-some x (sym is ∙ some))
+
+pub if_some : {T E : Type 0} (P : T → Type 0) (r : Result T E) (o : Option T) → o ≡ result_ok r → ((x : T) → r ≡ Ok x → P x) → IfSome o P
+if_some P (Ok y) o is each = subst (λ p. IfSome p P) (sym is) (each y refl)
+if_some P (Err e) o is each = subst (λ p. IfSome p P) (sym is) tt
 
 -- the rowids of the objects
 abbrev pub ids : List Value

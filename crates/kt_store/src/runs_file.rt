@@ -1,5 +1,5 @@
-ghost use Rattle.std.specs.Prelude.{◌≡◌, [], ◌∷◌, map, pos, IfOk, IfSome, IsTrue};
-ghost use Rattle.kt_store.specs.Common.{Int, Looks, ListsRuns, ReadsRuns, image_at, in_columns, column};
+ghost use Rattle.std.specs.Prelude.{◌≡◌, [], ◌∷◌, map, pos, IfSome, IsTrue};
+ghost use Rattle.kt_store.specs.Common.{Int, Looks, ListsRuns, ReadsRuns, image_at, column};
 ghost use Rattle.sqlite_trees.specs.Tree.{Trees, rowid};
 ghost use Rattle.sqlite_wal.specs.PageSize.{bytes_of};
 ghost use Rattle.sqlite_wal.specs.Reads.{AreClean, OnlyReads};
@@ -9,8 +9,8 @@ ghost use Rattle.sqlite.specs.Files.{HoldsDatabase, image_of};
 use crate::attach::{CREATE_ENTRIES, CREATE_META, CREATE_PROPS, CREATE_RUNS};
 use crate::new_file::{beside, may_have_frames};
 use crate::seeks::RUNS;
-use crate::store_fault::trees::columns_of;
-use kt_base::{NoMemory, Text};
+use crate::store_fault::trees::all_shown;
+use kt_base::Text;
 use sqlite::{FileFrom, Start};
 use sqlite_disk::{Disk, Files};
 use sqlite_exec::check::all_rows;
@@ -47,14 +47,10 @@ pub(crate) fn is_path(path: &str) -> bool {
 }
 
 /// Whether this is a file that is not empty, and whose log has no frame.
-fn is_settled<R: FileSystem>(rt: &R, file: &Text) -> bool {
-    let Ok(log) = beside(file, "-wal") else {
-        return false;
-    };
-    let Ok(found) = fs::symlink_metadata(rt, file.as_str()) else {
-        return false;
-    };
-    found.is_file() && found.len() > 0 && !may_have_frames(rt, log.as_str())
+fn is_settled<R: FileSystem>(rt: &R, file: &Text) -> Option<bool> {
+    let log = beside(file, "-wal").ok()?;
+    let found = fs::symlink_metadata(rt, file.as_str()).ok()?;
+    Some(found.is_file() && found.len() > 0 && !may_have_frames(rt, log.as_str()))
 }
 
 /// Options with a number of pages that are kept in memory; none if there is no random number.
@@ -74,13 +70,9 @@ fn plain_size<D: Disk>(alloc: Global, files: &mut Files<D>) -> Option<PageSize>
     ensures log { OnlyReads D.Disk files.old.log files.new.log }
     ensures db { OnlyReads D.Disk files.old.db files.new.db }
 {
-    let Ok(found) = probe_page_size(files) else {
-        return None;
-    };
+    let found = probe_page_size(files).ok()?;
     let size = found?;
-    let Ok(head) = probe_first_page(alloc, files, size) else {
-        return None;
-    };
+    let head = probe_first_page(alloc, files, size).ok()?;
     if head.0 != b'S' || head.1 == WITH_SUMS {
         return None;
     }
@@ -98,18 +90,6 @@ fn unopened<D: Disk + Drop>(
 {
     let pager = Pager::new(alloc, files, size, options).ok()?;
     Unopened::with_sums(alloc, pager, &[], false).ok()
-}
-
-/// The rows of `sqlite_schema` less their roots.
-fn without_roots(alloc: Global, listed: &[Row]) -> Result<Vec<Row>, NoMemory>
-    ensures { IfOk result (λ rows. rows.items
-        ≡ map (in_columns (0 ∷ 1 ∷ 2 ∷ 3 ∷ 5 ∷ [])) listed.now) }
-{
-    let mut rows = Vec::new(alloc);
-    for entry in listed {
-        rows.push(columns_of(alloc, entry, &[0, 1, 2, 3, 5])?)?;
-    }
-    Ok(rows)
 }
 
 /// Whether a row is of an object with this rowid, name, table and text. The index of a key has no text.
@@ -147,67 +127,42 @@ fn are_objects(rows: &[Row]) -> bool
 }
 
 /// Gives the files the schema that they list, if that is schema 2.
-fn list_schema<D: Disk>(alloc: Global, files: &mut Unopened<D>) -> bool
+fn list_schema<D: Disk>(alloc: Global, files: &mut Unopened<D>) -> Option<bool>
     requires { AreUsable files.old }
-    ensures usable { IsTrue result → AreUsable files.new }
-    ensures lists { IsTrue result → IsTrue (state_of files.new).is_clean
-        → ListsRuns files.old files.new }
+    ensures usable { IfSome result (λ it. IsTrue it → AreUsable files.new) }
+    ensures lists { IfSome result (λ it. IsTrue it → IsTrue (state_of files.new).is_clean
+        → ListsRuns files.old files.new) }
 {
-    let Ok(listed) = files.read_catalog() else {
-        return false;
-    };
-    let Ok(rows) = without_roots(alloc, listed.as_slice()) else {
-        return false;
-    };
+    let listed = files.read_catalog().ok()?;
+    let rows = all_shown(alloc, listed.as_slice(), &[0, 1, 2, 3, 5]).ok()?;
     if !are_objects(rows.as_slice()) || rows.len() != 7 {
-        return false;
+        return Some(false);
     }
-    let Ok(is_listed) = files.list_schema(rows.as_slice(), &LAYOUTS) else {
-        return false;
-    };
-    is_listed
+    files.list_schema(rows.as_slice(), &LAYOUTS).ok()
 }
 
-/// Whether the tables say that they are those of schema 2.
-fn says_2<S: Store>(store: &mut S, alloc: Global) -> bool
+/// Whether the tables say that they are those of schema 2, and the runs are numbered from 1, each finished or not.
+fn is_schema_2<S: Store>(store: &mut S, alloc: Global) -> Option<bool>
     ensures { Looks S.Store store.old store.new }
 {
-    let Ok(rows) = all_rows(store, &mut Workspace::new(alloc), META) else {
-        return false;
-    };
-    let [row] = rows.as_slice() else {
-        return false;
-    };
-    is_same(row.get(1), ValueRef::Text(b"schema")) && is_same(row.get(2), ValueRef::Int(2))
-}
-
-/// Whether the runs are numbered from 1, each finished or not.
-fn are_numbered<S: Store>(store: &mut S, alloc: Global) -> bool
-    ensures { Looks S.Store store.old store.new }
-{
-    let Ok(rows) = all_rows(store, &mut Workspace::new(alloc), RUNS) else {
-        return false;
-    };
+    let settings = all_rows(store, &mut Workspace::new(alloc), META).ok()?;
+    let runs = all_rows(store, &mut Workspace::new(alloc), RUNS).ok()?;
     let mut number = 0i64;
-    for row in rows.as_slice() {
+    for run in runs.as_slice() {
         number = number.wrapping_add(1);
-        if !is_same(row.get(0), ValueRef::Int(number))
-            || !matches!(row.get(4), ValueRef::Int(0 | 1))
+        if !is_same(run.get(0), ValueRef::Int(number))
+            || !matches!(run.get(4), ValueRef::Int(0 | 1))
         {
-            return false;
+            return Some(false);
         }
     }
-    true
-}
-
-/// A store whose tables are plainly those of schema 2, with their runs in turn.
-fn of_schema_2<S: Store + Drop>(alloc: Global, mut store: S) -> Option<S>
-    ensures { IfSome result (Looks S.Store store) }
-{
-    if !says_2(&mut store, alloc) || !are_numbered(&mut store, alloc) {
-        return None;
-    }
-    Some(store)
+    let [schema] = settings.as_slice() else {
+        return Some(false);
+    };
+    Some(
+        is_same(schema.get(1), ValueRef::Text(b"schema"))
+            && is_same(schema.get(2), ValueRef::Int(2)),
+    )
 }
 
 /// Opens files that plainly hold a database of schema 2, in pages that end in no sums. Their log is recovered.
@@ -223,13 +178,13 @@ fn runs_over<D: Disk + Drop>(
     let mut pair = files;
     let size = plain_size(alloc, &mut pair)?;
     let mut fresh = unopened(alloc, pair, size, options)?;
-    if !list_schema(alloc, &mut fresh) {
+    if !list_schema(alloc, &mut fresh)? {
         return None;
     }
-    let Ok(opened) = fresh.open_numbered() else {
+    let mut store = fresh.open_numbered().ok()?;
+    if !is_schema_2(&mut store, alloc)? {
         return None;
-    };
-    let store = of_schema_2(alloc, opened)?;
+    }
     Some(store)
 }
 
@@ -246,13 +201,10 @@ pub fn open_alone<S: Start>(
 ) -> Option<FileStore<FileFrom<S>>>
     ensures { IfSome result (ReadsRuns (image_at S.Start)) }
 {
-    if !is_path(file.as_str()) || !is_settled(rt, file) {
+    if !is_path(file.as_str()) || !is_settled(rt, file)? {
         return None;
     }
-    let Ok(files) = sqlite_std_file::open(rt, file.as_str(), start) else {
-        return None;
-    };
+    let files = sqlite_std_file::open(rt, file.as_str(), start).ok()?;
     let options = options(rt, PAGES)?;
-    let store = runs_over(rt.alloc(), files, options)?;
-    Some(store)
+    runs_over(rt.alloc(), files, options)
 }

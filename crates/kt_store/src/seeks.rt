@@ -1,5 +1,5 @@
-ghost use Rattle.std.specs.Prelude.{◌≡◌, ◌⊎◌, ◌<◌, ◌≤◌, ◌^◌, map, Some, None, IfOk, IfErr, OnOk};
-ghost use Rattle.kt_store.specs.Common.{Run, HasRuns, IsStoreFault, Looks, Serves, Heads, Outline, Outputs, entries_of, last_run, outlined, run_at, seen_as};
+ghost use Rattle.std.specs.Prelude.{◌≡◌, ◌<◌, ◌^◌, map, IfOk, IfErr};
+ghost use Rattle.kt_store.specs.Common.{HasRuns, IsStoreFault, Looks, Serves, Heads, Outline, Outputs, entries_of, outlined, run_at, seen_as};
 ghost use Rattle.kt_store.specs.Known.{readings};
 ghost use Rattle.sqlite_trees.specs.View.{IsClean};
 
@@ -46,31 +46,6 @@ pub(crate) fn heads<S: Store>(store: &mut S, alloc: Global) -> Result<Vec<RunHea
     Ok(heads)
 }
 
-/// Refuses a number that no run has.
-fn look<S: Store>(store: &mut S, alloc: Global, run: u64) -> Result<(), StoreFault>
-    ensures small { OnOk result (run ≤ last_run) }
-    ensures found { (runs : _) → HasRuns (S.Store.view store.old) runs
-        → IsClean (S.Store.view store.new)
-        → OnOk result ((r : Run) × (run_at runs run ≡ Some r)) }
-    ensures refused { (runs : _) → HasRuns (S.Store.view store.old) runs
-        → IsClean (S.Store.view store.new) → IfErr result (λ e. IsStoreFault e
-        ⊎ ((e ≡ StoreFault.NoRun) × (run_at runs run ≡ None))) }
-    ensures looks { Looks S.Store store.old store.new }
-{
-    let number = key(run);
-    if store.shape(RUNS) != Shape::Table {
-        return Err(DAMAGED);
-    }
-    let mut row = row::Row::new(alloc);
-    if !store.get(RUNS, number as i64, &mut row)? {
-        return Err(StoreFault::NoRun);
-    }
-    if number != run {
-        return Err(StoreFault::NoRun);
-    }
-    Ok(())
-}
-
 /// The entries of a run without their outputs, by position, with their pairs if they are asked for.
 fn all_entries<S: Store>(
     store: &mut S,
@@ -105,7 +80,14 @@ pub(crate) fn outline<S: Store>(
     ensures { Serves (readings S.Store) (Outline run pairs (seen_as (λ found. found.items) result))
         store.old store.new }
 {
-    look(store, alloc, run)?;
+    let number = key(run);
+    if store.shape(RUNS) != Shape::Table {
+        return Err(DAMAGED);
+    }
+    let mut row = row::Row::new(alloc);
+    if !store.get(RUNS, number as i64, &mut row)? || number != run {
+        return Err(StoreFault::NoRun);
+    }
     let found = all_entries(store, alloc, run, pairs)?;
     Ok(found)
 }
@@ -124,12 +106,11 @@ pub(crate) fn find_outputs<S: Store>(
     add_number(&mut place, number)?;
     add_number(&mut place, u64::from(position))?;
     let rows = rows_behind(store, alloc, &ENTRIES, &place, &[9, 10, 11, 12])?;
-    let Some(row) = rows.first() else {
-        return Err(StoreFault::NoRun);
-    };
-    if number != run {
-        return Err(StoreFault::NoRun);
+    match rows.first() {
+        Some(row) if number == run => {
+            let outputs = outputs_in(row)?;
+            Ok(outputs)
+        }
+        _ => Err(StoreFault::NoRun),
     }
-    let outputs = outputs_in(row)?;
-    Ok(outputs)
 }

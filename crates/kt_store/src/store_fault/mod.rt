@@ -37,17 +37,13 @@ pub enum StoreFault {
 
 /// Memory ran out. Only a refusal of the allocator, or of SQLite, makes this value.
 #[derive(Clone, Copy, Debug)]
-pub struct Shortage {
-    refusal: Refusal,
-}
+pub struct Shortage(Refusal);
 
 /// A statement failed, a value of a row could not be read, the file could not be opened or closed, or the connection
 /// is in a transaction, a tree is damaged, or the database is only read. Only the functions of `statements` and `trees`
 /// make this value.
 #[derive(Clone, Copy, Debug)]
-pub struct FailedStatement {
-    cause: Cause,
-}
+pub struct FailedStatement(Cause);
 
 /// What a failed statement comes from.
 #[derive(Clone, Copy, Debug)]

@@ -18,7 +18,7 @@ impl From<NoMemory> for StoreFault {
     ghost from_gives = { λ _ fault. IsNoMemory fault };
 
     fn from(_refusal: NoMemory) -> StoreFault {
-        StoreFault::NoMemory(Shortage { refusal: Refusal })
+        StoreFault::NoMemory(Shortage(Refusal))
     }
 }
 
@@ -27,12 +27,8 @@ fn fault_of(error: SqlError) -> StoreFault
     ensures { Tells error result }
 {
     match error {
-        SqlError::SqliteFailure(ErrorCode::OutOfMemory) => {
-            StoreFault::NoMemory(Shortage { refusal: Refusal })
-        }
-        _ => StoreFault::Store(FailedStatement {
-            cause: Cause::Reported,
-        }),
+        SqlError::SqliteFailure(ErrorCode::OutOfMemory) => StoreFault::NoMemory(Shortage(Refusal)),
+        _ => StoreFault::Store(FailedStatement(Cause::Reported)),
     }
 }
 
@@ -189,9 +185,7 @@ pub(crate) fn commit<S: Alter, B: Batch>(
         (MayCommit S.Store (B.statements batch.now) conn.old) }
 {
     if !conn.is_autocommit() {
-        return Err(StoreFault::Store(FailedStatement {
-            cause: Cause::InTransaction,
-        }));
+        return Err(StoreFault::Store(FailedStatement(Cause::InTransaction)));
     }
     let mut tx = conn.transaction();
     batch.fill(&mut tx)?;
@@ -205,9 +199,7 @@ pub(crate) fn commit<S: Alter, B: Batch>(
 const PAGES: usize = 1_100;
 
 /// A database that can't be opened.
-const NOT_OPENED: StoreFault = StoreFault::Store(FailedStatement {
-    cause: Cause::Reported,
-});
+const NOT_OPENED: StoreFault = StoreFault::Store(FailedStatement(Cause::Reported));
 
 /// The fault of files that can't be opened.
 fn unopened(error: &OpenError) -> StoreFault
@@ -219,7 +211,7 @@ fn unopened(error: &OpenError) -> StoreFault
         OpenError::Busy | OpenError::HotJournal => false,
     };
     if is_short {
-        StoreFault::NoMemory(Shortage { refusal: Refusal })
+        StoreFault::NoMemory(Shortage(Refusal))
     } else {
         NOT_OPENED
     }

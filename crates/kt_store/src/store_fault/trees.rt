@@ -23,14 +23,10 @@ use std::alloc::Global;
 use std::cmp::Ordering;
 
 /// A tree has another shape than that of its number, or a place of an index has no row.
-pub(crate) const DAMAGED: StoreFault = StoreFault::Store(FailedStatement {
-    cause: Cause::Damaged,
-});
+pub(crate) const DAMAGED: StoreFault = StoreFault::Store(FailedStatement(Cause::Damaged));
 
 /// The database is only read.
-pub(crate) const READ_ONLY: StoreFault = StoreFault::Store(FailedStatement {
-    cause: Cause::ReadOnly,
-});
+pub(crate) const READ_ONLY: StoreFault = StoreFault::Store(FailedStatement(Cause::ReadOnly));
 
 /// A table and the index of its key, with the columns of the key and those that are blobs.
 pub(crate) struct Table<'a> {
@@ -45,10 +41,8 @@ impl From<StoreError> for StoreFault {
 
     fn from(error: StoreError) -> StoreFault {
         match error {
-            StoreError::OutOfMemory => StoreFault::NoMemory(Shortage { refusal: Refusal }),
-            _ => StoreFault::Store(FailedStatement {
-                cause: Cause::Reported,
-            }),
+            StoreError::OutOfMemory => StoreFault::NoMemory(Shortage(Refusal)),
+            _ => StoreFault::Store(FailedStatement(Cause::Reported)),
         }
     }
 }
@@ -78,11 +72,12 @@ pub(crate) fn columns_of(
 }
 
 /// The same, as a query shows them.
-fn shown(alloc: Global, row: &row::Row, columns: &[usize]) -> Result<Row, NoMemory>
-    ensures { IfOk result (λ shown. shown ≡ in_columns columns.now row.now) }
+fn shown<T: FromRow>(alloc: Global, row: &row::Row, columns: &[usize]) -> Result<T, NoMemory>
+    ensures { IfOk result (λ shown. shown
+        ≡ T.FromRow.from_row_gives (in_columns columns.now row.now)) }
 {
     let values = columns_of(alloc, row, columns)?;
-    Ok(Row::from_row(alloc, &values)?)
+    Ok(T::from_row(alloc, &values)?)
 }
 
 /// The rowid that a place of an index ends with.
@@ -224,12 +219,13 @@ pub(crate) fn rows_in<S: Store>(
 }
 
 /// These columns of each of these rows.
-pub(crate) fn all_shown(
+pub(crate) fn all_shown<T: FromRow>(
     alloc: Global,
     rows: &[row::Row],
     columns: &[usize],
-) -> Result<Vec<Row>, NoMemory>
-    ensures { IfOk result (λ found. found.items ≡ map (in_columns columns.now) rows.now) }
+) -> Result<Vec<T>, NoMemory>
+    ensures { IfOk result (λ found. found.items
+        ≡ map (λ row. T.FromRow.from_row_gives (in_columns columns.now row)) rows.now) }
 {
     let mut found = Vec::new(alloc);
     for row in rows {

@@ -1,7 +1,8 @@
-use Rattle.std.proofs.Common.{ℕ, Bool, cond, List, ap₂, subst}
+use Rattle.std.proofs.Common.{IfSome, ℕ, Bool, cond, List, ap₂, subst}
 use Rattle.sqlite_disk.specs.Events.{Event, replay}
 use Rattle.sqlite_wal.specs.Recovery.{Image}
 use Rattle.kt_store.specs.Seeks.{ReadsRuns}
+use Rattle.kt_store.proofs.OpeningLemmas.{ok_is}
 use Rattle.kt_store.proofs.runs_file.open_alone.Goals as goal
 
 abbrev image : List ℕ → List ℕ → Image
@@ -12,6 +13,7 @@ seen log db is_log history = (replay (cond is_log log db) history).seen
 
 pub returns : goal.returns
 returns g c =
-    let (log, db) = c.in-Ok.ensures.fresh in
+    let ok = ok_is c.open.result c.ok.result c.in_ok-files.files c.ok.ensures.value c.in_ok-files.was in
+    let (log, db) = rw ok at c.open.ensures.fresh in
     let same = ap₂ image (ap₂ (seen g.S.Start.log g.S.Start.db) log.0 log.1) (ap₂ (seen g.S.Start.log g.S.Start.db) db.0 db.1) in
-    subst (λ i. ReadsRuns i c.in_ok-store.store) same c.in_ok-store.ensures
+    subst (λ i. IfSome c.runs_over.result (ReadsRuns i)) same c.runs_over.ensures

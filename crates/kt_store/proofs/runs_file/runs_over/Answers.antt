@@ -1,4 +1,4 @@
-use Rattle.std.proofs.Common.{◌≡◌, ◌≢◌, ◌%◌, refl, sym, ap, ap₂, subst, subst₂, ◌∙◌, arith}
+use Rattle.std.proofs.Common.{◌≡◌, ◌≢◌, ◌%◌, sym, ap, ap₂, subst, subst₂, ◌∙◌, arith}
 use Rattle.std.proofs.lemmas.Bool.{cond-true}
 use Rattle.kt_store.proofs.Common.{Keeps}
 use Rattle.sqlite_wal.specs.Files.{seen_image}
@@ -18,40 +18,43 @@ use Rattle.sqlite.proofs.FileLemmas.{same_image}
 use Rattle.sqlite.proofs.OpenLemmas.{pool_files}
 use Rattle.kt_store.specs.Inner.Opening.{OpensOver}
 use Rattle.kt_store.specs.Seeks.{HoldsRuns}
-use Rattle.kt_store.proofs.OpeningLemmas.{reads_runs, still_over, without_sums}
+use Rattle.kt_store.proofs.OpeningLemmas.{ok_is, reads_runs, still_over, without_sums}
 use Rattle.kt_store.proofs.runs_file.runs_over.Goals as goal
 
 pub returns : goal.returns
 returns g c =
     let start = image_of g.D.Disk c.args.files in
-    let store = c.in-Ok.opened in
-    let last = c.in_ok-store.store in
-    let looks = c.in_ok-store.ensures in
+    let store = c.in_ok-store.store in
+    let ok = ok_is c.open_numbered.result c.ok.result store c.ok.ensures.value c.in_ok-store.was in
+    let last = c.is_schema_2.new.store in
+    let looks = c.is_schema_2.ensures in
     reads_runs start last (λ clean.
     let late = no_doubt _ clean in
     let now = clean_of _ (looks.clean late) in
     let fresh = c.in_ok-fresh.fresh in
     let made = c.in_ok-fresh.ensures in
     let mid = c.list_schema.new.files in
-    let it = c.in-Ok.ensures in
-    let listed = c.if-not-list_schema.ensures.lists refl (it.honest now) in
+    let it = c.open_numbered.ensures in
+    let ready = rw ok at it.ready in
+    let kept = rw ok at it.kept in
+    let listed = c.in_ok-list_schema.ensures.lists c.if-not-branch.false ((rw ok at it.honest) now) in
     let clean = sym ((pool_files fresh.pool).1 ∙ ap (λ f. are_clean g.D.Disk f.0 f.1) made.files) ∙ listed.honest in
     let seen : image fresh ≡ start = ap (λ f. seen_image g.D.Disk f.0 f.1) made.files ∙ same_image c.plain_size.ensures.log c.plain_size.ensures.db in
     let size = (state_of fresh).page_size in
     let plain : size % 16 ≢ 8 = λ summed. omega (arith, summed, made.size, c.in_ok-size.size.aligned) in
-    let same = recovers_once size (image mid) listed.pages (state store).committed listed.again (subst (λ n. Recovers n (image mid) (state store).committed) listed.size (it.found now)) in
-    let listing : kept_schema store.saved store.schema.items ≡ wanted_by mid = ap (λ o. kept_schema o store.schema.items) it.ready.unaltered ∙ it.schema in
+    let same = recovers_once size (image mid) listed.pages (state store).committed listed.again (subst (λ n. Recovers n (image mid) (state store).committed) listed.size ((rw ok at it.found) now)) in
+    let listing : kept_schema store.saved store.schema.items ≡ wanted_by mid = ap (λ o. kept_schema o store.schema.items) ready.unaltered ∙ (rw ok at it.schema) in
     let reads : (view store).trees ≡ file_trees size (wanted_by mid) (state store).committed =
-    it.ready.clean
+    ready.clean
     ∙ cond-true _ (file_trees (state store).page_size (kept_schema store.saved store.schema.items) (state store).committed) no_trees now
-    ∙ ap₂ (λ n s. file_trees n s (state store).committed) ((it.kept now).size ∙ listed.size) listing in
-    let opened = it.ready.is_open (no_doubt _ now) in
+    ∙ ap₂ (λ n s. file_trees n s (state store).committed) ((kept now).size ∙ listed.size) listing in
+    let opened = ready.is_open (no_doubt _ now) in
     let holds = λ (runs : _) (h : HoldsRuns start runs).
     let held = without_sums size (image fresh) h.0 plain (subst₂ (λ n i. HoldsIn n i h.0) (c.in_ok-size.ensures.size clean h.0 h.1 ∙ sym made.size) (sym seen) h.1.2) in
     let trees : (view store).trees ≡ h.0 = reads ∙ ap (λ p. file_trees size (wanted_by mid) p) (sym same) ∙ sym (listed.fits runs h.0 held h.2).1 in
     subst (Keeps runs) (sym trees) h.2 in
     let was : OpensOver start store = record {
       holds = λ runs h sound. holds runs h;
-      leaves = λ runs h trees found. subst (Keeps runs) (sym (settled_at store g.met.D.Disk.seen_may_stay trees opened found ∙ sym it.ready.clean)) (holds runs h);
+      leaves = λ runs h trees found. subst (Keeps runs) (sym (settled_at store g.met.D.Disk.seen_may_stay trees opened found ∙ sym ready.clean)) (holds runs h);
     } in
     still_over start store last looks late was)

@@ -5,27 +5,20 @@ use Rattle.kt_store.proofs.OutputsLemmas.{has as is_at, outputs_there, no_output
 use Rattle.kt_store.proofs.AloneLemmas.{outputs_looked}
 use Rattle.kt_store.proofs.SeenLemmas.{seen_outputs}
 use Rattle.kt_store.proofs.WideLemmas.{first_wide}
+use Rattle.kt_store.proofs.seeks.find_outputs.Goals.{in_default-via-in-Some+else-number-run, in_default-via-in_default}
 use Rattle.kt_store.proofs.seeks.find_outputs.Goals as goal
 
 pub outputs_in-requires : goal.outputs_in-requires
 outputs_in-requires g c = first_wide 4 c.in_ok-rows.rows.items c.in-Some.row.now c.in_ok-rows.ensures.wide (ap (λ l. slice_get l 0) (sym c.deref.ensures.value) ∙ sym c.first.ensures.value ∙ ap option_copied c.in-Some.is)
 
-pub returns-in_default : goal.returns-in_default
-returns-in_default g c = outputs_looked g.S.Store _ _ c.rows_behind.ensures.looks c.args.run c.args.position _ (λ runs has clean.
+pub returns-in-Some : goal.returns-in-Some
+returns-in-Some g c = outputs_looked g.S.Store _ _ c.rows_behind.ensures.looks c.args.run c.args.position _ (λ runs has clean.
     let keeps = has (c.rows_behind.ensures.looks.clean clean) (c.in_ok-rows.ensures.sound clean) in
     let n = c.key-number.result in
     let es = filter (is_at c.args.position) (entries_of (run_at runs n)) in
     let rows = seen_outputs n es _ (rw (c.in_ok-add_number-2.ensures, c.from.ensures, c.in_ok-add_number.ensures, c.new-place.ensures) at (c.in_ok-rows.ensures.all clean) cs (map (entry_row n) es) (λ shaped up. place_of_entry runs _ keeps shaped up n c.args.position)) in
-    inr (
-      refl,
-      no_entry runs c.args.run n c.args.position keeps.3.valid.few c.key-number.ensures.same
-          (no_outputs (run_at runs n) c.args.position c.in_ok-rows.rows.items rows (ap (λ l. slice_get l 0) (sym c.deref.ensures.value) ∙ sym c.first.ensures.value ∙ ap option_copied c.in_default.is)),
-    ))
-
-pub returns-then-number-run : goal.returns-then-number-run
-returns-then-number-run g c = outputs_looked g.S.Store _ _ c.rows_behind.ensures.looks c.args.run c.args.position _ (λ runs has clean.
-    let keeps = has (c.rows_behind.ensures.looks.clean clean) (c.in_ok-rows.ensures.sound clean) in
-    inr (refl, ap (λ o. entry_at o c.args.position) (past_run runs c.args.run c.key-number.result keeps.3.valid.few c.key-number.ensures.same c.if-number-run.true)))
+    let it = outputs_there (run_at runs n) c.args.position c.in_ok-rows.rows.items c.in-Some.row.now rows (ap (λ l. slice_get l 0) (sym c.deref.ensures.value) ∙ sym c.first.ensures.value ∙ ap option_copied c.in-Some.is) in
+    (it.0, ap (λ (n : ℕ). entry_at (run_at runs n) c.args.position) (sym c.if-number-run.true) ∙ it.1, c.in_ok-outputs-in-Some.ensures.outputs it.0 it.2))
 
 pub returns : goal.returns
 returns g c = outputs_looked g.S.Store _ _ c.rows_behind.ensures.looks c.args.run c.args.position _ (λ runs has clean.
@@ -33,5 +26,12 @@ returns g c = outputs_looked g.S.Store _ _ c.rows_behind.ensures.looks c.args.ru
     let n = c.key-number.result in
     let es = filter (is_at c.args.position) (entries_of (run_at runs n)) in
     let rows = seen_outputs n es _ (rw (c.in_ok-add_number-2.ensures, c.from.ensures, c.in_ok-add_number.ensures, c.new-place.ensures) at (c.in_ok-rows.ensures.all clean) cs (map (entry_row n) es) (λ shaped up. place_of_entry runs _ keeps shaped up n c.args.position)) in
-    let it = outputs_there (run_at runs n) c.args.position c.in_ok-rows.rows.items c.in-Some.row.now rows (ap (λ l. slice_get l 0) (sym c.deref.ensures.value) ∙ sym c.first.ensures.value ∙ ap option_copied c.in-Some.is) in
-    (it.0, ap (λ (n : ℕ). entry_at (run_at runs n) c.args.position) (sym c.if-number-run.false) ∙ it.1, c.in_ok-outputs.ensures.outputs it.0 it.2))
+    inr (
+      refl,
+      elim c.in_default.branch [
+        | in_default-via-in-Some+else-number-run w ↦ ap (λ o. entry_at o c.args.position) (past_run runs c.args.run n keeps.3.valid.few c.key-number.ensures.same w.if-number-run.false)
+        | in_default-via-in_default w ↦
+            no_entry runs c.args.run n c.args.position keeps.3.valid.few c.key-number.ensures.same
+            (no_outputs (run_at runs n) c.args.position c.in_ok-rows.rows.items rows (ap (λ l. slice_get l 0) (sym c.deref.ensures.value) ∙ sym c.first.ensures.value ∙ ap option_copied w.in_default.is))
+      ],
+    ))
