@@ -1,5 +1,5 @@
-ghost use Rattle.std.specs.Prelude.{is_err};
-ghost use Rattle.kt_cli.specs.Common.{IsIdle, IsPlan, Debugged, ToldOnly};
+ghost use Rattle.std.specs.Prelude.{is_err, true};
+ghost use Rattle.kt_cli.specs.Common.{IsIdle, IsPlan, Debugged, HasSelected, ToldOnly};
 ghost use Rattle.kt_words.specs.declared.command.Command.TheVariants as command;
 
 use crate::Exit;
@@ -7,7 +7,7 @@ use crate::commands::recorder::Printer;
 use crate::messages::{stopped, write_memory, write_run_fault, write_warnings};
 use crate::output::exit::{FAILED, ended, status_of};
 use kt_base::{Items, OutputFault};
-use kt_plan::{CaseOptions, World, prepare, select_cases};
+use kt_plan::{CaseOptions, Picked, World, prepare, select_cases};
 use kt_sched::{Job, Launcher, RunFault, Totals, run_cases};
 use std::alloc::Global;
 use std::io::Write;
@@ -36,22 +36,20 @@ fn print_cases<L: Launcher, O: Write>(
     (answer, printer.written)
 }
 
-/// The command `debug`: the first selected case runs alone, and nothing is recorded.
-pub fn debug<W: World, O: Write>(
+/// Runs the first of the selected cases alone.
+fn debug_picked<W: World, O: Write>(
     alloc: Global,
     options: &CaseOptions,
+    picked: &Picked,
     world: &mut W,
     out: &mut O,
 ) -> Exit
     requires { IsIdle (W.running world.old) (W.pending world.old) }
-    ensures told { ToldOnly W.World (command.Debug options.now) world.old world.new
+    ensures told { (start : _) → HasSelected W.asks W.tells true options.now start picked.now world.old
+        → ToldOnly W.World (command.Debug options.now) start world.new
         (O.contents out.old) (O.contents out.new) result.status }
     ensures idle { IsIdle (W.running world.new) (W.pending world.new) }
 {
-    let picked = match select_cases(alloc, true, options, world) {
-        Ok(picked) => picked,
-        Err(fault) => return stopped(&fault, out),
-    };
     let cases = picked.chosen.cases.as_slice();
     let Some((_first, _others)) = cases.split_first() else {
         let unmatched = picked.chosen.unmatched.as_slice();
@@ -66,5 +64,23 @@ pub fn debug<W: World, O: Write>(
     match answer {
         Ok(totals) => ended(written, status_of(totals.bad, &[])),
         Err(fault) => ended(write_run_fault(written, fault, out), FAILED),
+    }
+}
+
+/// The command `debug`: the first selected case runs alone, and nothing is recorded.
+pub fn debug<W: World, O: Write>(
+    alloc: Global,
+    options: &CaseOptions,
+    world: &mut W,
+    out: &mut O,
+) -> Exit
+    requires { IsIdle (W.running world.old) (W.pending world.old) }
+    ensures told { ToldOnly W.World (command.Debug options.now) world.old world.new
+        (O.contents out.old) (O.contents out.new) result.status }
+    ensures idle { IsIdle (W.running world.new) (W.pending world.new) }
+{
+    match select_cases(alloc, true, options, world) {
+        Ok(picked) => debug_picked(alloc, options, &picked, world, out),
+        Err(fault) => stopped(&fault, out),
     }
 }

@@ -1,5 +1,5 @@
-ghost use Rattle.std.specs.Prelude.{◌≤◌, length, is_err};
-ghost use Rattle.kt_cli.specs.Common.{Shows, utf8, IsIdle, IsMoment, IsPlan, IsWidth, most_items, Did, Says, Records, RanPlan, scene, ending, planned_run, totals_text};
+ghost use Rattle.std.specs.Prelude.{◌≤◌, ℕ, List, length, is_err, false};
+ghost use Rattle.kt_cli.specs.Common.{Shows, utf8, IsIdle, IsMoment, IsPlan, IsWidth, most_items, Did, Says, Records, RanPlan, scene, HasSelected, ending, planned_run, totals_text};
 ghost use Rattle.kt_words.specs.declared.command.Command.TheVariants as command;
 
 use crate::Exit;
@@ -7,7 +7,7 @@ use crate::commands::recorder::{Recorder, sink_fault};
 use crate::messages::{stopped, write_memory, write_refusal, write_run_fault, write_warnings};
 use crate::output::exit::{FAILED, ended, status_of};
 use kt_base::{Decimal, Items, OutputFault, Text, emit_all};
-use kt_plan::{CaseOptions, World, prepare, select_cases};
+use kt_plan::{CaseOptions, Picked, World, prepare, select_cases};
 use kt_sched::{Job, Launcher, RunFault, Totals, run_cases};
 use kt_store::ResultStore;
 use std::alloc::Global;
@@ -128,25 +128,24 @@ fn run_plan<L: Launcher, R: ResultStore, O: Write>(
     }
 }
 
-/// The command `test`. `file` is the name of the results, which stand open already.
-pub fn test<W: World, R: ResultStore, O: Write>(
+/// Prepares and runs the selected cases.
+fn test_picked<W: World, R: ResultStore, O: Write>(
     alloc: Global,
     options: &CaseOptions,
-    file: &Text,
+    picked: &Picked,
     world: &mut W,
     results: &mut R,
     out: &mut O,
 ) -> Exit
-    requires { IsIdle (W.running world.old) (W.pending world.old) }
-    ensures did { Did W.World R.Keeping (command.Test options.now file.now)
-        (scene world.old results.old (O.contents out.old))
+    requires idle { IsIdle (W.running world.old) (W.pending world.old) }
+    requires few { length picked.now.chosen.cases ≤ most_items }
+    ensures did { (file : List ℕ) (start : _)
+        → HasSelected W.asks W.tells false options.now start picked.now world.old
+        → Did W.World R.Keeping (command.Test options.now file)
+        (scene start results.old (O.contents out.old))
         (scene world.new results.new (O.contents out.new)) result.status }
     ensures idle { IsIdle (W.running world.new) (W.pending world.new) }
 {
-    let picked = match select_cases(alloc, false, options, world) {
-        Ok(picked) => picked,
-        Err(fault) => return stopped(&fault, out),
-    };
     let config = &picked.settings.config;
     let plan = match prepare(alloc, config, picked.chosen.cases.as_slice(), world) {
         Ok(plan) => plan,
@@ -164,4 +163,25 @@ pub fn test<W: World, R: ResultStore, O: Write>(
         results,
         out,
     )
+}
+
+/// The command `test`. `file` is the name of the results, which stand open already.
+pub fn test<W: World, R: ResultStore, O: Write>(
+    alloc: Global,
+    options: &CaseOptions,
+    file: &Text,
+    world: &mut W,
+    results: &mut R,
+    out: &mut O,
+) -> Exit
+    requires { IsIdle (W.running world.old) (W.pending world.old) }
+    ensures did { Did W.World R.Keeping (command.Test options.now file.now)
+        (scene world.old results.old (O.contents out.old))
+        (scene world.new results.new (O.contents out.new)) result.status }
+    ensures idle { IsIdle (W.running world.new) (W.pending world.new) }
+{
+    match select_cases(alloc, false, options, world) {
+        Ok(picked) => test_picked(alloc, options, &picked, world, results, out),
+        Err(fault) => stopped(&fault, out),
+    }
 }

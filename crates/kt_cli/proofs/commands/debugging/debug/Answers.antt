@@ -1,36 +1,11 @@
-use Rattle.std.proofs.Common.{rules, ◌≡◌, ◌∷◌, List, ap, refl, take, Ok, Err}
-use Rattle.kt_cli.proofs.Common.{Candidate, world_of}
-use Rattle.kt_cli.proofs.Saying.{nothing}
-use Rattle.kt_cli.proofs.Testings.{stopped_only, idle_answer, short_only, printed_memory, debug_parts, debug_short, debugged_as}
+use Rattle.std.proofs.Common.{refl}
+use Rattle.kt_cli.proofs.Common.{world_of}
+use Rattle.kt_cli.proofs.Testings.{stopped_only}
 use Rattle.kt_cli.proofs.commands.debugging.debug.Goals as goal
+
+pub returns-in-Ok-clause-told : goal.returns-in-Ok-clause-told
+returns-in-Ok-clause-told g c = c.debug_picked.ensures.told _ c.in-Ok.ensures.selects
 
 pub returns-in-Err-clause-told : goal.returns-in-Err-clause-told
 returns-in-Err-clause-told g c =
     stopped_only (world_of g.W.Tree g.W.Launcher g.W.World) _ c.args.options.now _ _ _ _ _ _ c.in-Err.fault refl refl c.in-Err.ensures.selects c.stopped.ensures
-
-pub returns-in-Err-prepare-clause-told : goal.returns-in-Err-prepare-clause-told
-returns-in-Err-prepare-clause-told g c =
-    let a : c.as_slice-cases.result.now ≡ c.in-Ok.picked.chosen.cases = search rules in
-    short_only (world_of g.W.Tree g.W.Launcher g.W.World) _ c.args.options.now _ _ _ _ _ _ _ c.in-Ok.picked _ refl refl c.in-Ok.ensures.selects (ap (λ (cs : List Candidate). take 1 cs) a) c.in-Err-prepare.ensures.planned (printed_memory _ _ _ _ c.write_memory.ensures c.ended-in-Err-prepare.ensures)
-
-pub returns-in_default-clause-told : goal.returns-in_default-clause-told
-returns-in_default-clause-told g c =
-    let a : c.as_slice-cases.result.now ≡ c.in-Ok.picked.chosen.cases = search rules in
-    let b : c.as_slice.result.now ≡ c.args.options.now.filters = search rules in
-    let d : c.as_slice-unmatched.result.now ≡ c.in-Ok.picked.chosen.unmatched = search rules in
-    idle_answer (world_of g.W.Tree g.W.Launcher g.W.World) c.args.options.now _ _ _ _ _ _ c.in-Ok.picked _ _ _ c.in-Ok.ensures.selects a (nothing _ c.in_default.ensures.cases) b d c.write_warnings-warned.ensures c.ended.ensures
-
-pub returns-in-Ok-answer-clause-told : goal.returns-in-Ok-answer-clause-told
-returns-in-Ok-answer-clause-told g c =
-    let a : c.as_slice-cases.result.now ≡ c.in-Ok.picked.chosen.cases = search rules in
-    let n : c.as_slice-cases.result.now ≡ c.in-Some._first.now ∷ c.in-Some._others.now = search rules in
-    let e : c.print_cases-answer.result.0 ≡ Ok c.in-Ok-answer.totals = search rules in
-    debug_parts (world_of g.W.Tree g.W.Launcher g.W.World) c.args.options.now _ _ _ _ _ _ _ c.in-Ok.picked c.in-Some._first.now c.in-Some._others.now c.as_slice-cases.result.now _ c.in-Ok-prepare.plan _ c.in-Ok-answer.totals _ c.in-Ok.ensures.selects a n refl
-    c.in-Ok-prepare.ensures.planned (debugged_as g.W.Launcher _ _ _ _ _ _ _ _ e c.print_cases-answer.ensures.debugged) c.status_of.ensures c.ended-in-Ok-answer.ensures
-
-pub returns-clause-told : goal.returns-clause-told
-returns-clause-told g c =
-    let e : c.print_cases-answer.result.0 ≡ Err c.in-Err-answer.fault = search rules in
-    let a : c.as_slice-cases.result.now ≡ c.in-Ok.picked.chosen.cases = search rules in
-    debug_short (world_of g.W.Tree g.W.Launcher g.W.World) c.args.options.now _ _ _ _ _ _ _ _ c.in-Ok.picked _ c.in-Ok-prepare.plan _ _ c.in-Err-answer.fault c.in-Ok.ensures.selects (ap (λ (cs : List Candidate). take 1 cs) a) c.in-Ok-prepare.ensures.planned
-    (debugged_as g.W.Launcher _ _ _ _ _ _ _ _ e c.print_cases-answer.ensures.debugged) c.write_run_fault.ensures c.ended-in-Err-answer.ensures
