@@ -60,6 +60,10 @@ part() {
   [ "${line#* }" = 0 ] || { echo "$name: ${line#* } failed. To see it alone: $shows"; failures | sed 's/^/  /'; } >> "$room/failed"
 }
 
+# rt runs fewer checks side by side than there are processors if its guess says that memory lacks, which is twice what a check takes.
+# By one job each, they take 5 GB at the most, and less processor time in all than by several.
+memory=$(sed -n 's/^MemAvailable: *\([0-9]*\) kB$/\1/p' /proc/meminfo)
+[ "$((memory / $(nproc)))" -lt 5000000 ] || export RT_JOBS="${RT_JOBS:-$(nproc)}"
 part 'proofs, edits and rows' "'rt check' in the crate's directory, 'rt must-fail NAME', scripts/rows.sh" rt ci
 part 'faults made by hand' scripts/faults.sh scripts/faults.sh
 part 'definitions' scripts/definitions.sh scripts/definitions.sh
