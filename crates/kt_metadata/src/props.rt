@@ -13,10 +13,18 @@ use std::rc::Rc;
 
 /// Properties with their values as texts. Contracts see the last values of the accepted definitions,
 /// in the order of the first ones. The properties of a case share the memory of its program's.
-#[derive(Drop)]
 pub struct Props {
     program: Option<Rc<SharedLayer>>,
     own: Layer,
+}
+
+/// Written out so that a drop is one call: what properties own is taken apart here alone.
+impl Drop for Props {
+    fn drop(self) {
+        let Props { program, own } = self;
+        drop(program);
+        drop(own);
+    }
 }
 
 impl Model for Props {

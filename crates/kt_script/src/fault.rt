@@ -2,12 +2,12 @@ ghost use Rattle.std.specs.Prelude.{◌≡◌};
 ghost use Rattle.kt_script.specs.declared.fault.ScriptFault.TheVariants as fault;
 
 use kt_base::NoMemory;
-use thiserror::Error;
+use std::error::Error;
+use std::fmt::{Display, Formatter, Result as Shown, Write};
 
 /// Why a text was refused. A number is a line, counted from 1: the line of the token that is at
 /// fault, of what was opened and not closed, or of the statement that was not finished.
-#[derive(Clone, Copy, Debug, Error)]
-#[error("{}", self.words())]
+#[derive(Clone, Copy, Debug)]
 pub enum ScriptFault {
     NoMemory(NoMemory),
     /// The bytes are not UTF-8.
@@ -39,6 +39,14 @@ impl ScriptFault {
         }
     }
 }
+
+impl Display for ScriptFault {
+    fn fmt<W: Write>(&self, f: &mut Formatter<W>) -> Shown {
+        f.write_str(self.words())
+    }
+}
+
+impl Error for ScriptFault {}
 
 impl From<NoMemory> for ScriptFault {
     ghost from_gives = { λ refusal e. e ≡ fault.NoMemory refusal };

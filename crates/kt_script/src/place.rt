@@ -10,7 +10,6 @@ use kt_base::{Items, NoMemory};
 use std::alloc::Global;
 
 /// A place in a script.
-#[derive(Drop)]
 pub enum Place {
     /// Before a statement.
     Start,
@@ -18,6 +17,16 @@ pub enum Place {
     Whole,
     /// Within the statement that begins on a line.
     Within(u32, State),
+}
+
+/// Written out so that a drop is one call: what a state owns is taken apart here alone.
+impl Drop for Place {
+    fn drop(self) {
+        match self {
+            Place::Start | Place::Whole => {}
+            Place::Within(_, state) => drop(state),
+        }
+    }
 }
 
 fn begin(line: u32, kind: Kind) -> Option<Place>

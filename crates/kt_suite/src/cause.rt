@@ -6,8 +6,9 @@ ghost use Rattle.kt_suite.specs.declared.cause.SuiteCause.TheVariants as cause;
 
 use kt_base::{Decimal, NoMemory, OutputFault, emit, emit_all};
 use kt_script::ScriptFault;
+use std::error::Error;
+use std::fmt::{Display, Formatter, Result as Shown, Write as FormatWrite};
 use std::io::Write;
-use thiserror::Error;
 
 /// Stands before the number of `WrongSyntax`.
 const SYNTAX: &str = "syntax ";
@@ -17,15 +18,13 @@ const NOT_SUPPORTED: &str = " not supported";
 
 /// Why a tree of Kyuafiles was refused, by the rules of kyuafile(5) and of this profile. `Display`
 /// prints the words of the fault's line (this profile).
-#[derive(Clone, Copy, Debug, Error)]
-#[error("{}", self.words())]
+#[derive(Clone, Copy, Debug)]
 pub enum SuiteCause {
     /// It has no file and no line.
     NoMemory(NoMemory),
     /// The first statement of a file isn't a call of `syntax`.
     NoSyntax,
     /// The file declares a syntax other than 2.
-    #[error("{SYNTAX}{0}{NOT_SUPPORTED}")]
     WrongSyntax(u64),
     /// An unknown call, an assignment, or a second `syntax`.
     UnknownCall,
@@ -98,6 +97,17 @@ impl SuiteCause {
         }
     }
 }
+
+impl Display for SuiteCause {
+    fn fmt<W: FormatWrite>(&self, f: &mut Formatter<W>) -> Shown {
+        match self {
+            SuiteCause::WrongSyntax(n) => write!(f, "{SYNTAX}{n}{NOT_SUPPORTED}"),
+            _ => f.write_str(self.words()),
+        }
+    }
+}
+
+impl Error for SuiteCause {}
 
 impl From<NoMemory> for SuiteCause {
     ghost from_gives = { λ refusal c. c ≡ cause.NoMemory refusal };

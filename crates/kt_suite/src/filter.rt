@@ -6,12 +6,12 @@ ghost use Rattle.kt_suite.specs.declared.filter.FilterFault.TheVariants as fault
 use crate::within::{is_same, is_within};
 use kt_base::{NoMemory, Text};
 use std::alloc::Global;
-use thiserror::Error;
+use std::error::Error;
+use std::fmt::{Display, Formatter, Result as Shown, Write};
 
 /// Why a filter, or a list of them, was refused. A number is a position in the list, from 0. `Display`
 /// prints the words of the fault's line (this profile), which shows the filter itself.
-#[derive(Clone, Copy, Debug, Error)]
-#[error("{}", self.words())]
+#[derive(Clone, Copy, Debug)]
 pub enum FilterFault {
     NoMemory(NoMemory),
     /// It names no program.
@@ -43,6 +43,14 @@ impl FilterFault {
         }
     }
 }
+
+impl Display for FilterFault {
+    fn fmt<W: Write>(&self, f: &mut Formatter<W>) -> Shown {
+        f.write_str(self.words())
+    }
+}
+
+impl Error for FilterFault {}
 
 impl From<NoMemory> for FilterFault {
     ghost from_gives = { λ refusal e. e ≡ fault.NoMemory refusal };

@@ -8,11 +8,11 @@ ghost use Rattle.kt_suite.specs.declared.selecting.SelectFault.TheVariants as fa
 use crate::Filter;
 use kt_base::{NoMemory, Text};
 use std::alloc::Global;
-use thiserror::Error;
+use std::error::Error;
+use std::fmt::{Display, Formatter, Result as Shown, Write};
 
 /// Why nothing was selected. `Display` prints the words of the fault's line (this profile).
-#[derive(Clone, Copy, Debug, Error)]
-#[error("{}", self.words())]
+#[derive(Clone, Copy, Debug)]
 pub enum SelectFault {
     NoMemory(NoMemory),
     /// Over 100,000 items.
@@ -32,6 +32,14 @@ impl SelectFault {
         }
     }
 }
+
+impl Display for SelectFault {
+    fn fmt<W: Write>(&self, f: &mut Formatter<W>) -> Shown {
+        f.write_str(self.words())
+    }
+}
+
+impl Error for SelectFault {}
 
 impl From<NoMemory> for SelectFault {
     ghost from_gives = { λ refusal e. e ≡ fault.NoMemory refusal };
