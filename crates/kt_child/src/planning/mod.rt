@@ -62,7 +62,6 @@ impl Case {
 }
 
 /// All that a child is started with.
-#[derive(Drop)]
 pub(crate) struct Spawning {
     pub child: Child,
     /// How long it may run, in seconds.
@@ -76,4 +75,28 @@ pub(crate) struct Spawning {
     pub work: Text,
     pub out: Text,
     pub err: Text,
+}
+
+/// Written out, so that a drop is one call.
+impl Drop for Spawning {
+    fn drop(self) {
+        let Spawning {
+            child: _,
+            limit: _,
+            program,
+            words,
+            env,
+            dir,
+            work,
+            out,
+            err,
+        } = self;
+        drop(program);
+        drop(words);
+        drop(env);
+        drop(dir);
+        drop(work);
+        drop(out);
+        drop(err);
+    }
 }

@@ -7,7 +7,6 @@ use kt_removal::numbered_path;
 use std::alloc::Global;
 
 /// The absolute paths of one attempt (this profile).
-#[derive(Drop)]
 pub struct Paths {
     /// The directory that holds all of them.
     pub dir: Text,
@@ -21,6 +20,28 @@ pub struct Paths {
     pub err: Text,
     pub cleanup_out: Text,
     pub cleanup_err: Text,
+}
+
+/// Written out, so that a drop is one call.
+impl Drop for Paths {
+    fn drop(self) {
+        let Paths {
+            dir,
+            work,
+            result,
+            out,
+            err,
+            cleanup_out,
+            cleanup_err,
+        } = self;
+        drop(dir);
+        drop(work);
+        drop(result);
+        drop(out);
+        drop(err);
+        drop(cleanup_out);
+        drop(cleanup_err);
+    }
 }
 
 /// The directory of an attempt.
