@@ -1,6 +1,6 @@
 -- A table with one definition more.
-use Rattle.std.proofs.Common.{codes, cond, Option, Some, None, Result, Ok, Err, if◌then◌else◌, ◌≡◌, ℕ, Bool, true, false, List, [], ◌∷◌, ◌++◌, bytes_eq, refl, sym, ap, ◌∙◌}
-use Rattle.kt_suite.proofs.Common.{filter, option_or, append-nil, filter-append, Variable, Pair, text_of, SuiteCause, ProgramTable, key_named, props_with, table_with, definition, is_property, value_cause, key_fault, pair_fault, table_of, unless}
+use Rattle.std.proofs.Common.{codes, cond, Option, Some, None, Result, Ok, if◌then◌else◌, ◌≡◌, ℕ, Bool, true, false, List, [], ◌∷◌, ◌++◌, bytes_eq, refl, sym, ap, ◌∙◌}
+use Rattle.kt_suite.proofs.Common.{filter, option_or, append-nil, filter-append, Variable, Pair, text_of, SuiteCause, ProgramTable, key_named, props_with, with_props, table_with, definition, is_property, value_cause, key_fault, pair_fault, table_of, unless}
 use Rattle.kt_base.specs.LastValues.{value_of, last_values}
 use Rattle.kt_base.proofs.Names.{same, same-flip, value_of-append}
 use Rattle.kt_metadata.specs.Properties.{is_kyuafile_property, definition_fault}
@@ -90,11 +90,6 @@ takes_suite before pair found text e t f =
     let made : table_of (before ++ definition pair ∷ []) ≡ record found { suite = Some text } =
     ap (λ (x : Variable). table_of (before ++ x ∷ [])) d ∙ push_suite before text ∙ ap (λ (x : ProgramTable). record x { suite = Some text }) (sym f) in
     by_key before (definition pair) key.TestSuite (record found { suite = Some text }) e made
-
--- what a property's value comes to, in the table
-abbrev pub with_props : ProgramTable → Result (List Variable) SuiteCause → Result ProgramTable SuiteCause
-with_props found (Ok props) = Ok (record found { props = props })
-with_props found (Err cause) = Err cause
 
 unless_props : (found : ProgramTable) (fault : Option SuiteCause) (props : List Variable) → with_props found (unless fault props) ≡ unless fault (record found { props = props })
 unless_props found None props = refl

@@ -82,21 +82,6 @@ fn begin(registry: Registry, file: &Text) -> Result<Registry, NoMemory>
     Ok(registry)
 }
 
-/// Closes the file that was opened last.
-fn end(registry: Registry) -> Registry
-    ensures { result ≡ (record registry {
-      reading = take (length registry.reading - 1) registry.reading;
-    }) }
-{
-    let mut files = registry.reading.into_vec();
-    let _ = files.pop();
-    Registry {
-        reading: Items::from_vec(files),
-        files: registry.files,
-        programs: registry.programs,
-    }
-}
-
 /// Reads a file and all that it includes, at most 32 deep. The file was counted before.
 fn read_file<T: Tree>(
     alloc: Global,
@@ -137,7 +122,7 @@ fn read_file<T: Tree>(
         }
         rest = after;
     }
-    Ok(end(registry))
+    Ok(registry.end())
 }
 
 /// Registers the programs of a tree of Kyuafiles, in the order of their statements, or tells its first fault.
@@ -158,7 +143,7 @@ pub fn load<T: Tree>(alloc: Global, tree: &mut T, root: &Text) -> Result<Items<P
     };
     match read_file(alloc, tree, registry, root) {
         Err(fault) => Err(fault),
-        Ok(registry) => Ok(registry.programs),
+        Ok(registry) => Ok(registry.into_programs()),
     }
 }
 

@@ -1,3 +1,5 @@
+ghost use Rattle.std.specs.Prelude.{◌≡◌, ◌-◌, length, take};
+
 use kt_base::{Interface, Items, Text};
 use kt_metadata::Props;
 
@@ -14,13 +16,54 @@ pub struct Program {
 }
 
 /// What was read of a tree so far.
-#[derive(Drop)]
 pub struct Registry {
     /// The open files: the root first, each included by the one before it.
     pub reading: Items<Text>,
     /// The number of files that were opened.
     pub files: usize,
     pub programs: Items<Program>,
+}
+
+/// Written out so that a drop is one call: what a registry owns is taken apart here alone.
+impl Drop for Registry {
+    fn drop(self) {
+        let Registry {
+            reading: _,
+            files: _,
+            programs: _,
+        } = self;
+    }
+}
+
+impl Registry {
+    pub fn into_programs(self) -> Items<Program>
+        ensures { result ≡ self.programs }
+    {
+        let Registry {
+            reading: _,
+            files: _,
+            programs,
+        } = self;
+        programs
+    }
+
+    /// Closes the file that was opened last.
+    pub fn end(self) -> Registry
+        ensures { result ≡ (record self { reading = take (length self.reading - 1) self.reading }) }
+    {
+        let Registry {
+            reading,
+            files,
+            programs,
+        } = self;
+        let mut open = reading.into_vec();
+        let _ = open.pop();
+        Registry {
+            reading: Items::from_vec(open),
+            files,
+            programs,
+        }
+    }
 }
 
 /// What comes after a statement, with the suite of the programs to come.
@@ -33,9 +76,29 @@ pub enum Step {
 }
 
 /// What the table of a program declares.
-#[derive(Drop)]
 pub struct ProgramTable {
     pub name: Option<Text>,
     pub suite: Option<Text>,
     pub props: Props,
+}
+
+/// Written out so that a drop is one call: what a table owns is taken apart here alone.
+impl Drop for ProgramTable {
+    fn drop(self) {
+        let ProgramTable {
+            name: _,
+            suite: _,
+            props: _,
+        } = self;
+    }
+}
+
+impl ProgramTable {
+    /// The name, the suite and the properties.
+    pub fn into_parts(self) -> (Option<Text>, Option<Text>, Props)
+        ensures { result ≡ (self.name, self.suite, self.props) }
+    {
+        let ProgramTable { name, suite, props } = self;
+        (name, suite, props)
+    }
 }

@@ -96,7 +96,7 @@ fn with_name(
     ensures { IfOk result (λ meaning. meaning
         ≡ named interface file.now found.suite found.props found.name) }
 {
-    let ProgramTable { name, suite, props } = found;
+    let (name, suite, props) = found.into_parts();
     match name {
         None => Ok(Meaning::Wrong(SuiteCause::BadValue)),
         Some(name) => {

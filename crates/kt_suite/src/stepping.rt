@@ -80,11 +80,9 @@ fn enter(
     if registry.files >= FILE_LIMIT {
         return Err(blame(file, alloc, line, SuiteCause::TooMany));
     }
-    Ok(Registry {
-        reading: registry.reading,
-        files: registry.files + 1,
-        programs: registry.programs,
-    })
+    let mut registry = registry;
+    registry.files += 1;
+    Ok(registry)
 }
 
 /// Carries out one statement of a file, after its first.

@@ -1,5 +1,5 @@
 ghost use Rattle.std.specs.Prelude.{◌≡◌, ◌∷◌, ◌++◌, [], List, IfOk};
-ghost use Rattle.kt_suite.specs.Common.{Variable, last_values, props_with, table_with, definition, table_of, declared};
+ghost use Rattle.kt_suite.specs.Common.{Variable, last_values, props_with, with_props, table_with, definition, table_of, declared};
 
 use crate::SuiteCause;
 use crate::call::{Key, key_of};
@@ -9,20 +9,20 @@ use kt_metadata::{PropFault, Props};
 use kt_script::Pair;
 use std::alloc::Global;
 
-/// Properties with one definition more, or why it is refused.
+/// A table with one property more, or why it is refused.
 fn set_property(
-    props: Props,
+    found: ProgramTable,
     name: &Text,
     value: &Text,
-) -> Result<Result<Props, SuiteCause>, NoMemory>
-    ensures { (before : List Variable) → props ≡ last_values before → IfOk result (λ next. next
-        ≡ props_with before (record { name = name.now; value = value.now })) }
+) -> Result<Result<ProgramTable, SuiteCause>, NoMemory>
+    ensures { (before : List Variable) → found.props ≡ last_values before → IfOk result (λ next. next
+        ≡ with_props found (props_with before (record { name = name.now; value = value.now }))) }
 {
-    let mut props = props;
-    match props.set(name, value) {
+    let mut found = found;
+    match found.props.set(name, value) {
         Err(PropFault::NoMemory(refusal)) => Err(refusal),
         Err(_fault) => Ok(Err(SuiteCause::BadValue)),
-        Ok(()) => Ok(Ok(props)),
+        Ok(()) => Ok(Ok(found)),
     }
 }
 
@@ -35,24 +35,19 @@ fn take_pair(
     ensures { (before : List Variable) → found ≡ table_of before
         → IfOk result (λ next. next ≡ table_with before (definition pair.now)) }
 {
-    let ProgramTable { name, suite, props } = found;
+    let mut found = found;
     let value = pair.value.text(alloc)?;
     match key_of(&pair.name) {
         Key::Unknown => Ok(Err(SuiteCause::UnknownProperty)),
-        Key::Name => Ok(Ok(ProgramTable {
-            name: Some(value),
-            suite,
-            props,
-        })),
-        Key::TestSuite => Ok(Ok(ProgramTable {
-            name,
-            suite: Some(value),
-            props,
-        })),
-        Key::Property => match set_property(props, &pair.name, &value)? {
-            Err(cause) => Ok(Err(cause)),
-            Ok(props) => Ok(Ok(ProgramTable { name, suite, props })),
-        },
+        Key::Name => {
+            found.name = Some(value);
+            Ok(Ok(found))
+        }
+        Key::TestSuite => {
+            found.suite = Some(value);
+            Ok(Ok(found))
+        }
+        Key::Property => set_property(found, &pair.name, &value),
     }
 }
 

@@ -1,5 +1,5 @@
 -- What private functions return, each a step of a larger walk.
-use Rattle.std.specs.Prelude.{ℕ, Bool, true, false, not, Option, Some, None, Result, slice_get, List, [], ◌∷◌, ◌++◌, if◌then◌else◌}
+use Rattle.std.specs.Prelude.{ℕ, Bool, true, false, not, Option, Some, None, Result, Ok, Err, slice_get, List, [], ◌∷◌, ◌++◌, if◌then◌else◌}
 use Rattle.std.specs.List.{position}
 use Rattle.kt_base.specs.declared.variable.Variable.{Variable}
 use Rattle.kt_base.specs.LastValues.{last_values}
@@ -18,6 +18,11 @@ use Rattle.kt_suite.specs.Tables.{value_cause, pair_fault, table_of, unless}
 abbrev pub props_with : List Variable → Variable → Result (List Variable) SuiteCause
 props_with before pair =
     unless (value_cause (definition_fault pair.name pair.value)) (last_values (before ++ pair ∷ []))
+
+-- a table with these properties, or why they are refused
+abbrev pub with_props : ProgramTable → Result (List Variable) SuiteCause → Result ProgramTable SuiteCause
+with_props found (Ok props) = Ok (record found { props = props })
+with_props found (Err cause) = Err cause
 
 -- a table with one more definition
 abbrev pub table_with : List Variable → Variable → Result ProgramTable SuiteCause
