@@ -1,6 +1,6 @@
 -- A line leads on, or it has a fault.
 use Rattle.std.proofs.Common.{codes, bytes_eq, ◌≡◌, ℕ, Bool, true, false, List, [], ◌∷◌, ◌++◌, Option, Some, None, refl, ap, sym, subst, ◌∙◌}
-use Rattle.kt_atflist.proofs.Common.{find, is_empty, ident_in, is_name, key_in, value_in, is_listed, is_given, named, with_property, is_good, begin_with, set_property, go_on, step_from, Goes, begins, gives, ends, fits_first, fits_further, first_rows, further_rows, Fails, first, further, BadLine, NoIdent, RepeatedKey, RepeatedIdent, UnknownKey, BadValue, CaseDef, Read, Step, To, Wrong}
+use Rattle.kt_atflist.proofs.Common.{find, is_empty, ident_in, is_name, key_in, value_in, is_listed, is_given, named, with_property, is_good, begin_with, name_from, set_property, go_on, go_on_with, step_from, Goes, begins, gives, ends, fits_first, fits_further, first_rows, further_rows, Fails, first, further, BadLine, NoIdent, RepeatedKey, RepeatedIdent, UnknownKey, BadValue, CaseDef, Read, Step, To, Wrong}
 use Rattle.kt_base.specs.Lossy.{lossy}
 use Rattle.kt_metadata.specs.ListKeys.{name_of_key}
 
@@ -16,22 +16,22 @@ leads cases line block s t e h = subst (Led cases line block) (sym e) h
 -- ---- first lines
 
 first_named : (cases : List CaseDef) (line name : List ℕ) (t u : Bool) → ident_in line ≡ Some name → is_name name ≡ t → is_listed cases (lossy name) ≡ u
-    → Led cases line None (begin_with cases (ident_in line))
+    → Led cases line None (begin_with cases (name_from (ident_in line)))
 first_named cases line name false u e f g =
-    let s : begin_with cases (ident_in line) ≡ Wrong BadValue = ap (begin_with cases) e ∙ rw f refl in
+    let s : begin_with cases (name_from (ident_in line)) ≡ Wrong BadValue = ap (λ (o : Option (List ℕ)). begin_with cases (name_from o)) e ∙ rw f refl in
     let q : find (fits_first cases (ident_in line)) first_rows ≡ Some BadValue = ap (λ (o : Option (List ℕ)). find (fits_first cases o) first_rows) e ∙ rw f refl in
     leads cases line None _ _ s (first BadValue q)
 first_named cases line name true true e f g =
-    let s : begin_with cases (ident_in line) ≡ Wrong RepeatedIdent = ap (begin_with cases) e ∙ rw (f, g) refl in
+    let s : begin_with cases (name_from (ident_in line)) ≡ Wrong RepeatedIdent = ap (λ (o : Option (List ℕ)). begin_with cases (name_from o)) e ∙ rw (f, g) refl in
     let q : find (fits_first cases (ident_in line)) first_rows ≡ Some RepeatedIdent = ap (λ (o : Option (List ℕ)). find (fits_first cases o) first_rows) e ∙ rw (f, g) refl in
     leads cases line None _ _ s (first RepeatedIdent q)
 first_named cases line name true false e f g =
-    let s : begin_with cases (ident_in line) ≡ To (record { cases = cases; block = Some (named (lossy name)) }) = ap (begin_with cases) e ∙ rw (f, g) refl in
+    let s : begin_with cases (name_from (ident_in line)) ≡ To (record { cases = cases; block = Some (named (lossy name)) }) = ap (λ (o : Option (List ℕ)). begin_with cases (name_from o)) e ∙ rw (f, g) refl in
     leads cases line None _ _ s (begins name e f g)
 
-first_led : (cases : List CaseDef) (line : List ℕ) (o : Option (List ℕ)) → ident_in line ≡ o → Led cases line None (begin_with cases (ident_in line))
+first_led : (cases : List CaseDef) (line : List ℕ) (o : Option (List ℕ)) → ident_in line ≡ o → Led cases line None (begin_with cases (name_from (ident_in line)))
 first_led cases line None e =
-    leads cases line None _ _ (ap (begin_with cases) e) (first NoIdent (ap (λ (o : Option (List ℕ)). find (fits_first cases o) first_rows) e))
+    leads cases line None _ _ (ap (λ (o : Option (List ℕ)). begin_with cases (name_from o)) e) (first NoIdent (ap (λ (o : Option (List ℕ)). find (fits_first cases o) first_rows) e))
 first_led cases line (Some name) e = first_named cases line name (is_name name) (is_listed cases (lossy name)) e refl refl
 
 -- ---- further lines
@@ -45,7 +45,7 @@ record Gives (line value : List ℕ) (o : Option (List ℕ)) : Type 0 where
   property : name_of_key (lossy (key_in line)) ≡ o
 
 -- where it leads
-stepped : (cases : List CaseDef) (block : CaseDef) (line value : List ℕ) (o : Option (List ℕ)) → Gives line value o → go_on cases block line ≡ set_property cases block o (lossy value)
+stepped : (cases : List CaseDef) (block : CaseDef) (line value : List ℕ) (o : Option (List ℕ)) → Gives line value o → go_on cases block line ≡ go_on_with cases (set_property block o (lossy value))
 stepped cases block line value o g = rw (g.some, g.value_is, g.key, g.plain, g.property) refl
 
 property_led : (cases : List CaseDef) (block : CaseDef) (line value : List ℕ) (o : Option (List ℕ)) (t u : Bool) → Gives line value o
@@ -56,17 +56,17 @@ property_led cases block line value None t u g h =
     leads cases line (Some block) _ _ (stepped cases block line value None g) (further block UnknownKey g.some q)
 property_led cases block line value (Some property) true u g h =
     let e = h property refl in
-    let s : set_property cases block (Some property) (lossy value) ≡ Wrong RepeatedKey = rw (e.0) refl in
+    let s : go_on_with cases (set_property block (Some property) (lossy value)) ≡ Wrong RepeatedKey = rw (e.0) refl in
     let q : find (fits_further block (key_in line) (value_in line)) further_rows ≡ Some RepeatedKey = rw (g.value_is, g.key, g.plain, g.property, e.0) refl in
     leads cases line (Some block) _ _ (stepped cases block line value (Some property) g ∙ s) (further block RepeatedKey g.some q)
 property_led cases block line value (Some property) false false g h =
     let e = h property refl in
-    let s : set_property cases block (Some property) (lossy value) ≡ Wrong BadValue = rw (e.0, e.1) refl in
+    let s : go_on_with cases (set_property block (Some property) (lossy value)) ≡ Wrong BadValue = rw (e.0, e.1) refl in
     let q : find (fits_further block (key_in line) (value_in line)) further_rows ≡ Some BadValue = rw (g.value_is, g.key, g.plain, g.property, e.0, e.1) refl in
     leads cases line (Some block) _ _ (stepped cases block line value (Some property) g ∙ s) (further block BadValue g.some q)
 property_led cases block line value (Some property) false true g h =
     let e = h property refl in
-    let s : set_property cases block (Some property) (lossy value) ≡ To (record { cases = cases; block = Some (with_property block property (lossy value)) }) = rw (e.0, e.1) refl in
+    let s : go_on_with cases (set_property block (Some property) (lossy value)) ≡ To (record { cases = cases; block = Some (with_property block property (lossy value)) }) = rw (e.0, e.1) refl in
     leads cases line (Some block) _ _ (stepped cases block line value (Some property) g ∙ s) (gives block value property g.some g.value_is g.key g.plain g.property e.0 e.1)
 
 found_led : (cases : List CaseDef) (block : CaseDef) (line value : List ℕ) (o : Option (List ℕ)) → Gives line value o → Led cases line (Some block) (go_on cases block line)
@@ -116,8 +116,8 @@ led_by cases (Some block) line = further_led cases block line (is_empty line) (v
 
 -- a line that leads on takes that step
 pub step_goes : (cases : List CaseDef) (block : Option CaseDef) (line : List ℕ) (next : Read) → Goes cases line block next → step_from cases block line ≡ To next
-step_goes cases None line next (begins name e f g) = ap (begin_with cases) e ∙ rw (f, g) refl
+step_goes cases None line next (begins name e f g) = ap (λ (o : Option (List ℕ)). begin_with cases (name_from o)) e ∙ rw (f, g) refl
 step_goes cases (Some block) line next (gives _ value property e v k w p g h) =
-    let s : set_property cases block (Some property) (lossy value) ≡ To (record { cases = cases; block = Some (with_property block property (lossy value)) }) = rw (g, h) refl in
+    let s : go_on_with cases (set_property block (Some property) (lossy value)) ≡ To (record { cases = cases; block = Some (with_property block property (lossy value)) }) = rw (g, h) refl in
     stepped cases block line value (Some property) (record { some = e; value_is = v; key = k; plain = w; property = p }) ∙ s
 step_goes cases (Some block) line next (ends _ e) = rw e refl

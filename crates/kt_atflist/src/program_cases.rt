@@ -1,6 +1,6 @@
 //! The test cases of a program.
 
-ghost use Rattle.std.specs.Prelude.{◌≡◌, ◌∷◌, [], List, map, chars, Some, None, IfOk, IsSome, ℕ, Option, Result};
+ghost use Rattle.std.specs.Prelude.{◌≡◌, ◌∷◌, ◌++◌, [], List, map, chars, Some, None, IfOk, OnOk, IsSome, ℕ, Option, Result};
 ghost use Rattle.kt_atflist.specs.Common.{Atf, Variable, over_program, main_case, list_case, AreCases, Interface, IsAnswer, CaseDef, ListFault, Listing};
 
 use crate::listed_cases::listed_cases;
@@ -27,6 +27,28 @@ fn with_program(props: &Props, case: CaseDef) -> Result<CaseDef, NoMemory>
     Ok(CaseDef { name, props, fault })
 }
 
+fn add(cases: &mut Items<CaseDef>, props: &Props, case: CaseDef) -> Result<(), NoMemory>
+    ensures { OnOk result (cases.new ≡ cases.old ++ over_program props.now case ∷ []) }
+{
+    let whole = with_program(props, case)?;
+    cases.push(whole)?;
+    Ok(())
+}
+
+fn each_with_program(
+    alloc: Global,
+    props: &Props,
+    found: Items<CaseDef>,
+) -> Result<Items<CaseDef>, NoMemory>
+    ensures { IfOk result (λ cases. cases ≡ map (over_program props.now) found) }
+{
+    let mut cases = Items::new(alloc);
+    for case in found.into_vec() {
+        add(&mut cases, props, case)?;
+    }
+    Ok(cases)
+}
+
 fn all_with_program(
     alloc: Global,
     props: &Props,
@@ -35,12 +57,7 @@ fn all_with_program(
     ensures { IfOk result (λ cases. cases ≡ map (over_program props.now) found) }
 {
     let shared = props.shared()?;
-    let mut cases = Items::new(alloc);
-    for case in found.into_vec() {
-        let whole = with_program(&shared, case)?;
-        cases.push(whole)?;
-    }
-    Ok(cases)
+    each_with_program(alloc, &shared, found)
 }
 
 /// A program's only case.
@@ -58,9 +75,8 @@ fn one_case(
         props: Props::new(alloc),
         fault,
     };
-    let whole = with_program(props, case)?;
     let mut cases = Items::new(alloc);
-    cases.push(whole)?;
+    add(&mut cases, props, case)?;
     Ok(cases)
 }
 

@@ -2,7 +2,8 @@
 
 ghost use Rattle.std.specs.Prelude.{◌≡◌, true, false, List, ℕ, None, Some, IfOk};
 ghost use Rattle.kt_atflist.specs.Blocks.{is_given, is_good, with_property};
-ghost use Rattle.kt_atflist.specs.Common.{names_of, begin_named, begin_with, set_property, set_key, go_on_with, go_on, step_of, closed, finished, ident_in, key_in, value_in};
+ghost use Rattle.kt_base.specs.Lossy.{lossy};
+ghost use Rattle.kt_atflist.specs.Common.{names_of, name_from, begin_named, begin_with, set_property, set_key, set_line, changed, go_on_with, go_on, step_of, closed, finished, ident_in, key_in, value_in};
 
 use crate::block::Block;
 use crate::list_line::{ident_in, is_name, key_in, value_in};
@@ -33,21 +34,29 @@ fn begin_named(
     }))
 }
 
+/// The name in the first line of a block, or the cause why it has none.
+fn name_in(alloc: Global, line: &[u8]) -> Result<Result<Text, ListCause>, NoMemory>
+    ensures { IfOk result (λ found. found ≡ name_from (ident_in line.now)) }
+{
+    match ident_in(line) {
+        None => Ok(Err(ListCause::NoIdent)),
+        Some(name) => {
+            if !is_name(name) {
+                return Ok(Err(ListCause::BadValue));
+            }
+            Ok(Ok(lossy(alloc, name)?))
+        }
+    }
+}
+
 /// Reads the first line of a block.
 fn begin(alloc: Global, cases: Items<CaseDef>, names: Names, line: &[u8]) -> Result<Step, NoMemory>
     requires { names ≡ names_of cases None }
-    ensures { IfOk result (λ step. step ≡ begin_with cases (ident_in line.now)) }
+    ensures { IfOk result (λ step. step ≡ begin_with cases (name_from (ident_in line.now))) }
 {
-    match ident_in(line) {
-        None => Ok(Step::Wrong(ListCause::NoIdent)),
-        Some(name) => {
-            if !is_name(name) {
-                return Ok(Step::Wrong(ListCause::BadValue));
-            }
-            let name = lossy(alloc, name)?;
-            let step = begin_named(alloc, cases, names, name)?;
-            Ok(step)
-        }
+    match name_in(alloc, line)? {
+        Err(cause) => Ok(Step::Wrong(cause)),
+        Ok(name) => begin_named(alloc, cases, names, name),
     }
 }
 
@@ -57,6 +66,7 @@ fn is_set(block: &mut Block, name: &Text, value: &Text) -> Result<bool, NoMemory
     ensures good { IfOk result (λ good. good ≡ is_good name.now value.now) }
     ensures set { IfOk result (λ good.
         good ≡ true → block.new ≡ with_property block.old name.now value.now) }
+    ensures name { block.new.name ≡ block.old.name }
 {
     match block.set(name, value) {
         Err(PropFault::NoMemory(refusal)) => Err(refusal),
@@ -65,74 +75,99 @@ fn is_set(block: &mut Block, name: &Text, value: &Text) -> Result<bool, NoMemory
     }
 }
 
+/// Gives a block a value for the property of this name, or returns the cause why it may not.
 fn set_property(
-    cases: Items<CaseDef>,
-    names: Names,
-    mut block: Block,
-    name: Option<Text>,
-    value: Text,
-) -> Result<Step, NoMemory>
-    requires { names ≡ names_of cases (Some block) }
-    ensures { IfOk result (λ step. step ≡ set_property cases block name value) }
+    block: &mut Block,
+    name: &Option<Text>,
+    value: &Text,
+) -> Result<Option<ListCause>, NoMemory>
+    ensures change { IfOk result (λ fault.
+        changed block.new fault ≡ set_property block.old name.now value.now) }
+    ensures name { block.new.name ≡ block.old.name }
 {
     match name {
-        None => Ok(Step::Wrong(ListCause::UnknownKey)),
+        None => Ok(Some(ListCause::UnknownKey)),
         Some(name) => {
-            if block.has(&name) {
-                return Ok(Step::Wrong(ListCause::RepeatedKey));
+            if block.has(name) {
+                return Ok(Some(ListCause::RepeatedKey));
             }
-            if !is_set(&mut block, &name, &value)? {
-                return Ok(Step::Wrong(ListCause::BadValue));
+            if !is_set(block, name, value)? {
+                return Ok(Some(ListCause::BadValue));
             }
-            Ok(Step::To(Reading {
-                cases,
-                names,
-                block: Some(block),
-            }))
+            Ok(None)
         }
     }
 }
 
 fn set_key(
     alloc: Global,
-    cases: Items<CaseDef>,
-    names: Names,
-    block: Block,
-    key: Text,
-    value: Text,
-) -> Result<Step, NoMemory>
-    requires { names ≡ names_of cases (Some block) }
-    ensures { IfOk result (λ step. step ≡ set_key cases block key value) }
+    block: &mut Block,
+    key: &Text,
+    value: &Text,
+) -> Result<Option<ListCause>, NoMemory>
+    ensures change { IfOk result (λ fault.
+        changed block.new fault ≡ set_key block.old key.now value.now) }
+    ensures name { block.new.name ≡ block.old.name }
 {
     if key.is_word("ident") {
-        return Ok(Step::Wrong(ListCause::RepeatedKey));
+        return Ok(Some(ListCause::RepeatedKey));
     }
-    let name = property_of_key(alloc, &key)?;
-    set_property(cases, names, block, name, value)
+    let name = property_of_key(alloc, key)?;
+    set_property(block, &name, value)
+}
+
+/// Gives a block a value for a key, both as bytes.
+fn set_bytes(
+    alloc: Global,
+    block: &mut Block,
+    key: &[u8],
+    value: &[u8],
+) -> Result<Option<ListCause>, NoMemory>
+    ensures change { IfOk result (λ fault.
+        changed block.new fault ≡ set_key block.old (lossy key.now) (lossy value.now)) }
+    ensures name { block.new.name ≡ block.old.name }
+{
+    let key = lossy(alloc, key)?;
+    let value = lossy(alloc, value)?;
+    set_key(alloc, block, &key, &value)
+}
+
+/// Gives a block the value in a line for the key in it, or returns the cause why it may not.
+fn set_line(alloc: Global, block: &mut Block, line: &[u8]) -> Result<Option<ListCause>, NoMemory>
+    ensures change { IfOk result (λ fault.
+        changed block.new fault ≡ set_line block.old (key_in line.now) (value_in line.now)) }
+    ensures name { block.new.name ≡ block.old.name }
+{
+    match value_in(line) {
+        None => Ok(Some(ListCause::BadLine)),
+        Some(value) => {
+            let key = key_in(line);
+            if key.is_empty() {
+                return Ok(Some(ListCause::BadLine));
+            }
+            set_bytes(alloc, block, key, value)
+        }
+    }
 }
 
 fn go_on_with(
     alloc: Global,
     cases: Items<CaseDef>,
     names: Names,
-    block: Block,
+    mut block: Block,
     line: &[u8],
 ) -> Result<Step, NoMemory>
     requires { names ≡ names_of cases (Some block) }
-    ensures { IfOk result (λ step. step ≡ go_on_with cases block (key_in line.now)
-        (value_in line.now)) }
+    ensures { IfOk result (λ step. step ≡ go_on_with cases
+        (set_line block (key_in line.now) (value_in line.now))) }
 {
-    match value_in(line) {
-        None => Ok(Step::Wrong(ListCause::BadLine)),
-        Some(value) => {
-            let key = key_in(line);
-            if key.is_empty() {
-                return Ok(Step::Wrong(ListCause::BadLine));
-            }
-            let key = lossy(alloc, key)?;
-            let value = lossy(alloc, value)?;
-            set_key(alloc, cases, names, block, key, value)
-        }
+    match set_line(alloc, &mut block, line)? {
+        Some(cause) => Ok(Step::Wrong(cause)),
+        None => Ok(Step::To(Reading {
+            cases,
+            names,
+            block: Some(block),
+        })),
     }
 }
 

@@ -1,5 +1,5 @@
 -- A list of test cases, read line by line.
-use Rattle.std.specs.Prelude.{ℕ, ◌+◌, if◌then◌else◌, List, [], ◌∷◌, ◌++◌, codes, bytes_eq, Option, Some, None, Ok, Err}
+use Rattle.std.specs.Prelude.{ℕ, ◌+◌, if◌then◌else◌, List, [], ◌∷◌, ◌++◌, codes, bytes_eq, Option, Some, None, Result, Ok, Err}
 use Rattle.std.specs.Str.{is_utf8}
 use Rattle.kt_base.specs.Lossy.{lossy}
 use Rattle.kt_metadata.specs.ListKeys.{name_of_key}
@@ -9,6 +9,7 @@ use Rattle.kt_atflist.specs.BlockLines.{ident_in, is_name, key_in, value_in}
 use Rattle.kt_atflist.specs.Blocks.{is_listed, is_given, named, with_property, is_good}
 use Rattle.kt_atflist.specs.Spelling.{Outcome, header, fault_at}
 use Rattle.kt_atflist.specs.declared.listing.CaseDef.{CaseDef}
+use Rattle.kt_atflist.specs.declared.list_fault.ListCause.{ListCause}
 use Rattle.kt_atflist.specs.declared.list_fault.ListCause.TheVariants.{BadHeader, BadLine, NoIdent, RepeatedKey, RepeatedIdent, UnknownKey, BadValue, EmptyList, NotUtf8}
 use Rattle.kt_atflist.specs.Read.{Read}
 use Rattle.kt_atflist.specs.declared.reading.Step.{Step}
@@ -18,35 +19,54 @@ use Rattle.kt_atflist.specs.declared.reading.Step.TheVariants.{To, Wrong}
 abbrev pub begin_named : List CaseDef → List ℕ → Step
 begin_named cases name = if is_listed cases name then Wrong RepeatedIdent else To (record { cases = cases; block = Some (named name) })
 
--- a block begins, if its first line has an ident
-abbrev pub begin_with : List CaseDef → Option (List ℕ) → Step
-begin_with cases None = Wrong NoIdent
-begin_with cases (Some name) = if is_name name then begin_named cases (lossy name) else Wrong BadValue
+-- the name that an ident gives a case
+abbrev pub name_from : Option (List ℕ) → Result (List ℕ) ListCause
+name_from None = Err NoIdent
+name_from (Some ident) = if is_name ident then Ok (lossy ident) else Err BadValue
 
--- a block goes on with a value for the property of this name
-abbrev pub set_property : List CaseDef → CaseDef → Option (List ℕ) → List ℕ → Step
-set_property cases block None value = Wrong UnknownKey
-set_property cases block (Some name) value =
-    if is_given block.props name then Wrong RepeatedKey
-    else if is_good name value then To (record { cases = cases; block = Some (with_property block name value) })
-    else Wrong BadValue
+-- a block begins, if its first line has a name
+abbrev pub begin_with : List CaseDef → Result (List ℕ) ListCause → Step
+begin_with cases (Err cause) = Wrong cause
+begin_with cases (Ok name) = begin_named cases name
 
--- a block goes on with a value for a key
-abbrev pub set_key : List CaseDef → CaseDef → List ℕ → List ℕ → Step
-set_key cases block key value = if bytes_eq key (codes "ident") then Wrong RepeatedKey else set_property cases block (name_of_key key) value
+-- what becomes of a block
+abbrev pub Change : Type 0
+Change = Result CaseDef ListCause
 
--- a block goes on, if a line has a key and a value
-abbrev pub go_on_with : List CaseDef → CaseDef → List ℕ → Option (List ℕ) → Step
-go_on_with cases block key None = Wrong BadLine
-go_on_with cases block key (Some value) = if is_empty key then Wrong BadLine else set_key cases block (lossy key) (lossy value)
+-- a block that was changed, or its fault
+abbrev pub changed : CaseDef → Option ListCause → Change
+changed block None = Ok block
+changed block (Some cause) = Err cause
+
+-- a block is given a value for the property of this name
+abbrev pub set_property : CaseDef → Option (List ℕ) → List ℕ → Change
+set_property block None value = Err UnknownKey
+set_property block (Some name) value =
+    if is_given block.props name then Err RepeatedKey
+    else if is_good name value then Ok (with_property block name value)
+    else Err BadValue
+
+-- a block is given a value for a key
+abbrev pub set_key : CaseDef → List ℕ → List ℕ → Change
+set_key block key value = if bytes_eq key (codes "ident") then Err RepeatedKey else set_property block (name_of_key key) value
+
+-- a block is given what a line has, if it has a key and a value
+abbrev pub set_line : CaseDef → List ℕ → Option (List ℕ) → Change
+set_line block key None = Err BadLine
+set_line block key (Some value) = if is_empty key then Err BadLine else set_key block (lossy key) (lossy value)
+
+-- a changed block goes on
+abbrev pub go_on_with : List CaseDef → Change → Step
+go_on_with cases (Err cause) = Wrong cause
+go_on_with cases (Ok block) = To (record { cases = cases; block = Some block })
 
 -- a block goes on or ends
 abbrev pub go_on : List CaseDef → CaseDef → List ℕ → Step
-go_on cases block line = if is_empty line then To (record { cases = cases ++ block ∷ []; block = None }) else go_on_with cases block (key_in line) (value_in line)
+go_on cases block line = if is_empty line then To (record { cases = cases ++ block ∷ []; block = None }) else go_on_with cases (set_line block (key_in line) (value_in line))
 
 -- where a line leads, with a block begun or none
 abbrev pub step_from : List CaseDef → Option CaseDef → List ℕ → Step
-step_from cases None line = begin_with cases (ident_in line)
+step_from cases None line = begin_with cases (name_from (ident_in line))
 step_from cases (Some block) line = go_on cases block line
 
 -- where a line leads

@@ -1,6 +1,6 @@
 use Rattle.std.proofs.Common.{◌≡◌, ◌++◌, map}
 use Rattle.kt_atflist.proofs.Common.{over_program}
-use Rattle.kt_atflist.proofs.program_cases.all_with_program.Given as goal
+use Rattle.kt_atflist.proofs.program_cases.each_with_program.Given as goal
 
 -- the cases so far, and those of the rest, are those of all
 abbrev pub invariant-loop-case : goal.invariant-loop-case
