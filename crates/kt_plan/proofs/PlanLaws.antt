@@ -1,27 +1,10 @@
 -- The plan of some cases can be run.
 use Rattle.std.proofs.Common.{Some, slice_get, ◌≡◌, ℕ, zero, suc, ◌+◌, ◌≤◌, List, [], ◌∷◌, ◌++◌, length, arith, refl, ap, ◌∙◌, sym, subst, add-zero, add-one, append_assoc, append-nil, ◌⊎◌, inl, inr}
-use Rattle.kt_plan.proofs.Common.{Values, Host, Job, IsFit, IsPlan, Candidate, ArePlanned, no_job, planned, IsJobOf}
+use Rattle.kt_plan.proofs.Common.{Values, Host, Job, Candidate, ArePlanned, no_job, planned, IsJobOf}
 use Rattle.kt_plan.proofs.Rests.{none_left}
 
 some_is : {X : Type 0} (x y : X) → Some x ≡ Some y → x ≡ y
 some_is x y e = cc
-
--- each job so far can be started
-abbrev pub AreFit : List Job → Type 0
-AreFit plan = (i : ℕ) (job : Job) → slice_get plan i ≡ Some job → IsFit job
-
-last_of : (plan : List Job) (last : Job) (i : ℕ) (job : Job) → slice_get (plan ++ last ∷ []) i ≡ Some job → (slice_get plan i ≡ Some job) ⊎ (last ≡ job)
-last_of [] last zero job e = inr (some_is last job e)
-last_of [] last (suc i) job e = absurd (cc)
-last_of (first ∷ plan) last zero job e = inl e
-last_of (first ∷ plan) last (suc i) job e = last_of plan last i job e
-
-fit_more : (plan : List Job) (last : Job) → AreFit plan → IsFit last → AreFit (plan ++ last ∷ [])
-fit_more plan last all f i job e = by (last_of plan last i job e)
-  where
-    by : (slice_get plan i ≡ Some job) ⊎ (last ≡ job) → IsFit job
-    by (inl h) = all i job h
-    by (inr h) = subst IsFit h f
 
 module _ (config : Values) (host : Host) where
   pub placed_from : (k : ℕ) (cases : List Candidate) (plan : List Job) → ArePlanned config host k cases plan → (i : ℕ) (job : Job) → slice_get plan i ≡ Some job → job.position ≡ k + i
@@ -29,7 +12,7 @@ module _ (config : Values) (host : Host) where
   placed_from k _ _ (planned _ candidate cases first plan is rest) zero job e = ap (λ (j : Job). j.position) (sym (some_is first job e)) ∙ is.at ∙ sym (add-zero k)
   placed_from k _ _ (planned _ candidate cases first plan is rest) (suc i) job e = placed_from (suc k) cases plan rest i job e ∙ omega arith
 
-  length_from : (k : ℕ) (cases : List Candidate) (plan : List Job) → ArePlanned config host k cases plan → length plan ≡ length cases
+  pub length_from : (k : ℕ) (cases : List Candidate) (plan : List Job) → ArePlanned config host k cases plan → length plan ≡ length cases
   length_from k _ _ (no_job _) = refl
   length_from k _ _ (planned _ candidate cases first plan is rest) = ap suc (length_from (suc k) cases plan rest)
 
@@ -37,26 +20,19 @@ module _ (config : Values) (host : Host) where
   pub record Jobs (cases : List Candidate) (position : ℕ) (rest : List Candidate) (plan : List Job) : Type 0 where
     pub goes : (more : List Job) → ArePlanned config host position rest more → ArePlanned config host 0 cases (plan ++ more)
     pub room : position + length rest ≤ 100000
-    pub fit : AreFit plan
 
   module _ (cases : List Candidate) where
     pub jobs_next : (position : ℕ) (rest after : List Candidate) (candidate : Candidate) (plan grown : List Job) (job : Job) → rest ≡ candidate ∷ after → Jobs cases position rest plan
-        → IsJobOf config host position candidate job → IsFit job → grown ≡ plan ++ job ∷ [] → Jobs cases (position + 1) after grown
-    jobs_next position rest after candidate plan grown job e j is f g = record {
+        → IsJobOf config host position candidate job → grown ≡ plan ++ job ∷ [] → Jobs cases (position + 1) after grown
+    jobs_next position rest after candidate plan grown job e j is g = record {
       goes = λ more h.
           subst (λ (jobs : List Job). ArePlanned config host 0 cases (jobs ++ more)) (sym g)
           (subst (λ (jobs : List Job). ArePlanned config host 0 cases jobs) (sym (append_assoc plan (job ∷ []) more))
           (j.goes (job ∷ more) (subst (λ (cs : List Candidate). ArePlanned config host position cs (job ∷ more)) (sym e)
           (planned position candidate after job more is (subst (λ (k : ℕ). ArePlanned config host k after more) (add-one position) h)))));
       room = omega (arith, j.room, ap (λ (cs : List Candidate). length cs) e);
-      fit = subst AreFit (sym g) (fit_more plan job j.fit f);
     }
 
     pub jobs_all : (position : ℕ) (rest : List Candidate) (plan : List Job) → length rest ≡ 0 → Jobs cases position rest plan → ArePlanned config host 0 cases plan
     jobs_all position rest plan e j =
         subst (λ (jobs : List Job). ArePlanned config host 0 cases jobs) (append-nil plan) (j.goes [] (subst (λ (cs : List Candidate). ArePlanned config host position cs []) (sym (none_left rest e)) (no_job position)))
-
-    pub jobs_run : (position : ℕ) (rest : List Candidate) (plan : List Job) → length rest ≡ 0 → Jobs cases position rest plan → IsPlan plan × (length plan ≡ length cases)
-    jobs_run position rest plan e j =
-        let all = jobs_all position rest plan e j in
-        (record { placed = λ i job h. placed_from 0 cases plan all i job h ∙ omega arith; fit = j.fit }, length_from 0 cases plan all)

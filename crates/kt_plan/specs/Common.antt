@@ -3,6 +3,7 @@ pub use Rattle.std.specs.List.{Contains}
 pub use Rattle.kt_base.specs.Moments.{IsMoment}
 pub use Rattle.kt_base.specs.declared.child.Role.{Role}
 pub use Rattle.kt_config.specs.Names.{definition_named}
+pub use Rattle.kt_config.specs.Values.{Values}
 pub use Rattle.kt_metadata.specs.Effective.{effective}
 pub use Rattle.kt_metadata.specs.Requirements.{first_reason, needed, rows}
 pub use Rattle.kt_sched.specs.Children.{IsIdle}

@@ -1,5 +1,6 @@
-ghost use Rattle.std.specs.Prelude.{◌≡◌, ◌≤◌, ◌&&◌, length, IfOk, MatchResult};
-ghost use Rattle.kt_plan.specs.Common.{first_reason, rows, variables_for, IsFit, IsPlan, most_items, is_atf, ArePlanned, IsDecided, IsJobOf, IsIdle, Answered, Surveys, SurveysFirst};
+ghost use Rattle.std.specs.Prelude.{◌≡◌, ◌≤◌, ◌&&◌, ◌++◌, ◌∷◌, [], length, IfOk, OnOk, MatchResult};
+ghost use Rattle.kt_plan.specs.Common.{Values, meta_in, first_reason, rows, variables_for, IsPlan, most_items, is_atf, ArePlanned, IsDecided, IsJobOf, IsIdle, Answered, Surveys, SurveysFirst};
+ghost use Rattle.kt_sched.specs.declared.job.Job.{Job as Planned};
 ghost use Rattle.kt_metadata.specs.declared.host.Host.{Host as Surveyed};
 
 use crate::plan::looking::survey;
@@ -54,6 +55,44 @@ fn decided(
     }
 }
 
+/// The names that a case's job has: its program and its own.
+fn names_of(candidate: &Candidate) -> Result<(Text, Text), NoMemory>
+    ensures { IfOk result (λ names. (names.0 ≡ candidate.now.path)
+        × (names.1 ≡ candidate.now.case.name)) }
+{
+    Ok((candidate.path.copy()?, candidate.case.name.copy()?))
+}
+
+/// The job of a case whose verdict is known, if it isn't to be started.
+fn job_of(
+    position: u32,
+    candidate: &Candidate,
+    vars: Variables,
+    meta: &Meta,
+    decided: Option<Verdict>,
+) -> Result<Job, NoMemory>
+    ensures { (config : Values) → (host : Surveyed) → vars ≡ variables_for config candidate.now.suite
+        → meta.now ≡ meta_in candidate.now
+        → IsDecided candidate.now.case.fault
+        (first_reason (rows meta.now config candidate.now.suite host)) decided
+        → IfOk result (λ job. IsJobOf config host position candidate.now job) }
+{
+    let (program, case_name) = names_of(candidate)?;
+    let listed = candidate.case.props.listing()?;
+    Ok(Job {
+        position,
+        interface: candidate.interface,
+        program,
+        case_name,
+        vars,
+        timeout: meta.timeout,
+        exclusive: meta.is_exclusive,
+        cleanup: declares_cleanup(candidate.interface, meta),
+        decided,
+        meta: listed,
+    })
+}
+
 /// The job of a case at a position, with the variables of its suite.
 fn job_at(
     alloc: Global,
@@ -64,23 +103,30 @@ fn job_at(
     vars: Variables,
 ) -> Result<Job, NoMemory>
     requires { vars ≡ variables_for config.now candidate.now.suite }
-    ensures is { IfOk result (λ job. IsJobOf config.now host.now position candidate.now job) }
-    ensures fit { IfOk result (λ job. IsFit job) }
+    ensures { IfOk result (λ job. IsJobOf config.now host.now position candidate.now job) }
 {
     let meta = candidate.case.props.effective()?;
     let decided = decided(alloc, candidate, &meta, config, host)?;
-    Ok(Job {
-        position,
-        interface: candidate.interface,
-        program: candidate.path.copy()?,
-        case_name: candidate.case.name.copy()?,
-        vars,
-        timeout: meta.timeout,
-        exclusive: meta.is_exclusive,
-        cleanup: declares_cleanup(candidate.interface, &meta),
-        decided,
-        meta: candidate.case.props.listing()?,
-    })
+    job_of(position, candidate, vars, &meta, decided)
+}
+
+/// Appends the job of a case, with a copy of the variables of its suite.
+fn plan_case(
+    alloc: Global,
+    config: &Config,
+    host: &Host,
+    position: u32,
+    candidate: &Candidate,
+    vars: &Variables,
+    plan: &mut Items<Job>,
+) -> Result<(), NoMemory>
+    requires { vars.now ≡ variables_for config.now candidate.now.suite }
+    ensures { OnOk result ((job : Planned) × (plan.new ≡ plan.old ++ job ∷ [])
+        × IsJobOf config.now host.now position candidate.now job) }
+{
+    let vars = vars.copy()?;
+    plan.push(job_at(alloc, config, host, position, candidate, vars)?)?;
+    Ok(())
 }
 
 /// The plan of some cases, at most 100,000: one job a case, in order. A case whose list has a fault
@@ -101,8 +147,15 @@ pub fn make_plan(
     let mut shared = SharedVariables::of(alloc, config, &Text::new(alloc))?;
     for candidate in cases {
         shared = shared.next(alloc, config, &candidate.suite)?;
-        let vars = shared.variables.copy()?;
-        plan.push(job_at(alloc, config, host, position, candidate, vars)?)?;
+        plan_case(
+            alloc,
+            config,
+            host,
+            position,
+            candidate,
+            &shared.variables,
+            &mut plan,
+        )?;
         position += 1;
     }
     Ok(plan)
