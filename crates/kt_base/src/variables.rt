@@ -8,11 +8,19 @@ use std::rc::Rc;
 
 /// Names with their values, in order. Contracts see the list of the pairs, whether or not its memory
 /// is shared.
-#[derive(Drop)]
 pub struct Variables {
     own: Vec<Variable>,
     /// The pairs, if their memory is shared.
     shared: Option<Rc<Vec<Variable>>>,
+}
+
+/// Written out, so that a drop is one call.
+impl Drop for Variables {
+    fn drop(self) {
+        let Variables { own, shared } = self;
+        drop(own);
+        drop(shared);
+    }
 }
 
 impl Model for Variables {

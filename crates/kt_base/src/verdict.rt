@@ -3,7 +3,6 @@ use std::io::Write;
 use std::marker::Model;
 
 /// Why a case has its verdict, kept without memory where its words are fixed.
-#[derive(Drop)]
 pub enum Reason {
     /// A passed case needs none.
     Nothing,
@@ -14,6 +13,19 @@ pub enum Reason {
     Counted(Phrase, u64, u64),
     /// The test program's own words, or a text with names in it.
     Owned(Text),
+}
+
+/// Written out, so that a drop is one call.
+impl Drop for Reason {
+    fn drop(self) {
+        match self {
+            Reason::Owned(text) => drop(text),
+            Reason::Nothing => {},
+            Reason::Fixed(_phrase) => {},
+            Reason::Ended(_phrase, _outcome) => {},
+            Reason::Counted(_phrase, _first, _second) => {},
+        }
+    }
 }
 
 impl Reason {

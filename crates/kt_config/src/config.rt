@@ -14,13 +14,28 @@ use std::marker::Model;
 
 /// The variables of the runner and of the test suites, each with its last value. Contracts see the
 /// values; `Holds` says whose last values they are.
-#[derive(Drop)]
 pub struct Config {
     alloc: Global,
     architecture: Option<Text>,
     platform: Option<Text>,
     parallelism: Width,
     suites: Suites,
+}
+
+/// Written out, so that a drop is one call.
+impl Drop for Config {
+    fn drop(self) {
+        let Config {
+            alloc: _,
+            architecture,
+            platform,
+            parallelism: _,
+            suites,
+        } = self;
+        drop(architecture);
+        drop(platform);
+        drop(suites);
+    }
 }
 
 impl Model for Config {

@@ -4,7 +4,6 @@ use crate::{Need, Props, User};
 use kt_base::{Items, NoMemory, Text};
 
 /// The properties of a case as kyuafile(5) names them, each by its value or its default.
-#[derive(Drop)]
 pub struct Meta {
     pub allowed_architectures: Items<Text>,
     pub allowed_platforms: Items<Text>,
@@ -23,6 +22,32 @@ pub struct Meta {
     pub required_user: User,
     /// In seconds, 1 to 1,000,000.
     pub timeout: u32,
+}
+
+/// Written out, so that a drop is one call.
+impl Drop for Meta {
+    fn drop(self) {
+        let Meta {
+            allowed_architectures,
+            allowed_platforms,
+            description,
+            has_cleanup: _,
+            is_exclusive: _,
+            required_configs,
+            required_disk_space: _,
+            required_files,
+            required_memory: _,
+            required_programs,
+            required_user: _,
+            timeout: _,
+        } = self;
+        drop(allowed_architectures);
+        drop(allowed_platforms);
+        drop(description);
+        drop(required_configs);
+        drop(required_files);
+        drop(required_programs);
+    }
 }
 
 impl Meta {

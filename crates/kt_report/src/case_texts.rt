@@ -1,11 +1,28 @@
 use kt_base::Text;
 
 /// The texts of a case as XML has them.
-#[derive(Drop)]
 pub struct CaseTexts {
     pub program: Text,
     pub case_name: Text,
     pub reason: Text,
     pub out: Text,
     pub err: Text,
+}
+
+/// Written out, so that a drop is one call.
+impl Drop for CaseTexts {
+    fn drop(self) {
+        let CaseTexts {
+            program,
+            case_name,
+            reason,
+            out,
+            err,
+        } = self;
+        drop(program);
+        drop(case_name);
+        drop(reason);
+        drop(out);
+        drop(err);
+    }
 }

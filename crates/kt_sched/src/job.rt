@@ -8,7 +8,6 @@ pub const MAX_WIDTH: u32 = 256;
 pub const MAX_TIMEOUT: u32 = 1_000_000;
 
 /// One test case of a plan.
-#[derive(Drop)]
 pub struct Job {
     /// The place in the plan, counted from 0.
     pub position: u32,
@@ -28,6 +27,29 @@ pub struct Job {
     pub decided: Option<Verdict>,
     /// What the case declares, as names with values. Its entry has them too.
     pub meta: Variables,
+}
+
+/// Written out, so that a drop is one call.
+impl Drop for Job {
+    fn drop(self) {
+        let Job {
+            position: _,
+            interface: _,
+            program,
+            case_name,
+            vars,
+            timeout: _,
+            exclusive: _,
+            cleanup: _,
+            decided,
+            meta,
+        } = self;
+        drop(program);
+        drop(case_name);
+        drop(vars);
+        drop(decided);
+        drop(meta);
+    }
 }
 
 /// The answer of a launcher to a start.

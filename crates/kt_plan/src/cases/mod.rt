@@ -9,7 +9,6 @@ use kt_atflist::CaseDef;
 use kt_base::{Interface, Items, Text};
 
 /// A test case that may be run, with what its program says of it.
-#[derive(Drop)]
 pub struct Candidate {
     pub interface: Interface,
     /// The path of the test program, relative to the directory of the root Kyuafile.
@@ -18,6 +17,21 @@ pub struct Candidate {
     pub suite: Text,
     /// Its name and its properties, over those of the program.
     pub case: CaseDef,
+}
+
+/// Written out, so that a drop is one call.
+impl Drop for Candidate {
+    fn drop(self) {
+        let Candidate {
+            interface: _,
+            path,
+            suite,
+            case,
+        } = self;
+        drop(path);
+        drop(suite);
+        drop(case);
+    }
 }
 
 /// What filters select of a tree.

@@ -8,7 +8,6 @@ use kt_config::Config;
 use kt_suite::Filter;
 
 /// The options of a command over test cases (kyua(1)).
-#[derive(Drop)]
 pub struct CaseOptions {
     /// The configuration file, if one is given (`-c`).
     pub config: Option<Text>,
@@ -20,6 +19,24 @@ pub struct CaseOptions {
     pub work: Text,
     /// The filters as they were given, in order.
     pub filters: Items<Text>,
+}
+
+/// Written out, so that a drop is one call.
+impl Drop for CaseOptions {
+    fn drop(self) {
+        let CaseOptions {
+            config,
+            variables,
+            kyuafile,
+            work,
+            filters,
+        } = self;
+        drop(config);
+        drop(variables);
+        drop(kyuafile);
+        drop(work);
+        drop(filters);
+    }
 }
 
 /// What a command over test cases is configured with, and the cases that it is to select.
