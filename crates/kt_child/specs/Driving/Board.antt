@@ -25,7 +25,7 @@ pub record Board : Type 0 where
   pub owed : List Case
   pub next : ℕ
 
--- these children, with what each has answered
+-- these children, with what each has answered, as its counters tell it; that this is all that was heard of it EndsAreTold says
 abbrev pub alive_of : List Watched → List Alive
 alive_of children = map (λ k. record { case = k.case; limit = k.limit; heard = answered k.limit k.watch }) children
 
@@ -65,8 +65,8 @@ Starts source root old job role calls answer new =
 abbrev pub hears : Alive → Heard → Alive
 hears a answer = record { case = a.case; limit = a.limit; heard = a.heard ++ answer ∷ [] }
 
--- A call of a wait: the answer to a poll or a kill is heard by one child, whose name the call has, and by no other;
--- that to a pause is heard by none.
+-- A call of a wait: the answer to a poll or a kill is heard by one child, whose name the call has; that to a pause is
+-- heard by none. Which child that is follows from the names, of which no two are the same (IsApart of Numbers).
 pub data Hears : List Alive → Call → List Alive → Type 0 where
   polled : (a : Alive) (others : List Alive) (answer : Result Polled OsFault)
       → Hears (a ∷ others) (Poll (child_of a.case) answer) (hears a (HeardPoll answer) ∷ others)
@@ -75,12 +75,12 @@ pub data Hears : List Alive → Call → List Alive → Type 0 where
   later : (a : Alive) (others after : List Alive) (call : Call) → Hears others call after → Hears (a ∷ others) call (a ∷ after)
   paused : (alive : List Alive) (done : Bool) → Hears alive (Pause done) alive
 
--- after these calls the child at a place is over: its outcome is the row of the outcome table that all its answers are
+-- after these calls the child at a place has ended: its outcome follows from all its answers (Told)
 abbrev pub IsOver : List Alive → List Call → List Alive → ℕ → Alive → Outcome → Type 0
 IsOver old polls after place over outcome =
     Chain Hears old polls after × (slice_get after place ≡ Some over) × Told over.limit over.heard outcome
 
--- An end: a child is over after its polls, what follows deals with its case, and it is on the board no more.
+-- An end: a child has ended after its polls, what follows deals with its case, and it is on the board no more.
 pub record Ends (old : Board) (calls : List Call) (e : Ended) (new : Board) : Type 0 where
   pub polls : List Call
   pub leaving : List Call
@@ -94,7 +94,8 @@ pub record Ends (old : Board) (calls : List Call) (e : Ended) (new : Board) : Ty
   pub owed : new.owed ≡ pending_with over.case old.owed
   pub next : new.next ≡ old.next
 
--- a wait for these children: an end whose polls go in turns, and what is kept of the children after it
+-- a wait for these children, said of the board, by names (Ends), and of the children, by places (WaitedOn): the polls, the place and the
+-- outcome are the same, and the child at that place is kept no more
 abbrev pub Waited : List Watched → Board → List Call → Ended → List Watched → Board → Type 0
 Waited children old calls e left new =
     (end : Ends old calls e new) × (after : List Watched) × WaitedOn children end.polls end.place e.outcome after × (left ≡ remove after end.place)

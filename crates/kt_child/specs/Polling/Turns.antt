@@ -26,7 +26,7 @@ PolledAll (k ∷ children) calls =
     × (turn_of k.limit k.watch answer done ≡ More)
     × PolledAll children more
 
--- one poll of this child, which ends it: its outcome is the row of the outcome table that all its answers are
+-- one poll of this child, which ends it: its outcome follows from all its answers
 abbrev pub PolledLast : Option Watched → List Call → Outcome → Type 0
 PolledLast None calls outcome = ⊥
 PolledLast (Some k) calls outcome =

@@ -65,7 +65,8 @@ impl<O: Os + Drop> Launcher for Driver<O> {
         }
     }
 
-    /// The end of the first child that is over. All that this child answered tells its outcome (`Waited`).
+    /// The end of the first child, polled in the order of their start, that is found to have ended (`DriverWaits`). Its
+    /// outcome follows from all that it answered (`Waited` of `Driving.Board`), and its name is no other's (`IsApart`).
     fn wait(&mut self) -> Ended {
         self.running.wait(self.alloc, &mut self.os)
     }
