@@ -27,14 +27,11 @@ impl Drop for Config {
     fn drop(self) {
         let Config {
             alloc: _,
-            architecture,
-            platform,
+            architecture: _,
+            platform: _,
             parallelism: _,
-            suites,
+            suites: _,
         } = self;
-        drop(architecture);
-        drop(platform);
-        drop(suites);
     }
 }
 

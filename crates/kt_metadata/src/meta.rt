@@ -28,25 +28,19 @@ pub struct Meta {
 impl Drop for Meta {
     fn drop(self) {
         let Meta {
-            allowed_architectures,
-            allowed_platforms,
-            description,
+            allowed_architectures: _,
+            allowed_platforms: _,
+            description: _,
             has_cleanup: _,
             is_exclusive: _,
-            required_configs,
+            required_configs: _,
             required_disk_space: _,
-            required_files,
+            required_files: _,
             required_memory: _,
-            required_programs,
+            required_programs: _,
             required_user: _,
             timeout: _,
         } = self;
-        drop(allowed_architectures);
-        drop(allowed_platforms);
-        drop(description);
-        drop(required_configs);
-        drop(required_files);
-        drop(required_programs);
     }
 }
 

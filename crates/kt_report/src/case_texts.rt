@@ -13,16 +13,11 @@ pub struct CaseTexts {
 impl Drop for CaseTexts {
     fn drop(self) {
         let CaseTexts {
-            program,
-            case_name,
-            reason,
-            out,
-            err,
+            program: _,
+            case_name: _,
+            reason: _,
+            out: _,
+            err: _,
         } = self;
-        drop(program);
-        drop(case_name);
-        drop(reason);
-        drop(out);
-        drop(err);
     }
 }

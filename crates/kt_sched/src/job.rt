@@ -35,20 +35,15 @@ impl Drop for Job {
         let Job {
             position: _,
             interface: _,
-            program,
-            case_name,
-            vars,
+            program: _,
+            case_name: _,
+            vars: _,
             timeout: _,
             exclusive: _,
             cleanup: _,
-            decided,
-            meta,
+            decided: _,
+            meta: _,
         } = self;
-        drop(program);
-        drop(case_name);
-        drop(vars);
-        drop(decided);
-        drop(meta);
     }
 }
 

@@ -83,20 +83,13 @@ impl Drop for Spawning {
         let Spawning {
             child: _,
             limit: _,
-            program,
-            words,
-            env,
-            dir,
-            work,
-            out,
-            err,
+            program: _,
+            words: _,
+            env: _,
+            dir: _,
+            work: _,
+            out: _,
+            err: _,
         } = self;
-        drop(program);
-        drop(words);
-        drop(env);
-        drop(dir);
-        drop(work);
-        drop(out);
-        drop(err);
     }
 }

@@ -26,21 +26,14 @@ pub struct Paths {
 impl Drop for Paths {
     fn drop(self) {
         let Paths {
-            dir,
-            work,
-            result,
-            out,
-            err,
-            cleanup_out,
-            cleanup_err,
+            dir: _,
+            work: _,
+            result: _,
+            out: _,
+            err: _,
+            cleanup_out: _,
+            cleanup_err: _,
         } = self;
-        drop(dir);
-        drop(work);
-        drop(result);
-        drop(out);
-        drop(err);
-        drop(cleanup_out);
-        drop(cleanup_err);
     }
 }
 

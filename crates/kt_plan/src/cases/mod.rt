@@ -24,13 +24,10 @@ impl Drop for Candidate {
     fn drop(self) {
         let Candidate {
             interface: _,
-            path,
-            suite,
-            case,
+            path: _,
+            suite: _,
+            case: _,
         } = self;
-        drop(path);
-        drop(suite);
-        drop(case);
     }
 }
 

@@ -25,17 +25,12 @@ pub struct CaseOptions {
 impl Drop for CaseOptions {
     fn drop(self) {
         let CaseOptions {
-            config,
-            variables,
-            kyuafile,
-            work,
-            filters,
+            config: _,
+            variables: _,
+            kyuafile: _,
+            work: _,
+            filters: _,
         } = self;
-        drop(config);
-        drop(variables);
-        drop(kyuafile);
-        drop(work);
-        drop(filters);
     }
 }
 
