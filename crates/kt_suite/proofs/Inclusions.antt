@@ -35,49 +35,49 @@ walk_include asks old new r at m path _ p e n (short front back more last fault 
 -- the four ways on behind a step
 pub step_stops : {T : Type 0} (asks : T → Asked → T → Type 0) (old mid new : T) (start : Registry) (file : List ℕ) (r : Registry) (suite : Option (List ℕ)) (stmt : Stmt) (rest left : List Stmt) (fault : SuiteFault) → left ≡ stmt ∷ rest
     → Reading asks old mid start file r suite left
-    → Stepped asks mid new r (record { file = file; line = stmt.line }) suite (meaning_of suite stmt.action) (Err fault)
+    → Stepped asks mid new r (record { file = file; line = stmt.line }) (meaning_of suite stmt.action) (Err fault)
     → Walked asks old new (FileGives start.reading file) start (Err fault)
 step_stops asks old mid new start file r suite stmt rest left _ e f (fails fault w) = reading_stops asks old mid new start file r suite stmt rest left fault e f w
 
-next_step : {T : Type 0} (asks : T → Asked → T → Type 0) (old mid new : T) (start : Registry) (file : List ℕ) (r after : Registry) (suite named : Option (List ℕ)) (stmt : Stmt) (rest left : List Stmt) → left ≡ stmt ∷ rest
+next_step : {T : Type 0} (asks : T → Asked → T → Type 0) (old mid new : T) (start : Registry) (file : List ℕ) (r after : Registry) (suite : Option (List ℕ)) (stmt : Stmt) (rest left : List Stmt) → left ≡ stmt ∷ rest
     → Reading asks old mid start file r suite left
-    → Stepped asks mid new r (record { file = file; line = stmt.line }) suite (meaning_of suite stmt.action) (Ok (Next after named))
+    → Stepped asks mid new r (record { file = file; line = stmt.line }) (meaning_of suite stmt.action) (Ok (Next after))
+    → Reading asks old new start file after (suite_after suite (meaning_of suite stmt.action)) rest
+next_step asks old mid new start file r _ suite stmt rest left e f (goes after w) = reading_next asks old mid new start file r after suite stmt rest left e f w
+
+pub step_next : {T : Type 0} (asks : T → Asked → T → Type 0) (old mid new : T) (start : Registry) (file : List ℕ) (r after : Registry) (suite named : Option (List ℕ)) (step : Step) (stmt : Stmt) (rest left : List Stmt) → left ≡ stmt ∷ rest → step ≡ Next after
+    → Reading asks old mid start file r suite left
+    → Stepped asks mid new r (record { file = file; line = stmt.line }) (meaning_of suite stmt.action) (Ok step) → named ≡ suite_after suite (meaning_of suite stmt.action)
     → Reading asks old new start file after named rest
-next_step asks old mid new start file r _ suite _ stmt rest left e f (goes after w) = reading_next asks old mid new start file r after suite stmt rest left e f w
+step_next asks old mid new start file r after suite named step stmt rest left e is f s n =
+    subst (λ (x : Option (List ℕ)). Reading asks old new start file after x rest) (sym n)
+    (next_step asks old mid new start file r after suite stmt rest left e f (subst (λ (x : Step). Stepped asks mid new r (record { file = file; line = stmt.line }) (meaning_of suite stmt.action) (Ok x)) is s))
 
-pub step_next : {T : Type 0} (asks : T → Asked → T → Type 0) (old mid new : T) (start : Registry) (file : List ℕ) (r after : Registry) (suite named : Option (List ℕ)) (step : Step) (stmt : Stmt) (rest left : List Stmt) → left ≡ stmt ∷ rest → step ≡ Next after named
+inner_walk : {T : Type 0} (asks : T → Asked → T → Type 0) (mid sub new : T) (r next : Registry) (at : Site) (m : Meaning) (path : List ℕ) (result : Result Registry SuiteFault)
+    → Stepped asks mid sub r at m (Ok (Enter next path)) → Walked asks sub new (FileGives next.reading path) next result → Walked asks mid new (MeaningGives r.reading at m) r result
+inner_walk asks mid sub new r _ at m _ result (enters path p e n s) w =
+    walk_include asks mid new r at m path result p e n (subst (λ t. Walked asks t new (FileGives r.reading path) (record r { files = r.files + 1 }) result) s w)
+
+inner : {T : Type 0} (asks : T → Asked → T → Type 0) (mid sub new : T) (r next : Registry) (at : Site) (m : Meaning) (path : List ℕ) (step : Step) (result : Result Registry SuiteFault) → step ≡ Enter next path
+    → Stepped asks mid sub r at m (Ok step) → Walked asks sub new (FileGives next.reading path) next result → Walked asks mid new (MeaningGives r.reading at m) r result
+inner asks mid sub new r next at m path step result is s w = inner_walk asks mid sub new r next at m path result (subst (λ (x : Step). Stepped asks mid sub r at m (Ok x)) is s) w
+
+pub step_inner : {T : Type 0} (asks : T → Asked → T → Type 0) (old mid sub new : T) (start : Registry) (file : List ℕ) (r next after : Registry) (suite named : Option (List ℕ)) (path : List ℕ) (step : Step) (stmt : Stmt) (rest left : List Stmt) → left ≡ stmt ∷ rest → step ≡ Enter next path
     → Reading asks old mid start file r suite left
-    → Stepped asks mid new r (record { file = file; line = stmt.line }) suite (meaning_of suite stmt.action) (Ok step)
-    → Reading asks old new start file after named rest
-step_next asks old mid new start file r after suite named step stmt rest left e is f s =
-    next_step asks old mid new start file r after suite named stmt rest left e f (subst (λ (x : Step). Stepped asks mid new r (record { file = file; line = stmt.line }) suite (meaning_of suite stmt.action) (Ok x)) is s)
-
-inner_walk : {T : Type 0} (asks : T → Asked → T → Type 0) (mid sub new : T) (r next : Registry) (at : Site) (suite named : Option (List ℕ)) (m : Meaning) (path : List ℕ) (result : Result Registry SuiteFault)
-    → Stepped asks mid sub r at suite m (Ok (Enter next named path)) → Walked asks sub new (FileGives next.reading path) next result → Walked asks mid new (MeaningGives r.reading at m) r result × (named ≡ suite_after suite m)
-inner_walk asks mid sub new r _ at suite _ m _ result (enters path p e n s) w =
-    (walk_include asks mid new r at m path result p e n (subst (λ t. Walked asks t new (FileGives r.reading path) (record r { files = r.files + 1 }) result) s w), refl)
-
-inner : {T : Type 0} (asks : T → Asked → T → Type 0) (mid sub new : T) (r next : Registry) (at : Site) (suite named : Option (List ℕ)) (m : Meaning) (path : List ℕ) (step : Step) (result : Result Registry SuiteFault) → step ≡ Enter next named path
-    → Stepped asks mid sub r at suite m (Ok step) → Walked asks sub new (FileGives next.reading path) next result → Walked asks mid new (MeaningGives r.reading at m) r result × (named ≡ suite_after suite m)
-inner asks mid sub new r next at suite named m path step result is s w = inner_walk asks mid sub new r next at suite named m path result (subst (λ (x : Step). Stepped asks mid sub r at suite m (Ok x)) is s) w
-
-pub step_inner : {T : Type 0} (asks : T → Asked → T → Type 0) (old mid sub new : T) (start : Registry) (file : List ℕ) (r next after : Registry) (suite named : Option (List ℕ)) (path : List ℕ) (step : Step) (stmt : Stmt) (rest left : List Stmt) → left ≡ stmt ∷ rest → step ≡ Enter next named path
-    → Reading asks old mid start file r suite left
-    → Stepped asks mid sub r (record { file = file; line = stmt.line }) suite (meaning_of suite stmt.action) (Ok step)
+    → Stepped asks mid sub r (record { file = file; line = stmt.line }) (meaning_of suite stmt.action) (Ok step) → named ≡ suite_after suite (meaning_of suite stmt.action)
     → Walked asks sub new (FileGives next.reading path) next (Ok after)
     → Reading asks old new start file after named rest
-step_inner asks old mid sub new start file r next after suite named path step stmt rest left e is f s w =
-    let i = inner asks mid sub new r next (record { file = file; line = stmt.line }) suite named (meaning_of suite stmt.action) path step (Ok after) is s w in
-    subst (λ (x : Option (List ℕ)). Reading asks old new start file after x rest) (sym i.1) (reading_next asks old mid new start file r after suite stmt rest left e f i.0)
+step_inner asks old mid sub new start file r next after suite named path step stmt rest left e is f s n w =
+    subst (λ (x : Option (List ℕ)). Reading asks old new start file after x rest) (sym n)
+    (reading_next asks old mid new start file r after suite stmt rest left e f (inner asks mid sub new r next (record { file = file; line = stmt.line }) (meaning_of suite stmt.action) path step (Ok after) is s w))
 
-pub step_inner_stops : {T : Type 0} (asks : T → Asked → T → Type 0) (old mid sub new : T) (start : Registry) (file : List ℕ) (r next : Registry) (suite named : Option (List ℕ)) (path : List ℕ) (step : Step) (stmt : Stmt) (rest left : List Stmt) (fault : SuiteFault) → left ≡ stmt ∷ rest → step ≡ Enter next named path
+pub step_inner_stops : {T : Type 0} (asks : T → Asked → T → Type 0) (old mid sub new : T) (start : Registry) (file : List ℕ) (r next : Registry) (suite : Option (List ℕ)) (path : List ℕ) (step : Step) (stmt : Stmt) (rest left : List Stmt) (fault : SuiteFault) → left ≡ stmt ∷ rest → step ≡ Enter next path
     → Reading asks old mid start file r suite left
-    → Stepped asks mid sub r (record { file = file; line = stmt.line }) suite (meaning_of suite stmt.action) (Ok step)
+    → Stepped asks mid sub r (record { file = file; line = stmt.line }) (meaning_of suite stmt.action) (Ok step)
     → Walked asks sub new (FileGives next.reading path) next (Err fault)
     → Walked asks old new (FileGives start.reading file) start (Err fault)
-step_inner_stops asks old mid sub new start file r next suite named path step stmt rest left fault e is f s w =
-    let i = inner asks mid sub new r next (record { file = file; line = stmt.line }) suite named (meaning_of suite stmt.action) path step (Err fault) is s w in
-    reading_stops asks old mid new start file r suite stmt rest left fault e f i.0
+step_inner_stops asks old mid sub new start file r next suite path step stmt rest left fault e is f s w =
+    reading_stops asks old mid new start file r suite stmt rest left fault e f (inner asks mid sub new r next (record { file = file; line = stmt.line }) (meaning_of suite stmt.action) path step (Err fault) is s w)
 
 not_le : (n : ℕ) (b : Bool) → nat_le 32 n ≡ b → (if b then Some TooDeep else None) ≡ None → n < 32
 not_le n true h e = absurd (cc)
@@ -91,13 +91,13 @@ entered_below : (files : List (List ℕ)) (path : List ℕ) → entry_fault file
 entered_below files path e = below (list_any (bytes_eq path) files) (length files) e
 
 -- a file is entered with fewer files open than the most
-deep : {T : Type 0} (asks : T → Asked → T → Type 0) (old mid sub : T) (start : Registry) (file : List ℕ) (r next : Registry) (suite named : Option (List ℕ)) (m : Meaning) (at : Site) (path : List ℕ) (left : List Stmt)
-    → Reading asks old mid start file r suite left → Stepped asks mid sub r at suite m (Ok (Enter next named path)) → 32 - length next.reading < 32 - length start.reading
-deep asks old mid sub start file r _ suite _ m at _ left f (enters path p e n s) =
+deep : {T : Type 0} (asks : T → Asked → T → Type 0) (old mid sub : T) (start : Registry) (file : List ℕ) (r next : Registry) (suite : Option (List ℕ)) (m : Meaning) (at : Site) (path : List ℕ) (left : List Stmt)
+    → Reading asks old mid start file r suite left → Stepped asks mid sub r at m (Ok (Enter next path)) → 32 - length next.reading < 32 - length start.reading
+deep asks old mid sub start file r _ suite m at _ left f (enters path p e n s) =
     let same = ap (λ (xs : List (List ℕ)). length xs) (same_reading (begun start file) r f.front f.counted) in
     let room = entered_below r.reading path e in
     omega (arith, same, room, length-append start.reading (file ∷ []))
 
-pub deeper : {T : Type 0} (asks : T → Asked → T → Type 0) (old mid sub : T) (start : Registry) (file : List ℕ) (r next : Registry) (suite named : Option (List ℕ)) (m : Meaning) (at : Site) (path : List ℕ) (step : Step) (left : List Stmt) → step ≡ Enter next named path
-    → Reading asks old mid start file r suite left → Stepped asks mid sub r at suite m (Ok step) → 32 - length next.reading < 32 - length start.reading
-deeper asks old mid sub start file r next suite named m at path step left is f s = deep asks old mid sub start file r next suite named m at path left f (subst (λ (x : Step). Stepped asks mid sub r at suite m (Ok x)) is s)
+pub deeper : {T : Type 0} (asks : T → Asked → T → Type 0) (old mid sub : T) (start : Registry) (file : List ℕ) (r next : Registry) (suite : Option (List ℕ)) (m : Meaning) (at : Site) (path : List ℕ) (step : Step) (left : List Stmt) → step ≡ Enter next path
+    → Reading asks old mid start file r suite left → Stepped asks mid sub r at m (Ok step) → 32 - length next.reading < 32 - length start.reading
+deeper asks old mid sub start file r next suite m at path step left is f s = deep asks old mid sub start file r next suite m at path left f (subst (λ (x : Step). Stepped asks mid sub r at m (Ok x)) is s)

@@ -1,5 +1,5 @@
 -- One statement more is read.
-use Rattle.std.proofs.Common.{Bool, true, false, Option, Some, None, Result, Ok, Err, ◌≡◌, ◌≤◌, ◌<◌, ◌+◌, ℕ, List, [], ◌∷◌, ◌++◌, length, refl, sym, subst, ◌⊎◌, inl, inr}
+use Rattle.std.proofs.Common.{Bool, true, false, Some, None, Result, Ok, Err, ◌≡◌, ◌≤◌, ◌<◌, ◌+◌, ℕ, List, [], ◌∷◌, ◌++◌, length, refl, sym, subst, ◌⊎◌, inl, inr}
 use Rattle.kt_suite.proofs.Common.{Variable, SuiteCause, MissingProgram, TooMany, SuiteFault, Meaning, Program, Registry, Missing, Step, Next, Enter, Asked, Exists, IsNoMemory, beside, Site, site_fault, looked_up, Mark, Asks, File, Listed, Fault, said, unread, entry_fault, Unfolds, end, says, refused, entered, file_limit, program_limit, is_fault, file_too_many, program_too_many, no_question, Walked, through, stops, short, Adds, Enters, refuses, exceeds, scant, MeaningGives, Stepped, goes, enters, fails}
 use Rattle.kt_base.specs.declared.child.Interface.{Interface}
 use Rattle.kt_suite.specs.Inner.Walks.{counts}
@@ -51,43 +51,43 @@ enters_well at r after path e n a = subst (λ (x : Registry). Enters at r path (
 at_once : {S : Type 0} (leads : S → Asked → S → Type 0) (old : S) (r : Registry) (at : Site) (m : Meaning) (fault : SuiteFault) → IsNoMemory fault → Walked leads old old (MeaningGives r.reading at m) r (Err fault)
 at_once leads old r at m fault n = let some = some_marks r.reading (said at true m) in short [] some.0 [] r fault (record { there = true; unfolds = some.1 }) (no_question _) refl refl n
 
-pub step_short : {S : Type 0} (leads : S → Asked → S → Type 0) (old : S) (r : Registry) (at : Site) (suite : Option (List ℕ)) (m : Meaning) (fault : SuiteFault) → IsNoMemory fault → Stepped leads old old r at suite m (Err fault)
-step_short leads old r at suite m fault n = fails fault (at_once leads old r at m fault n)
+pub step_short : {S : Type 0} (leads : S → Asked → S → Type 0) (old : S) (r : Registry) (at : Site) (m : Meaning) (fault : SuiteFault) → IsNoMemory fault → Stepped leads old old r at m (Err fault)
+step_short leads old r at m fault n = fails fault (at_once leads old r at m fault n)
 
-pub step_wrong : {S : Type 0} (leads : S → Asked → S → Type 0) (old : S) (r : Registry) (at : Site) (suite : Option (List ℕ)) (m : Meaning) (cause : SuiteCause) (fault : SuiteFault) → meaning.Wrong cause ≡ m
-    → IsNoMemory fault ⊎ (fault ≡ site_fault at cause) → Stepped leads old old r at suite m (Err fault)
-step_wrong leads old r at suite m cause fault e b =
-    subst (λ (x : Meaning). Stepped leads old old r at suite x (Err fault)) e
-    (blamed (λ f. Stepped leads old old r at suite (meaning.Wrong cause) (Err f)) (site_fault at cause) fault
+pub step_wrong : {S : Type 0} (leads : S → Asked → S → Type 0) (old : S) (r : Registry) (at : Site) (m : Meaning) (cause : SuiteCause) (fault : SuiteFault) → meaning.Wrong cause ≡ m
+    → IsNoMemory fault ⊎ (fault ≡ site_fault at cause) → Stepped leads old old r at m (Err fault)
+step_wrong leads old r at m cause fault e b =
+    subst (λ (x : Meaning). Stepped leads old old r at x (Err fault)) e
+    (blamed (λ f. Stepped leads old old r at (meaning.Wrong cause) (Err f)) (site_fault at cause) fault
     (λ n. fails fault (at_once leads old r at (meaning.Wrong cause) fault n))
     (fails (site_fault at cause) (stops [] [] (Fault (site_fault at cause)) r (site_fault at cause) (record { there = true; unfolds = says _ _ _ _ (end _) }) refl refl (is_fault (site_fault at cause)))) b)
 
-pub step_suite : {S : Type 0} (leads : S → Asked → S → Type 0) (old : S) (r : Registry) (at : Site) (suite : Option (List ℕ)) (m : Meaning) (name : List ℕ) → meaning.Suite name ≡ m → Stepped leads old old r at suite m (Ok (Next r (Some name)))
-step_suite leads old r at suite m name e =
-    subst (λ (x : Meaning). Stepped leads old old r at suite x (Ok (Next r (Some name)))) e
+pub step_suite : {S : Type 0} (leads : S → Asked → S → Type 0) (old : S) (r : Registry) (at : Site) (m : Meaning) (name : List ℕ) → meaning.Suite name ≡ m → Stepped leads old old r at m (Ok (Next r))
+step_suite leads old r at m name e =
+    subst (λ (x : Meaning). Stepped leads old old r at x (Ok (Next r))) e
     (goes r (through [] r (record { there = true; unfolds = end _ }) refl refl))
 
-step_enter_at : {S : Type 0} (leads : S → Asked → S → Type 0) (old : S) (r : Registry) (at : Site) (suite : Option (List ℕ)) (name : List ℕ) (result : Result Registry SuiteFault) → Enters at r (beside at.file name) result
-    → Stepped leads old old r at suite (meaning.Include name) (elim result as (λ _. Result Step SuiteFault) [ Ok next ↦ Ok (Enter next suite (beside at.file name)) | Err fault ↦ Err fault ])
-step_enter_at leads old r at suite name _ (refuses cause e) =
+step_enter_at : {S : Type 0} (leads : S → Asked → S → Type 0) (old : S) (r : Registry) (at : Site) (name : List ℕ) (result : Result Registry SuiteFault) → Enters at r (beside at.file name) result
+    → Stepped leads old old r at (meaning.Include name) (elim result as (λ _. Result Step SuiteFault) [ Ok next ↦ Ok (Enter next (beside at.file name)) | Err fault ↦ Err fault ])
+step_enter_at leads old r at name _ (refuses cause e) =
     fails (site_fault at cause) (stops [] [] (Fault (site_fault at cause)) r (site_fault at cause) (record { there = true; unfolds = refused _ _ _ _ _ _ e (end _) }) refl refl (is_fault (site_fault at cause)))
-step_enter_at leads old r at suite name _ (exceeds e n) =
+step_enter_at leads old r at name _ (exceeds e n) =
     fails (site_fault at TooMany) (stops [] _ (File at) r (site_fault at TooMany) (record { there = true; unfolds = entered _ _ _ _ _ _ _ e (unread Missing) (some_file _ _) (end _) }) refl refl (file_too_many at n))
-step_enter_at leads old r at suite name _ (counts e n) = enters (beside at.file name) refl e n refl
-step_enter_at leads old r at suite name _ (scant fault n) = fails fault (at_once leads old r at (meaning.Include name) fault n)
+step_enter_at leads old r at name _ (counts e n) = enters (beside at.file name) refl e n refl
+step_enter_at leads old r at name _ (scant fault n) = fails fault (at_once leads old r at (meaning.Include name) fault n)
 
-pub step_entered : {S : Type 0} (leads : S → Asked → S → Type 0) (old : S) (r next : Registry) (at : Site) (suite : Option (List ℕ)) (m : Meaning) (name path : List ℕ) → meaning.Include name ≡ m → path ≡ beside at.file name → Enters at r path (Ok next)
-    → Stepped leads old old r at suite m (Ok (Enter next suite path))
-step_entered leads old r next at suite m name path e p h =
-    subst (λ (x : Meaning). Stepped leads old old r at suite x (Ok (Enter next suite path))) e
-    (subst (λ (x : List ℕ). Stepped leads old old r at suite (meaning.Include name) (Ok (Enter next suite x))) (sym p)
-    (step_enter_at leads old r at suite name (Ok next) (subst (λ (x : List ℕ). Enters at r x (Ok next)) p h)))
+pub step_entered : {S : Type 0} (leads : S → Asked → S → Type 0) (old : S) (r next : Registry) (at : Site) (m : Meaning) (name path : List ℕ) → meaning.Include name ≡ m → path ≡ beside at.file name → Enters at r path (Ok next)
+    → Stepped leads old old r at m (Ok (Enter next path))
+step_entered leads old r next at m name path e p h =
+    subst (λ (x : Meaning). Stepped leads old old r at x (Ok (Enter next path))) e
+    (subst (λ (x : List ℕ). Stepped leads old old r at (meaning.Include name) (Ok (Enter next x))) (sym p)
+    (step_enter_at leads old r at name (Ok next) (subst (λ (x : List ℕ). Enters at r x (Ok next)) p h)))
 
-pub step_not_entered : {S : Type 0} (leads : S → Asked → S → Type 0) (old : S) (r : Registry) (at : Site) (suite : Option (List ℕ)) (m : Meaning) (name path : List ℕ) (fault : SuiteFault) → meaning.Include name ≡ m → path ≡ beside at.file name → Enters at r path (Err fault)
-    → Stepped leads old old r at suite m (Err fault)
-step_not_entered leads old r at suite m name path fault e p h =
-    subst (λ (x : Meaning). Stepped leads old old r at suite x (Err fault)) e
-    (step_enter_at leads old r at suite name (Err fault) (subst (λ (x : List ℕ). Enters at r x (Err fault)) p h))
+pub step_not_entered : {S : Type 0} (leads : S → Asked → S → Type 0) (old : S) (r : Registry) (at : Site) (m : Meaning) (name path : List ℕ) (fault : SuiteFault) → meaning.Include name ≡ m → path ≡ beside at.file name → Enters at r path (Err fault)
+    → Stepped leads old old r at m (Err fault)
+step_not_entered leads old r at m name path fault e p h =
+    subst (λ (x : Meaning). Stepped leads old old r at x (Err fault)) e
+    (step_enter_at leads old r at name (Err fault) (subst (λ (x : List ℕ). Enters at r x (Err fault)) p h))
 
 -- what a program's marks are, its statement gives
 walk_program : {S : Type 0} (leads : S → Asked → S → Type 0) (old new : S) (r : Registry) (at : Site) (interface : Interface) (name own : List ℕ) (props : List Variable) (result : Result Registry SuiteFault)
@@ -100,18 +100,18 @@ walk_program leads old new r at interface name own props _ (stops front back mar
 walk_program leads old new r at interface name own props _ (short front back more mid fault g l c k n) =
     short front back more mid fault (record { there = g.0; unfolds = subst (λ (ms : List Mark). Unfolds r.reading (said at g.0 (meaning.Program interface name own props)) ms) (sym g.1) (says _ _ _ _ (says _ _ _ _ (end _))) }) l c k n
 
-pub step_added : {S : Type 0} (leads : S → Asked → S → Type 0) (old new : S) (r next : Registry) (at : Site) (suite : Option (List ℕ)) (m : Meaning) (interface : Interface) (name own : List ℕ) (props : List Variable) (path : List ℕ)
+pub step_added : {S : Type 0} (leads : S → Asked → S → Type 0) (old new : S) (r next : Registry) (at : Site) (m : Meaning) (interface : Interface) (name own : List ℕ) (props : List Variable) (path : List ℕ)
     → meaning.Program interface name own props ≡ m → path ≡ beside at.file name → Adds leads old new at r (record { interface = interface; path = path; suite = own; props = props }) (Ok next)
-    → Stepped leads old new r at suite m (Ok (Next next suite))
-step_added leads old new r next at suite m interface name own props path e p a =
-    subst (λ (x : Meaning). Stepped leads old new r at suite x (Ok (Next next suite))) e
+    → Stepped leads old new r at m (Ok (Next next))
+step_added leads old new r next at m interface name own props path e p a =
+    subst (λ (x : Meaning). Stepped leads old new r at x (Ok (Next next))) e
     (goes next (walk_program leads old new r at interface name own props (Ok next)
     (subst (λ (x : List ℕ). Adds leads old new at r (record { interface = interface; path = x; suite = own; props = props }) (Ok next)) p a)))
 
-pub step_not_added : {S : Type 0} (leads : S → Asked → S → Type 0) (old new : S) (r : Registry) (at : Site) (suite : Option (List ℕ)) (m : Meaning) (interface : Interface) (name own : List ℕ) (props : List Variable) (path : List ℕ) (fault : SuiteFault)
+pub step_not_added : {S : Type 0} (leads : S → Asked → S → Type 0) (old new : S) (r : Registry) (at : Site) (m : Meaning) (interface : Interface) (name own : List ℕ) (props : List Variable) (path : List ℕ) (fault : SuiteFault)
     → meaning.Program interface name own props ≡ m → path ≡ beside at.file name → Adds leads old new at r (record { interface = interface; path = path; suite = own; props = props }) (Err fault)
-    → Stepped leads old new r at suite m (Err fault)
-step_not_added leads old new r at suite m interface name own props path fault e p a =
-    subst (λ (x : Meaning). Stepped leads old new r at suite x (Err fault)) e
+    → Stepped leads old new r at m (Err fault)
+step_not_added leads old new r at m interface name own props path fault e p a =
+    subst (λ (x : Meaning). Stepped leads old new r at x (Err fault)) e
     (fails fault (walk_program leads old new r at interface name own props (Err fault)
     (subst (λ (x : List ℕ). Adds leads old new at r (record { interface = interface; path = x; suite = own; props = props }) (Err fault)) p a)))

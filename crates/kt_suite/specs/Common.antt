@@ -10,7 +10,7 @@ pub use Rattle.kt_suite.specs.Faults.{IsNoMemory, fault_at, read_fault, script_l
 pub use Rattle.kt_suite.specs.Filters.{Answers, filter_meaning}
 pub use Rattle.kt_suite.specs.Inner.Steps.{IsText, props_with, table_with, with_props}
 pub use Rattle.kt_suite.specs.Inner.Walks.{Adds, Enters, FileGives, Opened, Stepped, Walked, WellOpened}
-pub use Rattle.kt_suite.specs.Marks.{entry_fault}
+pub use Rattle.kt_suite.specs.Marks.{entry_fault, suite_after}
 pub use Rattle.kt_suite.specs.Matching.{IsWithin, MayMatch, is_within, matches}
 pub use Rattle.kt_suite.specs.Meanings.{meaning_of}
 pub use Rattle.kt_suite.specs.Paths.{beside, directory_of, has_directory, is_component, leads_down, name_in, parent_of, without_last}

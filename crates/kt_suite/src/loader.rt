@@ -103,21 +103,17 @@ fn read_file<T: Tree>(
     let mut suite = None;
     let mut rest = &stmts.as_slice()[1..];
     while let Some((stmt, after)) = rest.split_first() {
-        let turn = match step(alloc, tree, file, registry, suite, stmt) {
+        let turn = match step(alloc, tree, file, registry, &mut suite, stmt) {
             Ok(turn) => turn,
             Err(fault) => return Err(fault),
         };
         match turn {
-            Step::Next(next, named) => {
-                registry = next;
-                suite = named;
-            }
-            Step::Enter(next, named, path) => {
+            Step::Next(next) => registry = next,
+            Step::Enter(next, path) => {
                 registry = match read_file(alloc, tree, next, &path) {
                     Ok(next) => next,
                     Err(fault) => return Err(fault),
                 };
-                suite = named;
             }
         }
         rest = after;

@@ -66,13 +66,13 @@ impl Registry {
     }
 }
 
-/// What comes after a statement, with the suite of the programs to come.
+/// What comes after a statement.
 #[derive(Drop)]
 pub enum Step {
     /// The next statement.
-    Next(Registry, Option<Text>),
+    Next(Registry),
     /// The file at this path, and then the next statement.
-    Enter(Registry, Option<Text>, Text),
+    Enter(Registry, Text),
 }
 
 /// What the table of a program declares.

@@ -1,5 +1,5 @@
-ghost use Rattle.std.specs.Prelude.{◌≡◌};
-ghost use Rattle.kt_suite.specs.Common.{list_any, bytes_eq, entry_fault, meaning_of, Adds, Enters, Stepped};
+ghost use Rattle.std.specs.Prelude.{◌≡◌, OnOk};
+ghost use Rattle.kt_suite.specs.Common.{list_any, bytes_eq, entry_fault, meaning_of, suite_after, Adds, Enters, Stepped};
 
 use crate::fault::{blame, no_memory};
 use crate::paths::path_beside;
@@ -85,28 +85,33 @@ fn enter(
     Ok(registry)
 }
 
-/// Carries out one statement of a file, after its first.
+/// Carries out one statement of a file, after its first. `suite` is the suite of the programs to come.
 pub fn step<T: Tree>(
     alloc: Global,
     tree: &mut T,
     file: &Text,
     registry: Registry,
-    suite: Option<Text>,
+    suite: &mut Option<Text>,
     stmt: &Stmt,
 ) -> Result<Step, SuiteFault>
-    ensures { Stepped T.asks tree.old tree.new registry
-        (record { file = file.now; line = stmt.now.line }) suite
-        (meaning_of suite stmt.now.action) result }
+    ensures step { Stepped T.asks tree.old tree.new registry
+        (record { file = file.now; line = stmt.now.line })
+        (meaning_of suite.old stmt.now.action) result }
+    ensures suite { OnOk result (suite.new
+        ≡ suite_after suite.old (meaning_of suite.old stmt.now.action)) }
 {
-    match read_statement(alloc, &suite, &stmt.action) {
+    match read_statement(alloc, &*suite, &stmt.action) {
         Err(refusal) => Err(no_memory(alloc, refusal)),
         Ok(Meaning::Wrong(cause)) => Err(blame(file, alloc, stmt.line, cause)),
-        Ok(Meaning::Suite(name)) => Ok(Step::Next(registry, Some(name))),
+        Ok(Meaning::Suite(name)) => {
+            *suite = Some(name);
+            Ok(Step::Next(registry))
+        }
         Ok(Meaning::Include(name)) => match path_beside(alloc, file, &name) {
             Err(refusal) => Err(no_memory(alloc, refusal)),
             Ok(path) => match enter(alloc, file, stmt.line, registry, &path) {
                 Err(fault) => Err(fault),
-                Ok(next) => Ok(Step::Enter(next, suite, path)),
+                Ok(next) => Ok(Step::Enter(next, path)),
             },
         },
         Ok(Meaning::Program(interface, name, own, props)) => match path_beside(alloc, file, &name) {
@@ -120,7 +125,7 @@ pub fn step<T: Tree>(
                 };
                 match add(alloc, tree, file, stmt.line, registry, program) {
                     Err(fault) => Err(fault),
-                    Ok(next) => Ok(Step::Next(next, suite)),
+                    Ok(next) => Ok(Step::Next(next)),
                 }
             }
         },

@@ -1,5 +1,5 @@
 -- What the reader's own functions do, each on its part of a tree.
-use Rattle.std.specs.Prelude.{ℕ, Bool, true, List, [], ◌∷◌, ◌++◌, ◌≡◌, ◌<◌, ◌≤◌, ◌+◌, length, Option, Some, None, Result, Ok, Err}
+use Rattle.std.specs.Prelude.{ℕ, Bool, true, List, [], ◌∷◌, ◌++◌, ◌≡◌, ◌<◌, ◌≤◌, ◌+◌, length, Some, None, Result, Ok, Err}
 use Rattle.kt_script.specs.declared.syntax.Stmt.{Stmt}
 use Rattle.kt_script.specs.Spelling.{Spells}
 use Rattle.kt_suite.specs.declared.tree.ReadFault.{ReadFault}
@@ -14,7 +14,7 @@ use Rattle.kt_suite.specs.Answers.{Asked, Read, Exists}
 use Rattle.kt_suite.specs.declared.cause.SuiteCause.{SuiteCause}
 use Rattle.kt_suite.specs.declared.cause.SuiteCause.TheVariants.{NoSyntax, TooMany}
 use Rattle.kt_suite.specs.Faults.{fault_at, IsNoMemory}
-use Rattle.kt_suite.specs.Marks.{Site, site_fault, looked_up, Mark, Asks, File, Listed, Fault, Part, Says, Includes, said, suite_after, FileSays, entry_fault, Unfolds}
+use Rattle.kt_suite.specs.Marks.{Site, site_fault, looked_up, Mark, Asks, File, Listed, Fault, Part, Says, Includes, said, FileSays, entry_fault, Unfolds}
 use Rattle.kt_suite.specs.Meanings.{opening_fault}
 use Rattle.kt_suite.specs.Registered.{file_limit, program_limit, questions_in, Decides, IsNext}
 
@@ -66,14 +66,14 @@ pub data Enters (at : Site) (r : Registry) (path : List ℕ) : Result Registry S
 
 -- a statement was carried out, or as far as the file that it includes
 pub data Stepped {S : Type 0} (leads : S → Asked → S → Type 0) (old new : S) (r : Registry) (at : Site)
-    (suite : Option (List ℕ)) (meaning : Meaning) : Result Step SuiteFault → Type 0 where
+    (meaning : Meaning) : Result Step SuiteFault → Type 0 where
   goes : (after : Registry) → Walked leads old new (MeaningGives r.reading at meaning) r (Ok after)
-      → Stepped leads old new r at suite meaning (Ok (Next after (suite_after suite meaning)))
+      → Stepped leads old new r at meaning (Ok (Next after))
   enters : (path : List ℕ) → said at true meaning ≡ Includes at path ∷ []
       → entry_fault r.reading path ≡ None → r.files < file_limit → new ≡ old
-      → Stepped leads old new r at suite meaning (Ok (Enter (record r { files = r.files + 1 }) (suite_after suite meaning) path))
+      → Stepped leads old new r at meaning (Ok (Enter (record r { files = r.files + 1 }) path))
   fails : (fault : SuiteFault) → Walked leads old new (MeaningGives r.reading at meaning) r (Err fault)
-      → Stepped leads old new r at suite meaning (Err fault)
+      → Stepped leads old new r at meaning (Err fault)
 
 -- the statements of a file are seen to begin with `syntax(2)`
 pub data WellOpened (file : List ℕ) (stmts : List Stmt) : Result (List Stmt) SuiteFault → Type 0 where

@@ -17,27 +17,27 @@ loop-stmt-init g n c = reading_first g.T.Tree.asks _ _ c.args.registry _ _ _ _ _
 pub returns-in-Err-step : goal.returns-in-Err-step
 returns-in-Err-step g n c =
     let e : c.loop-stmt.rest.now ≡ c.in-Some.stmt.now ∷ c.in-Some.after.now = search rules in
-    step_stops g.T.Tree.asks _ _ _ c.args.registry _ _ _ _ _ _ _ e c.loop-stmt.invariant c.in-Err-step.ensures
+    step_stops g.T.Tree.asks _ _ _ c.args.registry _ _ _ _ _ _ _ e c.loop-stmt.invariant c.in-Err-step.ensures.step
 
 pub returns-in-Err-read_file : goal.returns-in-Err-read_file
 returns-in-Err-read_file g n c =
     let e : c.loop-stmt.rest.now ≡ c.in-Some.stmt.now ∷ c.in-Some.after.now = search rules in
-    step_inner_stops g.T.Tree.asks _ _ _ _ c.args.registry _ _ _ _ _ _ _ _ _ _ _ e c.in-Enter.is c.loop-stmt.invariant c.in-Ok-step.ensures c.in-Err-read_file.ensures
+    step_inner_stops g.T.Tree.asks _ _ _ _ c.args.registry _ _ _ _ _ _ _ _ _ _ e c.in-Enter.is c.loop-stmt.invariant c.in-Ok-step.ensures.step c.in-Err-read_file.ensures
 
 pub loop-stmt-preserved-in-Next : goal.loop-stmt-preserved-in-Next
 loop-stmt-preserved-in-Next g n c =
     let e : c.loop-stmt.rest.now ≡ c.in-Some.stmt.now ∷ c.in-Some.after.now = search rules in
-    step_next g.T.Tree.asks _ _ _ c.args.registry _ _ _ _ _ _ _ _ _ e c.in-Next.is c.loop-stmt.invariant c.in-Ok-step.ensures
+    step_next g.T.Tree.asks _ _ _ c.args.registry _ _ _ _ _ _ _ _ _ e c.in-Next.is c.loop-stmt.invariant c.in-Ok-step.ensures.step c.in-Ok-step.ensures.suite
 
 pub loop-stmt-preserved : goal.loop-stmt-preserved
 loop-stmt-preserved g n c =
     let e : c.loop-stmt.rest.now ≡ c.in-Some.stmt.now ∷ c.in-Some.after.now = search rules in
-    step_inner g.T.Tree.asks _ _ _ _ c.args.registry _ _ _ _ _ _ _ _ _ _ _ e c.in-Enter.is c.loop-stmt.invariant c.in-Ok-step.ensures c.in-Ok-read_file.ensures
+    step_inner g.T.Tree.asks _ _ _ _ c.args.registry _ _ _ _ _ _ _ _ _ _ _ e c.in-Enter.is c.loop-stmt.invariant c.in-Ok-step.ensures.step c.in-Ok-step.ensures.suite c.in-Ok-read_file.ensures
 
 pub returns : goal.returns
 returns g n c = reading_all g.T.Tree.asks _ _ c.args.registry _ _ _ _ _ c.in_default.ensures.cases c.loop-stmt.invariant c.end.ensures
 
 pub read_file-requires : goal.read_file-requires
 read_file-requires g n c =
-    let d : 32 - length c.in-Enter.next.reading < 32 - length c.args.registry.reading = deeper g.T.Tree.asks _ _ _ c.args.registry _ _ _ _ _ _ _ _ _ _ c.in-Enter.is c.loop-stmt.invariant c.in-Ok-step.ensures in
+    let d : 32 - length c.in-Enter.next.reading < 32 - length c.args.registry.reading = deeper g.T.Tree.asks _ _ _ c.args.registry _ _ _ _ _ _ _ _ _ c.in-Enter.is c.loop-stmt.invariant c.in-Ok-step.ensures.step in
     search rules
