@@ -1,6 +1,6 @@
 -- A file's values, or its one fault.
 use Rattle.std.proofs.Common.{Result, Ok, Err, IfOk, ◌≡◌, ℕ, List, [], ◌∷◌, ◌++◌, refl, sym, ap, ◌∙◌, subst, inl, inr, append-nil, append_assoc}
-use Rattle.kt_config.proofs.Common.{ScriptFault, Stmt, Spells, Definition, Values, Holds, Adds, Outcome, with_first, with_meaning, meaning_of, definitions_in, outcome_of, IsDue, IsRead, IfFault, Answers, Refuses, Gives, fault_of_script}
+use Rattle.kt_config.proofs.Common.{ScriptFault, Stmt, Spells, Definition, Values, Holds, Adds, Becomes, Outcome, with_first, with_meaning, meaning_of, definitions_in, outcome_of, IsDue, IsRead, IfFault, Answers, Refuses, Gives, fault_of_script}
 use Rattle.kt_script.specs.Spelling.{IsDue as IsScriptDue, Answers as ScriptAnswers, Refuses as ScriptRefuses}
 use Rattle.kt_config.specs.declared.fault.ConfigFault.{ConfigFault}
 use Rattle.kt_config.specs.declared.fault.ConfigFault.TheVariants.{NoMemory, UnknownVariable, BadValue, Script, NoSyntax, NotAssignment}
@@ -32,8 +32,7 @@ first_behind : (before : List Definition) (d : Definition) (o : Outcome) → beh
 first_behind before d (Ok ds) = ap (λ (xs : List Definition). Ok xs) (sym (append_assoc before (d ∷ []) ds))
 first_behind before d (Err fault) = refl
 
--- one more
-pub one_read : (config next : Values) (stmts rest after : List Stmt) (stmt : Stmt) (d : Definition) → HasRead config stmts rest → rest ≡ stmt ∷ after
+one_read : (config next : Values) (stmts rest after : List Stmt) (stmt : Stmt) (d : Definition) → HasRead config stmts rest → rest ≡ stmt ∷ after
     → Ok d ≡ meaning_of stmt.action → Adds d config next → HasRead next stmts after
 one_read config next stmts rest after stmt d r parts m adds = record {
   before = r.before ++ d ∷ [];
@@ -43,13 +42,23 @@ one_read config next stmts rest after stmt d r parts m adds = record {
       ∙ first_behind r.before d (definitions_in after);
 }
 
+next_by : (config next : Values) (stmts rest after : List Stmt) (stmt : Stmt) (m : Meaning) → HasRead config stmts rest → rest ≡ stmt ∷ after
+    → m ≡ meaning_of stmt.action → Becomes config next m → HasRead next stmts after
+next_by config next stmts rest after stmt (Ok d) r parts m adds = one_read config next stmts rest after stmt d r parts m adds
+next_by config next stmts rest after stmt (Err fault) r parts m adds = absurd adds
+
+-- one more
+pub next_read : (config next : Values) (stmts rest after : List Stmt) (stmt : Stmt) → HasRead config stmts rest → rest ≡ stmt ∷ after
+    → Becomes config next (meaning_of stmt.action) → HasRead next stmts after
+next_read config next stmts rest after stmt r parts adds = next_by config next stmts rest after stmt (meaning_of stmt.action) r parts refl adds
+
 -- a fault
 pub fault_read : (config : Values) (stmts rest after : List Stmt) (stmt : Stmt) (fault : ConfigFault) → HasRead config stmts rest → rest ≡ stmt ∷ after
-    → Err fault ≡ meaning_of stmt.action → Gives (Err fault) (definitions_in stmts)
+    → meaning_of stmt.action ≡ Err fault → Gives (Err fault) (definitions_in stmts)
 fault_read config stmts rest after stmt fault r parts m =
     let e : definitions_in stmts ≡ Err fault
     = r.all ∙ ap (λ (ss : List Stmt). behind r.before (definitions_in ss)) parts
-    ∙ ap (λ (meaning : Meaning). behind r.before (with_meaning meaning (definitions_in after))) (sym m) in
+    ∙ ap (λ (meaning : Meaning). behind r.before (with_meaning meaning (definitions_in after))) m in
     subst (λ (o : Outcome). Gives (Err fault) o) (sym e) refl
 
 -- the end

@@ -12,6 +12,6 @@ pub use Rattle.kt_config.specs.Holding.{Adds, Holds}
 pub use Rattle.kt_config.specs.Inner.{AddsToSuite, Gives, fault_of_script, group_in}
 pub use Rattle.kt_config.specs.Names.{definition_named, dotted}
 pub use Rattle.kt_config.specs.Reading.{Answers, Becomes, IfFault, IsDue, IsRead, Refuses, definitions_in, is_opening, is_version, meaning_of, outcome_of}
-pub use Rattle.kt_config.specs.Values.{Group, IsSettled, Values, variables_in, variables_of}
+pub use Rattle.kt_config.specs.Values.{Group, IsSettled, Values, variable_in, variables_in, variables_of}
 pub use Rattle.kt_config.specs.declared.fault.ConfigFault.{ConfigFault}
 pub use Rattle.kt_config.specs.declared.meaning.Definition.{Definition}

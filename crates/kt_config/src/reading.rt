@@ -1,5 +1,5 @@
-ghost use Rattle.std.specs.Prelude.{◌≡◌, IfOk};
-ghost use Rattle.kt_config.specs.Common.{is_version, is_opening, meaning_of, definitions_in, outcome_of, fault_of_script, Gives};
+ghost use Rattle.std.specs.Prelude.{◌≡◌, IfOk, Err, MatchOption};
+ghost use Rattle.kt_config.specs.Common.{is_version, is_opening, meaning_of, definitions_in, outcome_of, fault_of_script, Becomes, Gives};
 
 use crate::meaning::{Definition, definition_of};
 use crate::{Config, ConfigFault};
@@ -46,15 +46,34 @@ fn meaning_of(alloc: Global, action: &Action) -> Result<Result<Definition, Confi
     }
 }
 
+/// Adds what a statement after the first defines, or returns its fault.
+fn read_statement(
+    alloc: Global,
+    config: &mut Config,
+    action: &Action,
+) -> Result<Option<ConfigFault>, NoMemory>
+    ensures { IfOk result (λ fault.
+        MatchOption fault (Becomes config.old config.new (meaning_of action.now))
+        (λ cause. meaning_of action.now ≡ Err cause)) }
+{
+    match meaning_of(alloc, action)? {
+        Err(fault) => Ok(Some(fault)),
+        Ok(definition) => {
+            config.define(definition)?;
+            Ok(None)
+        }
+    }
+}
+
 /// Reads the statements after the first one, up to the first fault.
 fn read_statements(alloc: Global, stmts: &[Stmt]) -> Result<Result<Config, ConfigFault>, NoMemory>
     ensures { IfOk result (λ outcome. Gives outcome (definitions_in stmts.now)) }
 {
     let mut config = Config::new(alloc);
     for stmt in stmts {
-        match meaning_of(alloc, &stmt.action)? {
-            Err(fault) => return Ok(Err(fault)),
-            Ok(definition) => config.define(definition)?,
+        match read_statement(alloc, &mut config, &stmt.action)? {
+            Some(fault) => return Ok(Err(fault)),
+            None => {}
         }
     }
     Ok(Ok(config))

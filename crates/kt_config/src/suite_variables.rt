@@ -1,5 +1,5 @@
 ghost use Rattle.std.specs.Prelude.{◌≡◌, [], ◌∷◌, ◌++◌, List, is_some, IfOk, OnOk, OnErr};
-ghost use Rattle.kt_config.specs.Common.{option_copied, Variable, value_of, last_values, variables_in, IsSettled};
+ghost use Rattle.kt_config.specs.Common.{option_copied, Variable, value_of, last_values, variable_in, variables_in, IsSettled};
 
 use crate::words::key_of;
 use indexmap::IndexMap;
@@ -63,11 +63,18 @@ impl SuiteVariables {
         let mut variables = Variables::new(*self.values.allocator());
         let mut rest = self.values.as_slice();
         while let Some(((name, value), after)) = rest.split_first() {
-            let name = Text::from_string(name.clone()?);
-            let value = value.copy()?;
-            variables.push(Variable { name, value })?;
+            variables.push(copy_of(name, value)?)?;
             rest = after;
         }
         Ok(variables)
     }
+}
+
+/// A variable with memory of its own.
+fn copy_of(name: &String, value: &Text) -> Result<Variable, NoMemory>
+    ensures { IfOk result (λ variable. variable ≡ variable_in (name.now, value.now)) }
+{
+    let name = Text::from_string(name.clone()?);
+    let value = value.copy()?;
+    Ok(Variable { name, value })
 }

@@ -1,5 +1,5 @@
 ghost use Rattle.std.specs.Prelude.{◌≡◌, [], ◌∷◌, ◌++◌, chars, List, None, Some, IfOk, OnOk, OnErr, map};
-ghost use Rattle.kt_metadata.specs.Common.{option_copied, option_map, Variable, last_values, value_of, texts_of, given, beneath, a_pair, definition_fault, IfFault, row_in, shown_pairs, shown_text, listing};
+ghost use Rattle.kt_metadata.specs.Common.{option_copied, option_map, Variable, last_values, value_of, texts_of, given, beneath, a_pair, definition_fault, IfFault, row_in, custom_pairs, shown_pairs, shown_text, listing};
 
 use crate::PropFault;
 use crate::layer::{Layer, add};
@@ -149,15 +149,30 @@ impl Props {
         Ok(layer)
     }
 
+    /// The listing, whose memory each copy shares.
+    fn shared_listing(&self) -> Result<Variables, NoMemory>
+        ensures { IfOk result (λ pairs. pairs ≡ listing self.now) }
+    {
+        let pairs = self.own_listing()?;
+        pairs.into_shared()
+    }
+
+    /// All properties in one layer, with their listing.
+    fn shared_layer(&self) -> Result<SharedLayer, NoMemory>
+        ensures { IfOk result (λ layer. layer ≡ self.now) }
+    {
+        let layer = self.merged()?;
+        let pairs = self.shared_listing()?;
+        Ok(SharedLayer::new(layer, pairs))
+    }
+
     /// Equal properties, whose memory each `overlay` over them shares, and each listing of what adds
     /// nothing to them.
     pub fn shared(&self) -> Result<Props, NoMemory>
         ensures { IfOk result (λ props. props ≡ self.now) }
     {
         let alloc = self.allocator();
-        let layer = self.merged()?;
-        let pairs = self.own_listing()?.into_shared()?;
-        let program = Rc::new(alloc, SharedLayer::new(layer, pairs))?;
+        let program = Rc::new(alloc, self.shared_layer()?)?;
         Ok(Props {
             program: Some(program),
             own: Layer::new(alloc),
@@ -203,14 +218,20 @@ impl Props {
         Ok(())
     }
 
+    fn add_custom(&self, pairs: &mut Variables) -> Result<(), NoMemory>
+        ensures { OnOk result (pairs.new ≡ pairs.old ++ custom_pairs self.now) }
+    {
+        let all = self.merged()?;
+        all.add_custom(pairs)
+    }
+
     /// The listing with memory of its own.
     fn own_listing(&self) -> Result<Variables, NoMemory>
         ensures { IfOk result (λ pairs. pairs ≡ listing self.now) }
     {
         let mut pairs = Variables::new(self.allocator());
         self.add_shown(&mut pairs, &TABLE)?;
-        let all = self.merged()?;
-        all.add_custom(&mut pairs)?;
+        self.add_custom(&mut pairs)?;
         Ok(pairs)
     }
 

@@ -6,5 +6,5 @@ pub returns : goal.returns
 unfolding chars
 returns c =
     c.in_ok-add_custom.ensures
-    ∙ ap (λ (pairs : List Variable). pairs ++ custom_pairs c.in_ok-all.all) (c.in_ok-add_shown.ensures ∙ ap (λ (pairs : List Variable). pairs ++ shown_pairs (texts_of c.args.self.now) table) c.new-pairs.ensures)
-    ∙ ap (λ (pairs : List Variable). shown_pairs (texts_of c.args.self.now) table ++ custom_pairs pairs) (c.in_ok-all.ensures ∙ c.allocator.ensures)
+    ∙ ap (λ (pairs : List Variable). pairs ++ custom_pairs c.args.self.now) (c.in_ok-add_shown.ensures ∙ ap (λ (pairs : List Variable). pairs ++ shown_pairs (texts_of c.args.self.now) table) c.new-pairs.ensures)
+    ∙ ap (λ (pairs : List Variable). shown_pairs (texts_of c.args.self.now) table ++ custom_pairs pairs) c.allocator.ensures
