@@ -144,3 +144,17 @@ one_set first config next words rest after word s parts g = record {
       let o = one_given b.0 next (word_meaning word) (words_meaning after) (g b.0 b.1) in
       (o.0, o.1, b.2 ∙ ap (λ (ws : List (List ℕ)). behind b.0 (words_meaning ws)) parts ∙ o.2);
 }
+
+-- a word that is refused is refused whatever follows it
+refused_first : (before : List Definition) (fault : Stop) (m : Result Definition Stop) (rest : Result (List Definition) Stop) → Gives (Err fault) (behind before (in_front m (Ok [])))
+    → Gives (Err fault) (behind before (in_front m rest))
+refused_first before fault (Ok d) rest g = absurd g
+refused_first before fault (Err other) rest g = g
+
+-- the next word is refused
+pub one_refused : (first config : Values) (words rest after : List (List ℕ)) (word : List ℕ) (fault : Stop) → HasSet first config words rest → rest ≡ word ∷ after
+    → GivesOne config (Err fault) (word_meaning word) → GivesMore first (Err fault) (words_meaning words)
+one_refused first config words rest after word fault s parts g = λ before h.
+    let b = s.so_far before h in
+    subst (λ (r : Result (List Definition) Stop). Gives (Err fault) r) (sym (b.2 ∙ ap (λ (ws : List (List ℕ)). behind b.0 (words_meaning ws)) parts))
+    (refused_first b.0 fault (word_meaning word) (words_meaning after) (g b.0 b.1))

@@ -1,5 +1,5 @@
 -- Selected cases are picked by their places.
-use Rattle.std.proofs.Common.{Bool, false, if◌then◌else◌, true, ◌≡◌, ℕ, ◌+◌, ◌<◌, ◌≤◌, List, [], ◌∷◌, ◌++◌, cond, refl, sym, ap, ◌∙◌, arith, append_assoc, map}
+use Rattle.std.proofs.Common.{Bool, false, if◌then◌else◌, true, ◌≡◌, ℕ, ◌+◌, ◌≤◌, List, [], ◌∷◌, ◌++◌, cond, refl, sym, ap, ◌∙◌, arith, append_assoc, map}
 use Rattle.kt_plan.proofs.Common.{Filter, places, is_selected, Candidate, item_of, selected_cases, places_from}
 use Rattle.kt_suite.specs.declared.selecting.Item.{Item}
 
@@ -43,22 +43,22 @@ module _ (filters : List Filter) (candidate : Candidate) (rest : List Candidate)
   Keeps old new left = (left ≡ after) × (new ++ selected_cases filters rest ≡ old ++ selected_cases filters (candidate ∷ rest))
 
   -- the next place is the case's own
-  pub picked : (cases new : List Candidate) (now : List ℕ) (first : ℕ) (others : List ℕ) → now ≡ first ∷ others → first ≡ place → new ≡ cases ++ candidate ∷ [] → now ≡ places_from filters place (candidate ∷ rest) → Keeps cases new others
-  picked cases new now first others is own grown h = by (is_selected filters (item_of candidate)) refl
+  pub picked : (cases new : List Candidate) (now others : List ℕ) → now ≡ place ∷ others → new ≡ cases ++ candidate ∷ [] → now ≡ places_from filters place (candidate ∷ rest) → Keeps cases new others
+  picked cases new now others is grown h = by (is_selected filters (item_of candidate)) refl
     where
       by : (b : Bool) → is_selected filters (item_of candidate) ≡ b → Keeps cases new others
       by true e = (
-        same_tail first place others after (sym is ∙ (h ∙ places_by true e)),
+        same_tail place place others after (sym is ∙ (h ∙ places_by true e)),
         ap (λ (cs : List Candidate). cs ++ selected_cases filters rest) grown ∙ append_assoc cases (candidate ∷ []) (selected_cases filters rest) ∙ ap (λ (cs : List Candidate). cases ++ cs) (sym (cases_by true e)),
       )
       by false e =
-          let later : place + 1 ≤ first = no_earlier (is_selected filters) (place + 1) (map item_of rest) first others (sym (places_by false e) ∙ (sym h ∙ is)) in
-          absurd (let less : place < place = omega (arith, later, own) in omega (arith, less))
+          let later : place + 1 ≤ place = no_earlier (is_selected filters) (place + 1) (map item_of rest) place others (sym (places_by false e) ∙ (sym h ∙ is)) in
+          absurd (omega (arith, later))
 
   -- the next place is another case's
-  pub passed : (cases : List Candidate) (now : List ℕ) (first : ℕ) (others : List ℕ) → now ≡ first ∷ others → (first ≡ place → ⊥) → now ≡ places_from filters place (candidate ∷ rest) → Keeps cases cases now
-  passed cases now first others is other h = by (is_selected filters (item_of candidate)) refl
+  pub passed : (cases : List Candidate) (now : List ℕ) → ((others : List ℕ) → now ≡ place ∷ others → ⊥) → now ≡ places_from filters place (candidate ∷ rest) → Keeps cases cases now
+  passed cases now other h = by (is_selected filters (item_of candidate)) refl
     where
       by : (b : Bool) → is_selected filters (item_of candidate) ≡ b → Keeps cases cases now
-      by true e = absurd (other (same_head first place others after (sym is ∙ (h ∙ places_by true e))))
+      by true e = absurd (other after (h ∙ places_by true e))
       by false e = (h ∙ places_by false e, ap (λ (cs : List Candidate). cases ++ cs) (sym (cases_by false e)))

@@ -1,5 +1,5 @@
 -- The plan of some cases can be run.
-use Rattle.std.proofs.Common.{Some, slice_get, ◌≡◌, ℕ, zero, suc, ◌+◌, ◌≤◌, List, [], ◌∷◌, ◌++◌, length, arith, refl, ap, ◌∙◌, sym, subst, add-zero, add-one, append_assoc, append-nil, ◌⊎◌, inl, inr}
+use Rattle.std.proofs.Common.{Some, slice_get, ◌≡◌, ℕ, zero, suc, ◌+◌, ◌≤◌, List, [], ◌∷◌, ◌++◌, length, arith, refl, ap, ◌∙◌, sym, subst, add-zero, add-one, append_assoc, append-nil}
 use Rattle.kt_plan.proofs.Common.{Values, Host, Job, Candidate, ArePlanned, no_job, planned, IsJobOf}
 use Rattle.kt_plan.proofs.Rests.{none_left}
 

@@ -1,4 +1,4 @@
-ghost use Rattle.std.specs.Prelude.{◌≡◌, ◌≤◌, ◌<◌, ◌+◌, ◌⊎◌, ◌∷◌, ◌++◌, List, length, map, IfOk, IfErr, OnOk};
+ghost use Rattle.std.specs.Prelude.{◌≡◌, ◌≤◌, ◌<◌, ◌+◌, ◌⊎◌, ◌∷◌, ◌++◌, List, ℕ, length, map, IfOk, IfErr, OnOk, MatchOption};
 ghost use Rattle.kt_plan.specs.Common.{Filter, most_items, Candidate, item_of, selected_cases, chosen_of, places_from, RanOut};
 ghost use Rattle.kt_plan.specs.declared.stop.Stop.TheVariants as stop;
 
@@ -27,6 +27,15 @@ fn items_of(alloc: Global, candidates: &[Candidate]) -> Result<Vec<Item>, NoMemo
     Ok(items)
 }
 
+/// The places after this one, if it is the first of them.
+fn places_after<'a>(place: usize, places: &'a [usize]) -> Option<&'a [usize]>
+    ensures { MatchOption result ((after : List ℕ) → places.now ≡ place ∷ after → ⊥)
+        (λ after. places.now ≡ place ∷ after.now) }
+{
+    let (first, after) = places.split_first()?;
+    if *first == place { Some(after) } else { None }
+}
+
 /// Appends a case if the first of these places is its own, and returns the places that are left.
 fn keep<'a>(
     cases: &mut Items<Candidate>,
@@ -40,14 +49,13 @@ fn keep<'a>(
         × (cases.new ++ selected_cases filters rest
         ≡ cases.old ++ selected_cases filters (candidate ∷ rest))) }
 {
-    let Some((first, after)) = places.split_first() else {
-        return Ok(places);
-    };
-    if *first != place {
-        return Ok(places);
+    match places_after(place, places) {
+        None => Ok(places),
+        Some(after) => {
+            cases.push(candidate)?;
+            Ok(after)
+        }
     }
-    cases.push(candidate)?;
-    Ok(after)
 }
 
 /// The selected cases, by their places.
