@@ -17,7 +17,7 @@ pub struct Variables {
 /// Written out, so that a drop is one call.
 impl Drop for Variables {
     fn drop(self) {
-        let Variables { own: _ } = self;
+        let Variables { own: _, shared: _ } = self;
     }
 }
 
