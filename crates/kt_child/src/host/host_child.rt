@@ -37,7 +37,7 @@ pub(crate) struct HostChild<P: OpenProcess> {
 }
 
 /// Written out, so that a drop is one call.
-impl<P: OpenProcess> Drop for HostChild<P> {
+impl<P: OpenProcess + Drop> Drop for HostChild<P> {
     fn drop(self) {
         let HostChild {
             out: _,
