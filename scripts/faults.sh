@@ -369,11 +369,10 @@ BODY
 # By another name none of the rules above would find a value.
 types='(Refused|SinkFault|Claim|TapFault|ListBytes|ReadEnd|OsFault|ReadFault)'
 rule 'gives a name to what has one' lines "[A-Za-z] as [A-Z][A-Za-z]*([,;}]|\$)|::[*]|type [A-Z].*= .*$types|use .*$types::" <<'PLACES'
-# The result of what is displayed, two traits whose names others have, and the error of SQLite, which has rules of its own.
+# The result of what is displayed, a trait whose name others have, and the error of SQLite, which has rules of its own.
 kt_store/src/store_fault/statements.rt: Alter, Connection, Error as SqlError, ErrorCode, FileFrom, FileStore, Row, Start, Transaction,
 kt_store/src/runs_file.rt: use std::rt::Files as FileSystem;
 kt_atflist/src/list_fault.rt: use std::fmt::{Formatter, Result as Shown, Write};
-kt_suite/src/fault.rt: use std::fmt::{Display, Formatter, Result as Shown, Write as FormatWrite};
 PLACES
 body kt_child/src/driving/starts.rt 'use kt_sched::{Job, StartAnswer};' <<'BODY'
 use kt_base::Refused as Cause;

@@ -3,7 +3,7 @@ ghost use Rattle.kt_script.specs.declared.fault.ScriptFault.TheVariants as fault
 
 use kt_base::NoMemory;
 use std::error::Error;
-use std::fmt::{Display, Formatter, Result as Shown, Write};
+use std::fmt;
 
 /// Why a text was refused. A number is a line, counted from 1: the line of the token that is at
 /// fault, of what was opened and not closed, or of the statement that was not finished.
@@ -40,8 +40,8 @@ impl ScriptFault {
     }
 }
 
-impl Display for ScriptFault {
-    fn fmt<W: Write>(&self, f: &mut Formatter<W>) -> Shown {
+impl fmt::Display for ScriptFault {
+    fn fmt<W: fmt::Write>(&self, f: &mut fmt::Formatter<W>) -> fmt::Result {
         f.write_str(self.words())
     }
 }

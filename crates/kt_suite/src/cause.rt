@@ -7,7 +7,7 @@ ghost use Rattle.kt_suite.specs.declared.cause.SuiteCause.TheVariants as cause;
 use kt_base::{Decimal, NoMemory, OutputFault, emit, emit_all};
 use kt_script::ScriptFault;
 use std::error::Error;
-use std::fmt::{Display, Formatter, Result as Shown, Write as FormatWrite};
+use std::fmt;
 use std::io::Write;
 
 /// Stands before the number of `WrongSyntax`.
@@ -98,8 +98,8 @@ impl SuiteCause {
     }
 }
 
-impl Display for SuiteCause {
-    fn fmt<W: FormatWrite>(&self, f: &mut Formatter<W>) -> Shown {
+impl fmt::Display for SuiteCause {
+    fn fmt<W: fmt::Write>(&self, f: &mut fmt::Formatter<W>) -> fmt::Result {
         match self {
             SuiteCause::WrongSyntax(n) => write!(f, "{SYNTAX}{n}{NOT_SUPPORTED}"),
             _ => f.write_str(self.words()),

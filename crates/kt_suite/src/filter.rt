@@ -7,7 +7,7 @@ use crate::within::{is_same, is_within};
 use kt_base::{NoMemory, Text};
 use std::alloc::Global;
 use std::error::Error;
-use std::fmt::{Display, Formatter, Result as Shown, Write};
+use std::fmt;
 
 /// Why a filter, or a list of them, was refused. A number is a position in the list, from 0. `Display`
 /// prints the words of the fault's line (this profile), which shows the filter itself.
@@ -44,8 +44,8 @@ impl FilterFault {
     }
 }
 
-impl Display for FilterFault {
-    fn fmt<W: Write>(&self, f: &mut Formatter<W>) -> Shown {
+impl fmt::Display for FilterFault {
+    fn fmt<W: fmt::Write>(&self, f: &mut fmt::Formatter<W>) -> fmt::Result {
         f.write_str(self.words())
     }
 }

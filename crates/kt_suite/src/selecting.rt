@@ -9,7 +9,7 @@ use crate::Filter;
 use kt_base::{NoMemory, Text};
 use std::alloc::Global;
 use std::error::Error;
-use std::fmt::{Display, Formatter, Result as Shown, Write};
+use std::fmt;
 
 /// Why nothing was selected. `Display` prints the words of the fault's line (this profile).
 #[derive(Clone, Copy, Debug)]
@@ -33,8 +33,8 @@ impl SelectFault {
     }
 }
 
-impl Display for SelectFault {
-    fn fmt<W: Write>(&self, f: &mut Formatter<W>) -> Shown {
+impl fmt::Display for SelectFault {
+    fn fmt<W: fmt::Write>(&self, f: &mut fmt::Formatter<W>) -> fmt::Result {
         f.write_str(self.words())
     }
 }
