@@ -13,7 +13,8 @@ use sqlite_disk::{Crash, Disk, Files, Fuse};
 use std::alloc::Global;
 
 /// What an earlier version made: the tables of schema 1, and a finished run with one entry.
-const SCHEMA_1: &str = "CREATE TABLE meta (name TEXT PRIMARY KEY, value INTEGER NOT NULL) STRICT; CREATE TABLE runs (id INTEGER PRIMARY KEY, started INTEGER NOT NULL, total INTEGER NOT NULL, finished INTEGER NOT NULL CHECK (finished IN (0, 1))) STRICT; CREATE TABLE entries (run INTEGER NOT NULL REFERENCES runs (id), position INTEGER NOT NULL, program TEXT NOT NULL, case_name TEXT NOT NULL, kind INTEGER NOT NULL CHECK (kind BETWEEN 0 AND 4), reason TEXT NOT NULL, started INTEGER NOT NULL, millis INTEGER NOT NULL, body_out BLOB NOT NULL, body_err BLOB NOT NULL, clean_out BLOB NOT NULL, clean_err BLOB NOT NULL, PRIMARY KEY (run, position)) STRICT; INSERT INTO meta (name, value) VALUES ('schema', 1); INSERT INTO runs (started, total, finished) VALUES (5, 1, 1); INSERT INTO entries VALUES (1, 0, 'a', 'main', 3, 'x<y', 1700000000123, 12, X'68690A', X'', X'', X'')";
+const SCHEMA_1: &str =
+    "CREATE TABLE meta (name TEXT PRIMARY KEY, value INTEGER NOT NULL) STRICT; CREATE TABLE runs (id INTEGER PRIMARY KEY, started INTEGER NOT NULL, total INTEGER NOT NULL, finished INTEGER NOT NULL CHECK (finished IN (0, 1))) STRICT; CREATE TABLE entries (run INTEGER NOT NULL REFERENCES runs (id), position INTEGER NOT NULL, program TEXT NOT NULL, case_name TEXT NOT NULL, kind INTEGER NOT NULL CHECK (kind BETWEEN 0 AND 4), reason TEXT NOT NULL, started INTEGER NOT NULL, millis INTEGER NOT NULL, body_out BLOB NOT NULL, body_err BLOB NOT NULL, clean_out BLOB NOT NULL, clean_err BLOB NOT NULL, PRIMARY KEY (run, position)) STRICT; INSERT INTO meta (name, value) VALUES ('schema', 1); INSERT INTO runs (started, total, finished) VALUES (5, 1, 1); INSERT INTO entries VALUES (1, 0, 'a', 'main', 3, 'x<y', 1700000000123, 12, X'68690A', X'', X'', X'')";
 
 /// Opens files whose log is copied into the database file once it has this many frames.
 pub fn open<D: Disk + Drop>(
@@ -34,11 +35,17 @@ pub fn open<D: Disk + Drop>(
     }
 }
 
+/// An empty database, filled with a store of schema 1.
+fn filled_store<S: Alter + Drop>(conn: Connection<S>) -> Option<S> {
+    let mut conn = conn;
+    conn.execute_batch(SCHEMA_1).ok()?;
+    Some(conn.into_store())
+}
+
 /// Empty files, filled with a store of schema 1.
 pub fn filled<D: Disk + Drop>(alloc: Global, files: Files<D>, frames: usize) -> Option<Files<D>> {
-    let mut conn = open(alloc, files, frames)?;
-    conn.execute_batch(SCHEMA_1).ok()?;
-    Some(conn.into_store().close())
+    let store = filled_store(open(alloc, files, frames)?)?;
+    Some(store.close())
 }
 
 /// Files of which the log or the database file fails after this many calls.
