@@ -31,8 +31,7 @@ fn add(cases: &mut Items<CaseDef>, props: &Props, case: CaseDef) -> Result<(), N
     ensures { OnOk result (cases.new ≡ cases.old ++ over_program props.now case ∷ []) }
 {
     let whole = with_program(props, case)?;
-    cases.push(whole)?;
-    Ok(())
+    cases.push(whole)
 }
 
 fn each_with_program(
