@@ -48,10 +48,7 @@ pub fn listed_cases(
             None => match bytes {
                 ListBytes::Unreadable => Ok(Err(Reason::Fixed(Phrase::ListUnreadable))),
                 ListBytes::TooLong => Ok(Err(Reason::Fixed(Phrase::ListTooLong))),
-                ListBytes::Read(text) => {
-                    let found = read_bytes(alloc, text)?;
-                    Ok(found)
-                }
+                ListBytes::Read(text) => read_bytes(alloc, text),
             },
         },
     }

@@ -31,8 +31,7 @@ fn add(cases: &mut Items<CaseDef>, props: &Props, case: CaseDef) -> Result<(), N
     ensures { OnOk result (cases.new ≡ cases.old ++ over_program props.now case ∷ []) }
 {
     let whole = with_program(props, case)?;
-    cases.push(whole)?;
-    Ok(())
+    cases.push(whole)
 }
 
 fn each_with_program(
@@ -83,15 +82,13 @@ fn one_case(
 fn main_of(alloc: Global, props: &Props) -> Result<Items<CaseDef>, NoMemory>
     ensures { IfOk result (λ cases. cases ≡ over_program props.now main_case ∷ []) }
 {
-    let cases = one_case(alloc, MAIN, props, None)?;
-    Ok(cases)
+    one_case(alloc, MAIN, props, None)
 }
 
 fn list_of(alloc: Global, props: &Props, reason: Reason) -> Result<Items<CaseDef>, NoMemory>
     ensures { IfOk result (λ cases. cases ≡ over_program props.now (list_case reason) ∷ []) }
 {
-    let cases = one_case(alloc, LIST, props, Some(reason))?;
-    Ok(cases)
+    one_case(alloc, LIST, props, Some(reason))
 }
 
 fn listed(alloc: Global, props: &Props, listing: &Listing) -> Result<Items<CaseDef>, NoMemory>
@@ -99,14 +96,8 @@ fn listed(alloc: Global, props: &Props, listing: &Listing) -> Result<Items<CaseD
 {
     let found = listed_cases(alloc, listing)?;
     match found {
-        Ok(found) => {
-            let cases = all_with_program(alloc, props, found)?;
-            Ok(cases)
-        }
-        Err(reason) => {
-            let cases = list_of(alloc, props, reason)?;
-            Ok(cases)
-        }
+        Ok(found) => all_with_program(alloc, props, found),
+        Err(reason) => list_of(alloc, props, reason),
     }
 }
 
@@ -123,20 +114,11 @@ pub fn cases(
     ensures { IfOk result (λ cases. AreCases props.now interface listing.now cases) }
 {
     match interface {
-        Interface::Tap => {
-            let cases = main_of(alloc, props)?;
-            Ok(cases)
-        }
-        Interface::Plain => {
-            let cases = main_of(alloc, props)?;
-            Ok(cases)
-        }
+        Interface::Tap => main_of(alloc, props),
+        Interface::Plain => main_of(alloc, props),
         Interface::Atf => match listing {
             None => unreachable!(),
-            Some(listing) => {
-                let cases = listed(alloc, props, listing)?;
-                Ok(cases)
-            }
+            Some(listing) => listed(alloc, props, listing),
         },
     }
 }

@@ -223,9 +223,6 @@ pub fn finish(reading: Reading) -> Result<Items<CaseDef>, NoMemory>
     let Reading { cases, block, .. } = reading;
     match block {
         None => Ok(cases),
-        Some(block) => {
-            let all = with_block(cases, block)?;
-            Ok(all)
-        }
+        Some(block) => with_block(cases, block),
     }
 }

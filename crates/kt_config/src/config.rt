@@ -79,10 +79,7 @@ impl Config {
                 Ok(())
             }
             Definition::UnprivilegedUser => Ok(()),
-            Definition::OfSuite(suite, variable) => {
-                self.suites.put(suite, variable)?;
-                Ok(())
-            }
+            Definition::OfSuite(suite, variable) => self.suites.put(suite, variable),
         }
     }
 

@@ -104,8 +104,7 @@ pub fn add(pairs: &mut Variables, name: Text, value: Text) -> Result<(), NoMemor
     if value.is_empty() {
         return Ok(());
     }
-    pairs.push(Variable { name, value })?;
-    Ok(())
+    pairs.push(Variable { name, value })
 }
 
 /// Appends the pair of a custom property, unless its value is empty.
@@ -121,6 +120,5 @@ fn add_if_custom(
     if !is_custom(name) {
         return Ok(());
     }
-    add(pairs, Text::from_str(alloc, name)?, value.copy()?)?;
-    Ok(())
+    add(pairs, Text::from_str(alloc, name)?, value.copy()?)
 }

@@ -31,10 +31,7 @@ fn name_of_key(alloc: Global, key: &Text) -> Result<Option<Text>, NoMemory>
 {
     match row_keyed(key, &TABLE) {
         Some(row) => Ok(Some(Text::from_str(alloc, row.0)?)),
-        None => {
-            let found = name_of_custom_key(alloc, key)?;
-            Ok(found)
-        }
+        None => name_of_custom_key(alloc, key),
     }
 }
 
@@ -49,6 +46,5 @@ pub fn property_of_key(alloc: Global, key: &Text) -> Result<Option<Text>, NoMemo
     ensures known { IfOk result (λ found. IfSome found (λ name. IsSome (form_named name))) }
     ensures value { IfOk result (λ found. found ≡ name_of_key key.now) }
 {
-    let found = name_of_key(alloc, key)?;
-    Ok(found)
+    name_of_key(alloc, key)
 }

@@ -128,14 +128,10 @@ impl Props {
         ensures { OnOk result (layer.new ≡ last_values (layer.old ++ self.now)) }
     {
         match &self.program {
-            None => {
-                layer.put_all(&self.own)?;
-                Ok(())
-            }
+            None => layer.put_all(&self.own),
             Some(program) => {
                 layer.put_all(program.layer())?;
-                layer.put_all(&self.own)?;
-                Ok(())
+                layer.put_all(&self.own)
             }
         }
     }

@@ -15,21 +15,19 @@ fn architecture_reason(
     ensures { IfOk result (λ reason. text_in reason ≡ architecture_row meta.now config.now) }
 {
     let listed = meta.allowed_architectures.as_slice();
-    let reason = listed_reason(
+    listed_reason(
         alloc,
         "Current architecture '",
         listed,
         config.architecture(),
-    )?;
-    Ok(reason)
+    )
 }
 
 fn platform_reason(alloc: Global, meta: &Meta, config: &Config) -> Result<Option<Reason>, NoMemory>
     ensures { IfOk result (λ reason. text_in reason ≡ platform_row meta.now config.now) }
 {
     let listed = meta.allowed_platforms.as_slice();
-    let reason = listed_reason(alloc, "Current platform '", listed, config.platform())?;
-    Ok(reason)
+    listed_reason(alloc, "Current platform '", listed, config.platform())
 }
 
 fn host_reason(alloc: Global, meta: &Meta, host: &Host) -> Result<Option<Reason>, NoMemory>

@@ -1,3 +1,4 @@
+use Rattle.std.proofs.lemmas.Result.{IfOk-weaker}
 use Rattle.kt_atflist.proofs.ReadListings.{refused_by, ended_by, unreadable_by, too_long_by, read_by}
 use Rattle.kt_atflist.proofs.listed_cases.listed_cases.Goals as goal
 
@@ -13,5 +14,5 @@ returns-in-Unreadable c = unreadable_by _ _ _ c.in-Ended.is c.in-None.ensures c.
 pub returns-in-TooLong : goal.returns-in-TooLong
 returns-in-TooLong c = too_long_by _ _ _ c.in-Ended.is c.in-None.ensures c.in-TooLong.is
 
-pub returns-in_ok-found-in-Read : goal.returns-in_ok-found-in-Read
-returns-in_ok-found-in-Read c = read_by _ _ _ _ _ c.in-Ended.is c.in-None.ensures c.in-Read.is c.in_ok-found-in-Read.ensures
+pub returns-in-Read : goal.returns-in-Read
+returns-in-Read c = IfOk-weaker c.read_bytes.result _ _ (λ found e. read_by _ _ _ _ found c.in-Ended.is c.in-None.ensures c.in-Read.is e) c.read_bytes.ensures

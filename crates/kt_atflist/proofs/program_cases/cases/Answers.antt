@@ -1,8 +1,10 @@
+use Rattle.std.proofs.lemmas.Result.{IfOk-weaker}
 use Rattle.kt_atflist.proofs.ProgramCases.{tap_by, plain_by}
 use Rattle.kt_atflist.proofs.program_cases.cases.Goals as goal
 
-pub returns-in_ok-cases-in-Tap : goal.returns-in_ok-cases-in-Tap
-returns-in_ok-cases-in-Tap c = tap_by c.args.props.now c.args.interface c.args.listing.now c.in_ok-cases-in-Tap.cases c.in-Tap.is c.in_ok-cases-in-Tap.ensures
+pub returns-in-Tap : goal.returns-in-Tap
+returns-in-Tap c = IfOk-weaker c.main_of.result _ _ (λ cases e. tap_by c.args.props.now c.args.interface c.args.listing.now cases c.in-Tap.is e) c.main_of.ensures
 
-pub returns-in_ok-cases-in-Plain : goal.returns-in_ok-cases-in-Plain
-returns-in_ok-cases-in-Plain c = plain_by c.args.props.now c.args.interface c.args.listing.now c.in_ok-cases-in-Plain.cases c.in-Plain.is c.in_ok-cases-in-Plain.ensures
+pub returns-in-Plain : goal.returns-in-Plain
+returns-in-Plain c =
+    IfOk-weaker c.main_of-in-Plain.result _ _ (λ cases e. plain_by c.args.props.now c.args.interface c.args.listing.now cases c.in-Plain.is e) c.main_of-in-Plain.ensures

@@ -3,4 +3,4 @@ use Rattle.kt_atflist.proofs.program_cases.list_of.Goals as goal
 
 pub returns : goal.returns
 unfolding chars
-returns c = c.in_ok-cases.ensures
+returns c = c.one_case.ensures

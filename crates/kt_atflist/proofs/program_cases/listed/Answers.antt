@@ -1,10 +1,13 @@
+use Rattle.std.proofs.lemmas.Result.{IfOk-weaker}
 use Rattle.kt_atflist.proofs.ProgramCases.{listed_by, unlisted_by}
 use Rattle.kt_atflist.proofs.program_cases.listed.Goals as goal
 
-pub returns-in_ok-cases-in-Ok : goal.returns-in_ok-cases-in-Ok
-returns-in_ok-cases-in-Ok c =
-    listed_by c.args.props.now c.args.listing.now c.in_ok-found.found c.in-Ok.found c.in_ok-cases-in-Ok.cases c.in_ok-found.ensures c.in-Ok.is c.in_ok-cases-in-Ok.ensures
+pub returns-in-Ok : goal.returns-in-Ok
+returns-in-Ok c =
+    IfOk-weaker c.all_with_program.result _ _
+    (λ cases e. listed_by c.args.props.now c.args.listing.now c.in_ok-found.found c.in-Ok.found cases c.in_ok-found.ensures c.in-Ok.is e) c.all_with_program.ensures
 
-pub returns-in_ok-cases-in-Err : goal.returns-in_ok-cases-in-Err
-returns-in_ok-cases-in-Err c =
-    unlisted_by c.args.props.now c.args.listing.now c.in_ok-found.found c.in-Err.reason c.in_ok-cases-in-Err.cases c.in_ok-found.ensures c.in-Err.is c.in_ok-cases-in-Err.ensures
+pub returns-in-Err : goal.returns-in-Err
+returns-in-Err c =
+    IfOk-weaker c.list_of.result _ _
+    (λ cases e. unlisted_by c.args.props.now c.args.listing.now c.in_ok-found.found c.in-Err.reason cases c.in_ok-found.ensures c.in-Err.is e) c.list_of.ensures

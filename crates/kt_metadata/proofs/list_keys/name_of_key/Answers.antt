@@ -1,4 +1,5 @@
 use Rattle.std.proofs.Common.{◌∙◌, ap, sym, Some, None, List, ℕ}
+use Rattle.std.proofs.lemmas.Result.{IfOk-weaker}
 use Rattle.kt_metadata.proofs.Common.{option_copied, option_map, chars, row_in}
 use Rattle.kt_metadata.proofs.Tables.{key-found}
 use Rattle.kt_metadata.proofs.list_keys.name_of_key.Goals as goal
@@ -8,6 +9,6 @@ unfolding chars
 returns-in_ok-from_str-in-Some c =
     ap (λ (n : List ℕ). Some n) c.in_ok-from_str-in-Some.ensures ∙ sym (key-found c.args.key.now (Some c.in-Some.row.now) (ap (λ o. option_map row_in (option_copied o)) (sym c.in-Some.is) ∙ c.row_keyed.ensures))
 
-pub returns-in_ok-found-in-None : goal.returns-in_ok-found-in-None
+pub returns-in-None : goal.returns-in-None
 unfolding chars
-returns-in_ok-found-in-None c = c.in_ok-found-in-None.ensures ∙ sym (key-found c.args.key.now None (ap (λ o. option_map row_in (option_copied o)) (sym c.in-None.is) ∙ c.row_keyed.ensures))
+returns-in-None c = IfOk-weaker c.name_of_custom_key.result _ _ (λ found e. e ∙ sym (key-found c.args.key.now None (ap (λ o. option_map row_in (option_copied o)) (sym c.in-None.is) ∙ c.row_keyed.ensures))) c.name_of_custom_key.ensures
