@@ -18,7 +18,7 @@ pub use Rattle.kt_suite.specs.declared.filter.Filter.{Filter}
 pub use Rattle.kt_plan.specs.Collecting.{IsWanted, ListsCases, Offers, OffersFirst, OffersOne, candidate_of, candidates_of, chosen_of, item_of, selected_cases, variables_for}
 pub use Rattle.kt_plan.specs.Configuring.{Configures, Filters, IsConfiguration, ReadsConfig, filter_of, filters_of, lacks_case, names_one_case, or_stop_at, word_meaning, words_meaning}
 pub use Rattle.kt_plan.specs.Inner.Collecting.{Collected, ListsFirst}
-pub use Rattle.kt_plan.specs.Inner.Configuring.{ChecksTogether, Configured, GivesMore, GivesOne, OrShort, SettlesOrShort, position_in, unread_stop}
+pub use Rattle.kt_plan.specs.Inner.Configuring.{ChecksTogether, Configured, GivesMore, GivesOne, OrShort, SettlesOrShort, config_or_stop, position_in, unread_stop}
 pub use Rattle.kt_plan.specs.Inner.Listings.{LoadsOrShort}
 pub use Rattle.kt_plan.specs.Inner.Picks.{places_from}
 pub use Rattle.kt_plan.specs.Inner.Planning.{Notes}

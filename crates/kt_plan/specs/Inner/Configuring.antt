@@ -44,6 +44,11 @@ GivesMore config outcome meant = (before : List Definition) → Holds config bef
 abbrev pub GivesOne : Values → Result Values Stop → Result Definition Stop → Type 0
 GivesOne config outcome meant = GivesMore config outcome (in_front meant (Ok []))
 
+-- a configuration that has been set, unless there is a stop
+abbrev pub config_or_stop : Values → Option Stop → Result Values Stop
+config_or_stop config None = Ok config
+config_or_stop config (Some fault) = Err fault
+
 -- the position that a fault of several filters names
 abbrev pub position_in : FilterFault → ℕ
 position_in (Repeated position) = position

@@ -1,5 +1,5 @@
 ghost use Rattle.std.specs.Prelude.{◌≡◌, Some, IfOk};
-ghost use Rattle.kt_plan.specs.Common.{IsIdle, Answered, unread_stop, Configured, GivesMore, OrShort, SettlesOrShort, GivesOne, words_meaning, Configures, IsConfiguration, ReadsConfig, or_stop_at, word_meaning, definition_named, variables_for};
+ghost use Rattle.kt_plan.specs.Common.{IsIdle, Answered, unread_stop, Configured, GivesMore, config_or_stop, OrShort, SettlesOrShort, GivesOne, words_meaning, Configures, IsConfiguration, ReadsConfig, or_stop_at, word_meaning, definition_named, variables_for};
 
 use crate::options::case_filters::read_filters;
 use crate::{CaseOptions, Settings, Stop, World};
@@ -19,25 +19,25 @@ pub fn variables_for(alloc: Global, config: &Config, suite: &Text) -> Result<Var
 }
 
 /// Sets a variable, or stops at its name.
-fn set(config: Config, name: Text, value: &Text) -> Result<Result<Config, Stop>, NoMemory>
-    ensures { IfOk result (λ outcome.
-        GivesOne config outcome (or_stop_at name (definition_named name value.now))) }
+fn set(config: &mut Config, name: Text, value: &Text) -> Result<Option<Stop>, NoMemory>
+    ensures { IfOk result (λ stop. GivesOne config.old (config_or_stop config.new stop)
+        (or_stop_at name (definition_named name value.now))) }
 {
-    let mut config = config;
     match config.set(&name, value) {
-        Ok(()) => Ok(Ok(config)),
+        Ok(()) => Ok(None),
         Err(ConfigFault::NoMemory(refusal)) => Err(refusal),
-        Err(fault) => Ok(Err(Stop::Variable(name, fault))),
+        Err(fault) => Ok(Some(Stop::Variable(name, fault))),
     }
 }
 
 /// Sets what a word `NAME=VALUE` defines, or stops at its name.
-fn set_word(alloc: Global, config: Config, word: &Text) -> Result<Result<Config, Stop>, NoMemory>
-    ensures { IfOk result (λ outcome. GivesOne config outcome (word_meaning word.now)) }
+fn set_word(config: &mut Config, word: &Text) -> Result<Option<Stop>, NoMemory>
+    ensures { IfOk result (λ stop.
+        GivesOne config.old (config_or_stop config.new stop) (word_meaning word.now)) }
 {
     let (name, value) = word.split_at_first('=')?;
     match value {
-        None => Ok(Err(Stop::Variable(name, ConfigFault::BadValue))),
+        None => Ok(Some(Stop::Variable(name, ConfigFault::BadValue))),
         Some(value) => set(config, name, &value),
     }
 }
@@ -90,19 +90,14 @@ fn config_given<W: World>(
 }
 
 /// Sets what the words of `-v` define, in order, up to the first that is wrong.
-fn set_words(
-    alloc: Global,
-    config: Config,
-    words: &[Text],
-) -> Result<Result<Config, Stop>, NoMemory>
+fn set_words(config: Config, words: &[Text]) -> Result<Result<Config, Stop>, NoMemory>
     ensures { IfOk result (λ outcome. GivesMore config outcome (words_meaning words.now)) }
 {
     let mut config = config;
     for word in words {
-        config = match set_word(alloc, config, word)? {
-            Ok(next) => next,
-            Err(fault) => return Ok(Err(fault)),
-        };
+        if let Some(stop) = set_word(&mut config, word)? {
+            return Ok(Err(stop));
+        }
     }
     Ok(Ok(config))
 }
@@ -113,7 +108,7 @@ fn configure<W: World>(alloc: Global, options: &CaseOptions, world: &mut W) -> R
         (Configured (Configures options.now told) result)) }
 {
     let config = config_given(alloc, options, world)?;
-    set_words(alloc, config, options.variables.as_slice())?
+    set_words(config, options.variables.as_slice())?
 }
 
 /// Reads what a command over test cases is configured with, and its filters. The first fault stops the command: of the
