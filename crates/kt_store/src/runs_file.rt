@@ -142,11 +142,9 @@ fn list_schema<D: Disk>(alloc: Global, files: &mut Unopened<D>) -> Option<bool>
 
 /// Whether the rows of the settings say schema 2.
 fn is_schema_2(settings: &[Row]) -> bool {
-    let [schema] = settings else {
-        return false;
-    };
-    is_same(schema.get(1), ValueRef::Text("schema".as_bytes()))
-        && is_same(schema.get(2), ValueRef::Int(2))
+    settings.len() == 1
+        && is_same(settings[0].get(1), ValueRef::Text("schema".as_bytes()))
+        && is_same(settings[0].get(2), ValueRef::Int(2))
 }
 
 /// Whether a row is of the run with this number, finished or not.
