@@ -63,31 +63,37 @@ fn make_file<R: Files>(rt: &R, path: &str) -> io::Result<R::File> {
 }
 
 /// The name of a file that lies beside another.
-pub(crate) fn beside(file: &Text, ending: &str) -> Result<Text, NoMemory> {
+fn beside(file: &Text, ending: &str) -> Result<Text, NoMemory> {
     let mut name = file.copy()?;
     name.push_str(ending)?;
     Ok(name)
 }
 
-/// Whether a log may have a frame. That of a file that was removed would be read as the log of a new one.
-pub(crate) fn may_have_frames<R: Files>(rt: &R, log: &str) -> bool {
-    match fs::symlink_metadata(rt, log) {
+/// Whether the log of a file may have a frame. That of a file that was removed would be read as the log of a new one.
+pub(crate) fn may_have_frames<R: Files>(rt: &R, file: &Text) -> Result<bool, NoMemory> {
+    let log = beside(file, "-wal")?;
+    Ok(match fs::symlink_metadata(rt, log.as_str()) {
         Ok(found) => !found.is_file() || SHORTEST_LOG <= found.len(),
         Err(error) => error.kind() != ErrorKind::NotFound,
-    }
+    })
+}
+
+/// Makes a file with an empty database, and returns whether all of it is on the disk; none if the file can't be made.
+fn write_page<R: Files>(rt: &R, path: &str) -> Option<bool> {
+    let mut made = make_file(rt, path).ok()?;
+    Some(made.write_all(&first_page()).is_ok() && made.sync_all().is_ok())
 }
 
 /// Makes an empty database, and returns whether it did. The file gets its name once it is whole and on the disk, by a
 /// link, since a rename would replace a file that another process made meanwhile.
 fn make_database<R: Files>(rt: &R, file: &Text) -> Result<bool, NoMemory> {
-    let (new, log) = (beside(file, "-new")?, beside(file, "-wal")?);
-    if may_have_frames(rt, log.as_str()) {
+    if may_have_frames(rt, file)? {
         return Ok(false);
     }
-    let Ok(mut made) = make_file(rt, new.as_str()) else {
+    let new = beside(file, "-new")?;
+    let Some(is_whole) = write_page(rt, new.as_str()) else {
         return Ok(false);
     };
-    let is_whole = made.write_all(&first_page()).is_ok() && made.sync_all().is_ok();
     let is_named = is_whole && fs::hard_link(rt, new.as_str(), file.as_str()).is_ok();
     let _ = fs::remove_file(rt, new.as_str());
     Ok(is_named)

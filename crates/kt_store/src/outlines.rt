@@ -103,12 +103,12 @@ pub(crate) fn entry_in(alloc: Global, row: &Row, meta: Variables) -> Result<Entr
     ensures failed { IfErr result IsStoreFault }
 {
     let position = small_in(row, 0)?;
-    let program = text_in(row, 1)?;
-    let case_name = text_in(row, 2)?;
     let kind = kind_in(row, 3)?;
-    let reason = text_in(row, 4)?;
     let started = number_in(row, 5)?;
     let millis = number_in(row, 6)?;
+    let program = text_in(row, 1)?;
+    let case_name = text_in(row, 2)?;
+    let reason = text_in(row, 4)?;
     Ok(Entry {
         position,
         program,

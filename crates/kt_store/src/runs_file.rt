@@ -1,4 +1,4 @@
-ghost use Rattle.std.specs.Prelude.{◌≡◌, [], ◌∷◌, map, pos, IfSome, IsTrue};
+ghost use Rattle.std.specs.Prelude.{◌≡◌, [], ◌∷◌, map, pos, true, Some, IfSome, IsTrue};
 ghost use Rattle.kt_store.specs.Common.{Int, Looks, ListsRuns, ReadsRuns, image_at, column};
 ghost use Rattle.sqlite_trees.specs.Tree.{Trees, rowid};
 ghost use Rattle.sqlite_wal.specs.PageSize.{bytes_of};
@@ -7,7 +7,7 @@ ghost use Rattle.sqlite_store.specs.Unopened.{AreUsable, files_of, state_of};
 ghost use Rattle.sqlite.specs.Files.{HoldsDatabase, image_of};
 
 use crate::attach::{CREATE_ENTRIES, CREATE_META, CREATE_PROPS, CREATE_RUNS};
-use crate::new_file::{beside, may_have_frames};
+use crate::new_file::may_have_frames;
 use crate::seeks::RUNS;
 use crate::store_fault::trees::all_shown;
 use kt_base::Text;
@@ -48,9 +48,8 @@ pub(crate) fn is_path(path: &str) -> bool {
 
 /// Whether this is a file that is not empty, and whose log has no frame.
 fn is_settled<R: FileSystem>(rt: &R, file: &Text) -> Option<bool> {
-    let log = beside(file, "-wal").ok()?;
     let found = fs::symlink_metadata(rt, file.as_str()).ok()?;
-    Some(found.is_file() && found.len() > 0 && !may_have_frames(rt, log.as_str()))
+    Some(found.is_file() && found.len() > 0 && !may_have_frames(rt, file).ok()?)
 }
 
 /// Options with a number of pages that are kept in memory; none if there is no random number.
@@ -141,28 +140,51 @@ fn list_schema<D: Disk>(alloc: Global, files: &mut Unopened<D>) -> Option<bool>
     files.list_schema(rows.as_slice(), &LAYOUTS).ok()
 }
 
-/// Whether the tables say that they are those of schema 2, and the runs are numbered from 1, each finished or not.
-fn is_schema_2<S: Store>(store: &mut S, alloc: Global) -> Option<bool>
-    ensures { Looks S.Store store.old store.new }
-{
-    let settings = all_rows(store, &mut Workspace::new(alloc), META).ok()?;
-    let runs = all_rows(store, &mut Workspace::new(alloc), RUNS).ok()?;
+/// Whether the rows of the settings say schema 2.
+fn is_schema_2(settings: &[Row]) -> bool {
+    settings.len() == 1
+        && is_same(settings[0].get(1), ValueRef::Text("schema".as_bytes()))
+        && is_same(settings[0].get(2), ValueRef::Int(2))
+}
+
+/// Whether a row is of the run with this number, finished or not.
+fn is_run(row: &Row, number: i64) -> bool {
+    is_same(row.get(0), ValueRef::Int(number)) && matches!(row.get(4), ValueRef::Int(0 | 1))
+}
+
+/// Whether the runs are numbered from 1, each finished or not.
+fn are_numbered(runs: &[Row]) -> bool {
     let mut number = 0i64;
-    for run in runs.as_slice() {
+    for run in runs {
         number = number.wrapping_add(1);
-        if !is_same(run.get(0), ValueRef::Int(number))
-            || !matches!(run.get(4), ValueRef::Int(0 | 1))
-        {
-            return Some(false);
+        if !is_run(run, number) {
+            return false;
         }
     }
-    let [schema] = settings.as_slice() else {
-        return Some(false);
-    };
-    Some(
-        is_same(schema.get(1), ValueRef::Text(b"schema"))
-            && is_same(schema.get(2), ValueRef::Int(2)),
-    )
+    true
+}
+
+/// All rows of the table with this tree.
+fn rows_of<S: Store>(store: &mut S, alloc: Global, tree: u32) -> Option<Vec<Row>>
+    ensures { Looks S.Store store.old store.new }
+{
+    all_rows(store, &mut Workspace::new(alloc), tree).ok()
+}
+
+/// Whether the tables say that they are those of schema 2, and the runs are numbered.
+fn is_ours<S: Store>(store: &mut S, alloc: Global) -> Option<bool>
+    ensures { Looks S.Store store.old store.new }
+{
+    let settings = rows_of(store, alloc, META)?;
+    let runs = rows_of(store, alloc, RUNS)?;
+    Some(is_schema_2(settings.as_slice()) && are_numbered(runs.as_slice()))
+}
+
+/// A value, if it was found to be one of ours.
+fn kept<T: Drop>(value: T, is_ours: Option<bool>) -> Option<T>
+    ensures { IfSome result (λ it. (it ≡ value) × (is_ours ≡ Some true)) }
+{
+    if is_ours? { Some(value) } else { None }
 }
 
 /// Opens files that plainly hold a database of schema 2, in pages that end in no sums. Their log is recovered.
@@ -178,14 +200,11 @@ fn runs_over<D: Disk + Drop>(
     let mut pair = files;
     let size = plain_size(alloc, &mut pair)?;
     let mut fresh = unopened(alloc, pair, size, options)?;
-    if !list_schema(alloc, &mut fresh)? {
-        return None;
-    }
-    let mut store = fresh.open_numbered().ok()?;
-    if !is_schema_2(&mut store, alloc)? {
-        return None;
-    }
-    Some(store)
+    let is_listed = list_schema(alloc, &mut fresh);
+    let mid = kept(fresh, is_listed)?;
+    let mut store = mid.open_numbered().ok()?;
+    let is_ours = is_ours(&mut store, alloc);
+    kept(store, is_ours)
 }
 
 /// How many pages are kept in memory: most are read once.

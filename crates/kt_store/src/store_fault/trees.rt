@@ -168,10 +168,10 @@ pub(crate) fn rows_behind<S: Store>(
     if !are_shaped(store, table) {
         return Err(DAMAGED);
     }
+    store.seek(0, table.index, key, Direction::Forward)?;
     let mut place = row::Row::new(alloc);
     let mut row = row::Row::new(alloc);
     let mut rows = Vec::new(alloc);
-    store.seek(0, table.index, key, Direction::Forward)?;
     // A disk that lies could keep a cursor going, so the loop counts.
     'places: for _ in 0..u64::MAX {
         // The place behind is read too: it may be one of these that was damaged.
@@ -206,14 +206,14 @@ pub(crate) fn rows_in<S: Store>(
         return Err(DAMAGED);
     }
     let mut before = row::Row::new(alloc);
-    let mut key = row::Row::new(alloc);
     add_number(&mut before, run.saturating_sub(1))?;
-    add_number(&mut key, run)?;
+    store.seek(0, table.index, &before, Direction::Backward)?;
     let mut place = row::Row::new(alloc);
     let mut row = row::Row::new(alloc);
-    store.seek(0, table.index, &before, Direction::Backward)?;
     next_row(store, alloc, table, &before, &mut place, &mut row)?;
-    drop(row);
+    drop((before, place, row));
+    let mut key = row::Row::new(alloc);
+    add_number(&mut key, run)?;
     let rows = rows_behind(store, alloc, table, &key, columns)?;
     Ok(rows)
 }

@@ -1,4 +1,4 @@
-use Rattle.std.proofs.Common.{◌≡◌, ◌≢◌, ◌%◌, sym, ap, ap₂, subst, subst₂, ◌∙◌, arith}
+use Rattle.std.proofs.Common.{◌≡◌, ◌≢◌, ◌%◌, IsTrue, refl, sym, ap, ap₂, subst, subst₂, ◌∙◌, arith}
 use Rattle.std.proofs.lemmas.Bool.{cond-true}
 use Rattle.kt_store.proofs.Common.{Keeps}
 use Rattle.sqlite_wal.specs.Files.{seen_image}
@@ -16,9 +16,9 @@ use Rattle.sqlite.specs.Files.{image_of}
 use Rattle.sqlite.specs.Opening.{HoldsIn}
 use Rattle.sqlite.proofs.FileLemmas.{same_image}
 use Rattle.sqlite.proofs.OpenLemmas.{pool_files}
-use Rattle.kt_store.specs.Inner.Opening.{OpensOver}
-use Rattle.kt_store.specs.Seeks.{HoldsRuns}
-use Rattle.kt_store.proofs.OpeningLemmas.{ok_is, reads_runs, still_over, without_sums}
+use Rattle.kt_store.specs.Inner.Opening.{OpensOver, ListsRuns}
+use Rattle.kt_store.specs.Seeks.{HoldsRuns, ReadsRuns}
+use Rattle.kt_store.proofs.OpeningLemmas.{ok_is, then_some, reads_runs, still_over, without_sums}
 use Rattle.kt_store.proofs.runs_file.runs_over.Goals as goal
 
 pub returns : goal.returns
@@ -26,18 +26,19 @@ returns g c =
     let start = image_of g.D.Disk c.args.files in
     let store = c.in_ok-store.store in
     let ok = ok_is c.open_numbered.result c.ok.result store c.ok.ensures.value c.in_ok-store.was in
-    let last = c.is_schema_2.new.store in
-    let looks = c.is_schema_2.ensures in
-    reads_runs start last (λ clean.
+    let last = c.is_ours-is_ours.new.store in
+    let looks = c.is_ours-is_ours.ensures in
+    then_some _ c.kept-2.result c.kept-2.ensures (λ it kept. subst (ReadsRuns start) (sym kept.0) (reads_runs start last (λ clean.
     let late = no_doubt _ clean in
     let now = clean_of _ (looks.clean late) in
     let fresh = c.in_ok-fresh.fresh in
     let made = c.in_ok-fresh.ensures in
-    let mid = c.list_schema.new.files in
+    let mid = c.in_ok-mid.mid in
     let it = c.open_numbered.ensures in
     let ready = rw ok at it.ready in
     let kept = rw ok at it.kept in
-    let listed = c.in_ok-list_schema.ensures.lists c.if-not-branch.false ((rw ok at it.honest) now) in
+    let lists : IsTrue (state_of mid).is_clean → ListsRuns fresh mid = subst (λ m. IsTrue (state_of m).is_clean → ListsRuns fresh m) (sym c.in_ok-mid.ensures.0) ((rw c.in_ok-mid.ensures.1 at c.list_schema-is_listed.ensures.lists) refl) in
+    let listed = lists ((rw ok at it.honest) now) in
     let clean = sym ((pool_files fresh.pool).1 ∙ ap (λ f. are_clean g.D.Disk f.0 f.1) made.files) ∙ listed.honest in
     let seen : image fresh ≡ start = ap (λ f. seen_image g.D.Disk f.0 f.1) made.files ∙ same_image c.plain_size.ensures.log c.plain_size.ensures.db in
     let size = (state_of fresh).page_size in
@@ -57,4 +58,4 @@ returns g c =
       holds = λ runs h sound. holds runs h;
       leaves = λ runs h trees found. subst (Keeps runs) (sym (settled_at store g.met.D.Disk.seen_may_stay trees opened found ∙ sym ready.clean)) (holds runs h);
     } in
-    still_over start store last looks late was)
+    still_over start store last looks late was)))
