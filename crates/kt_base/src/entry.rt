@@ -11,7 +11,6 @@ pub struct Output {
 }
 
 /// What is recorded of one test case of a run.
-#[derive(Drop)]
 pub struct Entry {
     /// The place of the case among the selected ones, counted from 0.
     pub position: u32,
@@ -27,6 +26,23 @@ pub struct Entry {
     pub cleanup: Output,
     /// What the case declared, as names with values.
     pub meta: Variables,
+}
+
+/// Written out, so that a drop is one call.
+impl Drop for Entry {
+    fn drop(self) {
+        let Entry {
+            position: _,
+            program: _,
+            case_name: _,
+            verdict: _,
+            started: _,
+            millis: _,
+            body: _,
+            cleanup: _,
+            meta: _,
+        } = self;
+    }
 }
 
 /// A run of `kyua test`, with the entries recorded so far.

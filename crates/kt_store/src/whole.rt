@@ -22,11 +22,10 @@ fn with_outputs<R: ResultStore>(
         → entry ≡ without_outputs e → IfErr result IsStoreFault }
 {
     let outputs = results.outputs(run, entry.position)?;
-    Ok(Entry {
-        body: outputs.body,
-        cleanup: outputs.cleanup,
-        ..entry
-    })
+    let mut whole = entry;
+    whole.body = outputs.body;
+    whole.cleanup = outputs.cleanup;
+    Ok(whole)
 }
 
 /// The entries of a run, with their outputs.
