@@ -28,7 +28,7 @@ pub use Rattle.kt_suite.specs.FaultWords.{cause_words, fixed_words}
 pub use Rattle.kt_suite.specs.Faults.{IsNoMemory, fault_at, read_fault, script_line}
 pub use Rattle.kt_suite.specs.Filters.{counts, plain_path}
 pub use Rattle.kt_suite.specs.Inner.Steps.{IsText, all_places, first_match, is_match, is_miss, is_some_match, props_with, table_with, with_component, with_props}
-pub use Rattle.kt_suite.specs.Inner.Walks.{Adds, Counted, Enters, FileGives, MeaningGives, Opened, Stepped, Walked, WellOpened, badly, declines, empty, enters, exceeds, fails, goes, lacks, opens, refuses, scant, short, stops, through, unclear, well}
+pub use Rattle.kt_suite.specs.Inner.Walks.{Adds, Counted, Entered, Enters, FileGives, MeaningGives, Opened, Stepped, Walked, WellOpened, badly, declines, empty, enters, exceeds, fails, goes, lacks, opens, refuses, scant, short, stops, through, unclear, well}
 pub use Rattle.kt_suite.specs.Marks.{Asks, Fault, File, FileSays, Includes, Listed, Mark, Part, Says, Site, StatementsSay, TreeGives, Unfolds, end, entered, entry_fault, looked_up, no_script, no_statement, none, one, opened, refused, said, says, site_fault, suite_after, unopened, unread}
 pub use Rattle.kt_suite.specs.Matching.{IsWithin, is_within, matches, parts_match}
 pub use Rattle.kt_suite.specs.Meanings.{meaning_of, opening_fault}

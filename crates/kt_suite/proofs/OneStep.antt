@@ -1,6 +1,6 @@
 -- One statement more is read.
-use Rattle.std.proofs.Common.{Bool, true, false, Some, None, Result, Ok, Err, ◌≡◌, ◌≤◌, ◌<◌, ◌+◌, ℕ, List, [], ◌∷◌, ◌++◌, length, refl, sym, subst, ◌⊎◌, inl, inr}
-use Rattle.kt_suite.proofs.Common.{Variable, SuiteCause, MissingProgram, TooMany, SuiteFault, Meaning, Program, Registry, Missing, Step, Next, Enter, Asked, Exists, IsNoMemory, beside, Site, site_fault, looked_up, Mark, Asks, File, Listed, Fault, said, unread, entry_fault, Unfolds, end, says, refused, entered, file_limit, program_limit, is_fault, file_too_many, program_too_many, no_question, Walked, through, stops, short, Adds, Enters, refuses, exceeds, scant, MeaningGives, Stepped, goes, enters, fails}
+use Rattle.std.proofs.Common.{Bool, true, false, Some, None, Result, Ok, Err, ◌≡◌, ◌≤◌, ◌<◌, ◌+◌, ℕ, List, [], ◌∷◌, ◌++◌, length, refl, sym, subst, ◌⊎◌, inl, inr, IfOk, IfErr}
+use Rattle.kt_suite.proofs.Common.{Variable, SuiteCause, MissingProgram, TooMany, SuiteFault, Meaning, Program, Registry, Missing, Step, Next, Enter, Asked, Exists, IsNoMemory, beside, Site, site_fault, looked_up, Mark, Asks, File, Listed, Fault, said, unread, entry_fault, Unfolds, end, says, refused, entered, file_limit, program_limit, is_fault, file_too_many, program_too_many, no_question, Walked, through, stops, short, Adds, Entered, Enters, refuses, exceeds, scant, MeaningGives, Stepped, goes, enters, fails}
 use Rattle.kt_base.specs.declared.child.Interface.{Interface}
 use Rattle.kt_suite.specs.Inner.Walks.{counts}
 use Rattle.kt_suite.specs.declared.statement.Meaning.TheVariants as meaning
@@ -36,6 +36,15 @@ pub adds_one : {S : Type 0} (leads : S → Asked → S → Type 0) (old new : S)
     → after ≡ (record r { programs = r.programs ++ p ∷ [] }) → Adds leads old new at r p (Ok after)
 adds_one leads old new at r after p there h e n a =
     through (Asks (Exists p.path true) ∷ Listed at p ∷ []) after (true, refl) (new, subst (λ (x : Bool). leads old (Exists p.path x) new) e h, refl) (n, a)
+
+-- memory ran out before the program was asked for
+pub adds_unasked : {S : Type 0} (leads : S → Asked → S → Type 0) (old : S) (at : Site) (r : Registry) (p : Program) (fault : SuiteFault) → IsNoMemory fault → Adds leads old old at r p (Err fault)
+adds_unasked leads old at r p fault n = short [] (Asks (Exists p.path true) ∷ Listed at p ∷ []) [] r fault (true, refl) (no_question _) refl refl n
+
+-- a program by the path that its name leads to
+pub adds_beside : {S : Type 0} (leads : S → Asked → S → Type 0) (old new : S) (at : Site) (r : Registry) (p : Program) (path there : List ℕ) (result : Result Registry SuiteFault) → path ≡ there
+    → Adds leads old new at r (record p { path = path }) result → Adds leads old new at r (record p { path = there }) result
+adds_beside leads old new at r p path there result e a = subst (λ (x : List ℕ). Adds leads old new at r (record p { path = x }) result) e a
 
 -- an include
 pub enters_refused : (at : Site) (r : Registry) (path : List ℕ) (cause : SuiteCause) (fault : SuiteFault) → Some cause ≡ entry_fault r.reading path → IsNoMemory fault ⊎ (fault ≡ site_fault at cause) → Enters at r path (Err fault)
@@ -76,18 +85,13 @@ step_enter_at leads old r at name _ (exceeds e n) =
 step_enter_at leads old r at name _ (counts e n) = enters (beside at.file name) refl e n refl
 step_enter_at leads old r at name _ (scant fault n) = fails fault (at_once leads old r at (meaning.Include name) fault n)
 
-pub step_entered : {S : Type 0} (leads : S → Asked → S → Type 0) (old : S) (r next : Registry) (at : Site) (m : Meaning) (name path : List ℕ) → meaning.Include name ≡ m → path ≡ beside at.file name → Enters at r path (Ok next)
-    → Stepped leads old old r at m (Ok (Enter next path))
-step_entered leads old r next at m name path e p h =
-    subst (λ (x : Meaning). Stepped leads old old r at x (Ok (Enter next path))) e
-    (subst (λ (x : List ℕ). Stepped leads old old r at (meaning.Include name) (Ok (Enter next x))) (sym p)
-    (step_enter_at leads old r at name (Ok next) (subst (λ (x : List ℕ). Enters at r x (Ok next)) p h)))
-
-pub step_not_entered : {S : Type 0} (leads : S → Asked → S → Type 0) (old : S) (r : Registry) (at : Site) (m : Meaning) (name path : List ℕ) (fault : SuiteFault) → meaning.Include name ≡ m → path ≡ beside at.file name → Enters at r path (Err fault)
-    → Stepped leads old old r at m (Err fault)
-step_not_entered leads old r at m name path fault e p h =
-    subst (λ (x : Meaning). Stepped leads old old r at x (Err fault)) e
-    (step_enter_at leads old r at name (Err fault) (subst (λ (x : List ℕ). Enters at r x (Err fault)) p h))
+pub step_included : {S : Type 0} (leads : S → Asked → S → Type 0) (old : S) (r : Registry) (at : Site) (m : Meaning) (name : List ℕ) (result : Result Step SuiteFault) → meaning.Include name ≡ m
+    → IfOk result (λ step. Entered at r (beside at.file name) step) → IfErr result (λ fault. Enters at r (beside at.file name) (Err fault)) → Stepped leads old old r at m result
+step_included leads old r at m name (Ok step) e ok err =
+    subst (λ (x : Meaning). Stepped leads old old r at x (Ok step)) e
+    (subst (λ (x : Step). Stepped leads old old r at (meaning.Include name) (Ok x)) (sym ok.2) (step_enter_at leads old r at name (Ok ok.0) ok.1))
+step_included leads old r at m name (Err fault) e ok err =
+    subst (λ (x : Meaning). Stepped leads old old r at x (Err fault)) e (step_enter_at leads old r at name (Err fault) err)
 
 -- what a program's marks are, its statement gives
 walk_program : {S : Type 0} (leads : S → Asked → S → Type 0) (old new : S) (r : Registry) (at : Site) (interface : Interface) (name own : List ℕ) (props : List Variable) (result : Result Registry SuiteFault)
@@ -100,18 +104,14 @@ walk_program leads old new r at interface name own props _ (stops front back mar
 walk_program leads old new r at interface name own props _ (short front back more mid fault g l c k n) =
     short front back more mid fault (record { there = g.0; unfolds = subst (λ (ms : List Mark). Unfolds r.reading (said at g.0 (meaning.Program interface name own props)) ms) (sym g.1) (says _ _ _ _ (says _ _ _ _ (end _))) }) l c k n
 
-pub step_added : {S : Type 0} (leads : S → Asked → S → Type 0) (old new : S) (r next : Registry) (at : Site) (m : Meaning) (interface : Interface) (name own : List ℕ) (props : List Variable) (path : List ℕ)
-    → meaning.Program interface name own props ≡ m → path ≡ beside at.file name → Adds leads old new at r (record { interface = interface; path = path; suite = own; props = props }) (Ok next)
+pub step_added : {S : Type 0} (leads : S → Asked → S → Type 0) (old new : S) (r next : Registry) (at : Site) (m : Meaning) (interface : Interface) (name own : List ℕ) (props : List Variable)
+    → meaning.Program interface name own props ≡ m → Adds leads old new at r (record { interface = interface; path = beside at.file name; suite = own; props = props }) (Ok next)
     → Stepped leads old new r at m (Ok (Next next))
-step_added leads old new r next at m interface name own props path e p a =
-    subst (λ (x : Meaning). Stepped leads old new r at x (Ok (Next next))) e
-    (goes next (walk_program leads old new r at interface name own props (Ok next)
-    (subst (λ (x : List ℕ). Adds leads old new at r (record { interface = interface; path = x; suite = own; props = props }) (Ok next)) p a)))
+step_added leads old new r next at m interface name own props e a =
+    subst (λ (x : Meaning). Stepped leads old new r at x (Ok (Next next))) e (goes next (walk_program leads old new r at interface name own props (Ok next) a))
 
-pub step_not_added : {S : Type 0} (leads : S → Asked → S → Type 0) (old new : S) (r : Registry) (at : Site) (m : Meaning) (interface : Interface) (name own : List ℕ) (props : List Variable) (path : List ℕ) (fault : SuiteFault)
-    → meaning.Program interface name own props ≡ m → path ≡ beside at.file name → Adds leads old new at r (record { interface = interface; path = path; suite = own; props = props }) (Err fault)
+pub step_not_added : {S : Type 0} (leads : S → Asked → S → Type 0) (old new : S) (r : Registry) (at : Site) (m : Meaning) (interface : Interface) (name own : List ℕ) (props : List Variable) (fault : SuiteFault)
+    → meaning.Program interface name own props ≡ m → Adds leads old new at r (record { interface = interface; path = beside at.file name; suite = own; props = props }) (Err fault)
     → Stepped leads old new r at m (Err fault)
-step_not_added leads old new r at m interface name own props path fault e p a =
-    subst (λ (x : Meaning). Stepped leads old new r at x (Err fault)) e
-    (fails fault (walk_program leads old new r at interface name own props (Err fault)
-    (subst (λ (x : List ℕ). Adds leads old new at r (record { interface = interface; path = x; suite = own; props = props }) (Err fault)) p a)))
+step_not_added leads old new r at m interface name own props fault e a =
+    subst (λ (x : Meaning). Stepped leads old new r at x (Err fault)) e (fails fault (walk_program leads old new r at interface name own props (Err fault) a))

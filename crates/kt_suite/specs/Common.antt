@@ -9,7 +9,7 @@ pub use Rattle.kt_suite.specs.Disjoint.{IsDisjoint, IsFirstFault, ShareCase, cov
 pub use Rattle.kt_suite.specs.Faults.{IsNoMemory, fault_at, read_fault, script_line}
 pub use Rattle.kt_suite.specs.Filters.{Answers, filter_meaning}
 pub use Rattle.kt_suite.specs.Inner.Steps.{IsText, props_with, table_with, with_props}
-pub use Rattle.kt_suite.specs.Inner.Walks.{Adds, Enters, FileGives, Opened, Stepped, Walked, WellOpened}
+pub use Rattle.kt_suite.specs.Inner.Walks.{Adds, Entered, Enters, FileGives, Opened, Stepped, Walked, WellOpened}
 pub use Rattle.kt_suite.specs.Marks.{entry_fault, suite_after}
 pub use Rattle.kt_suite.specs.Matching.{IsWithin, MayMatch, is_within, matches}
 pub use Rattle.kt_suite.specs.Meanings.{meaning_of}

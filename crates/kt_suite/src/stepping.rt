@@ -1,5 +1,5 @@
-ghost use Rattle.std.specs.Prelude.{◌≡◌, OnOk};
-ghost use Rattle.kt_suite.specs.Common.{list_any, bytes_eq, entry_fault, meaning_of, suite_after, Adds, Enters, Stepped};
+ghost use Rattle.std.specs.Prelude.{◌≡◌, Err, IfErr, IfOk, OnOk};
+ghost use Rattle.kt_suite.specs.Common.{list_any, bytes_eq, beside, entry_fault, meaning_of, suite_after, Adds, Entered, Enters, Stepped};
 
 use crate::fault::{blame, no_memory};
 use crate::paths::path_beside;
@@ -85,6 +85,50 @@ fn enter(
     Ok(registry)
 }
 
+/// Goes on with the file that an `include` names, if it may be read here.
+fn include(
+    alloc: Global,
+    file: &Text,
+    line: u32,
+    registry: Registry,
+    name: &Text,
+) -> Result<Step, SuiteFault>
+    ensures ok { IfOk result (λ step. Entered (record { file = file.now; line = line })
+        registry (beside file.now name.now) step) }
+    ensures err { IfErr result (λ fault. Enters (record { file = file.now; line = line })
+        registry (beside file.now name.now) (Err fault)) }
+{
+    match path_beside(alloc, file, name) {
+        Err(refusal) => Err(no_memory(alloc, refusal)),
+        Ok(path) => match enter(alloc, file, line, registry, &path) {
+            Err(fault) => Err(fault),
+            Ok(next) => Ok(Step::Enter(next, path)),
+        },
+    }
+}
+
+/// Registers a program whose path is still its name in the directory of the file.
+fn register<T: Tree>(
+    alloc: Global,
+    tree: &mut T,
+    file: &Text,
+    line: u32,
+    registry: Registry,
+    named: Program,
+) -> Result<Registry, SuiteFault>
+    ensures { Adds T.asks tree.old tree.new (record { file = file.now; line = line })
+        registry (record named { path = beside file.now named.path }) result }
+{
+    match path_beside(alloc, file, &named.path) {
+        Err(refusal) => Err(no_memory(alloc, refusal)),
+        Ok(path) => {
+            let mut program = named;
+            program.path = path;
+            add(alloc, tree, file, line, registry, program)
+        }
+    }
+}
+
 /// Carries out one statement of a file, after its first. `suite` is the suite of the programs to come.
 pub fn step<T: Tree>(
     alloc: Global,
@@ -107,27 +151,18 @@ pub fn step<T: Tree>(
             *suite = Some(name);
             Ok(Step::Next(registry))
         }
-        Ok(Meaning::Include(name)) => match path_beside(alloc, file, &name) {
-            Err(refusal) => Err(no_memory(alloc, refusal)),
-            Ok(path) => match enter(alloc, file, stmt.line, registry, &path) {
+        Ok(Meaning::Include(name)) => include(alloc, file, stmt.line, registry, &name),
+        Ok(Meaning::Program(interface, name, own, props)) => {
+            let named = Program {
+                interface,
+                path: name,
+                suite: own,
+                props,
+            };
+            match register(alloc, tree, file, stmt.line, registry, named) {
                 Err(fault) => Err(fault),
-                Ok(next) => Ok(Step::Enter(next, path)),
-            },
-        },
-        Ok(Meaning::Program(interface, name, own, props)) => match path_beside(alloc, file, &name) {
-            Err(refusal) => Err(no_memory(alloc, refusal)),
-            Ok(path) => {
-                let program = Program {
-                    interface,
-                    path,
-                    suite: own,
-                    props,
-                };
-                match add(alloc, tree, file, stmt.line, registry, program) {
-                    Err(fault) => Err(fault),
-                    Ok(next) => Ok(Step::Next(next)),
-                }
+                Ok(next) => Ok(Step::Next(next)),
             }
-        },
+        }
     }
 }

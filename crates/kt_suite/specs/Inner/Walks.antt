@@ -64,6 +64,10 @@ pub data Enters (at : Site) (r : Registry) (path : List ℕ) : Result Registry S
       → Enters at r path (Ok (record r { files = r.files + 1 }))
   scant : (fault : SuiteFault) → IsNoMemory fault → Enters at r path (Err fault)
 
+-- an included file was counted, and is read next
+abbrev pub Entered : Site → Registry → List ℕ → Step → Type 0
+Entered at r path step = (next : Registry) × Enters at r path (Ok next) × (step ≡ Enter next path)
+
 -- a statement was carried out, or as far as the file that it includes
 pub data Stepped {S : Type 0} (leads : S → Asked → S → Type 0) (old new : S) (r : Registry) (at : Site)
     (meaning : Meaning) : Result Step SuiteFault → Type 0 where
