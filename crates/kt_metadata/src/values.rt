@@ -18,8 +18,7 @@ fn end_word(words: &mut Items<Text>, word: Text) -> Result<(), NoMemory>
     if word.is_empty() {
         return Ok(());
     }
-    words.push(word)?;
-    Ok(())
+    words.push(word)
 }
 
 /// The word that has begun after one character more; white space ends it.
