@@ -125,7 +125,7 @@ fn run<S: Past>(rt: &HostRuntime, past: PhantomData<S>) -> ExitCode {
     let command = read_words(rt.alloc(), env::args(rt));
     let reads = matches!(
         command,
-        Ok(Command::Report { .. }) | Ok(Command::ReportJunit(_))
+        Ok(Command::Report { .. }) | Ok(Command::ReportJunit(..))
     );
     let mut host = Host { rt, past, reads };
     let exit = carried_on_host(rt, &mut host, command);
