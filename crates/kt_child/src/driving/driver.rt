@@ -65,8 +65,7 @@ impl<O: Os + Drop> Launcher for Driver<O> {
         }
     }
 
-    /// The end of the first child, polled in the order of their start, that is found to have ended (`DriverWaits`). Its
-    /// outcome follows from all that it answered (`Waited` of `Driving.Board`), and its name is no other's (`IsApart`).
+    /// The end of the first child, polled in the order of their start, that has ended; all its answers tell it (`Waited`).
     fn wait(&mut self) -> Ended {
         self.running.wait(self.alloc, &mut self.os)
     }

@@ -27,6 +27,7 @@ fn is_running(answer: &Result<Option<ExitStatus>, OsFault>) -> bool
 }
 
 /// A child of the host, from the opening of its first file until its end is reported.
+#[derive(Drop)]
 pub(crate) struct HostChild<P: OpenProcess> {
     out: Option<File>,
     err: Option<File>,
@@ -34,19 +35,6 @@ pub(crate) struct HostChild<P: OpenProcess> {
     pace: Pace,
     /// Whether its end was seen, or it couldn't be waited for.
     seen: bool,
-}
-
-/// Written out, so that a drop is one call.
-impl<P: OpenProcess + Drop> Drop for HostChild<P> {
-    fn drop(self) {
-        let HostChild {
-            out: _,
-            err: _,
-            process: _,
-            pace: _,
-            seen: _,
-        } = self;
-    }
 }
 
 impl<P: OpenProcess + Drop> HostChild<P> {

@@ -62,6 +62,7 @@ impl Case {
 }
 
 /// All that a child is started with.
+#[derive(Drop)]
 pub(crate) struct Spawning {
     pub child: Child,
     /// How long it may run, in seconds.
@@ -75,21 +76,4 @@ pub(crate) struct Spawning {
     pub work: Text,
     pub out: Text,
     pub err: Text,
-}
-
-/// Written out, so that a drop is one call.
-impl Drop for Spawning {
-    fn drop(self) {
-        let Spawning {
-            child: _,
-            limit: _,
-            program: _,
-            words: _,
-            env: _,
-            dir: _,
-            work: _,
-            out: _,
-            err: _,
-        } = self;
-    }
 }
