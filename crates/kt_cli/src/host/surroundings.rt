@@ -11,6 +11,7 @@ use std::rt::Env;
 const LONGEST_VARIABLE: usize = 131_072;
 
 /// The working directory and the environment of the process that carries out a command.
+#[derive(Drop)]
 pub struct Surroundings {
     /// The absolute working directory.
     pub here: Text,
@@ -18,17 +19,6 @@ pub struct Surroundings {
     pub path: Option<Text>,
     /// The value of `USER`, if it is set: who runs the command.
     pub user: Option<Text>,
-}
-
-/// Written out, so that a drop is one call.
-impl Drop for Surroundings {
-    fn drop(self) {
-        let Surroundings {
-            here: _,
-            path: _,
-            user: _,
-        } = self;
-    }
 }
 
 /// The value of a variable, which is copied through a buffer on the stack.
