@@ -214,7 +214,7 @@ kt_report/src/report_fault.rt: #[error("out of memory")]
 kt_sched/src/run_fault.rt: #[error("out of memory")]
 kt_sched/src/sink.rt: #[error("out of memory")]
 kt_script/src/fault.rt: ScriptFault::NoMemory(_) => "out of memory",
-kt_store/src/store_fault/mod.rt: #[error("out of memory")]
+kt_store/src/store_fault/mod.rt: StoreFault::NoMemory(_) => f.write_str("out of memory"),
 kt_suite/src/cause.rt: SuiteCause::NoMemory(_) => "out of memory",
 kt_suite/src/filter.rt: FilterFault::NoMemory(_) => "out of memory",
 kt_suite/src/selecting.rt: SelectFault::NoMemory(_) => "out of memory",

@@ -190,16 +190,15 @@ fn kept<T: Drop>(value: T, is_ours: Option<bool>) -> Option<T>
 /// Opens files that plainly hold a database of schema 2, in pages that end in no sums. Their log is recovered.
 fn runs_over<D: Disk + Drop>(
     alloc: Global,
-    files: Files<D>,
+    mut files: Files<D>,
     options: Options,
 ) -> Option<FileStore<D>>
     requires log { IsTrue (D.Disk.is_usable files.log) }
     requires db { IsTrue (D.Disk.is_usable files.db) }
     ensures { IfSome result (ReadsRuns (image_of D.Disk files)) }
 {
-    let mut pair = files;
-    let size = plain_size(alloc, &mut pair)?;
-    let mut fresh = unopened(alloc, pair, size, options)?;
+    let size = plain_size(alloc, &mut files)?;
+    let mut fresh = unopened(alloc, files, size, options)?;
     let is_listed = list_schema(alloc, &mut fresh);
     let mid = kept(fresh, is_listed)?;
     let mut store = mid.open_numbered().ok()?;

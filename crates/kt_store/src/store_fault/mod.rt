@@ -3,37 +3,39 @@
 pub(crate) mod statements;
 pub(crate) mod trees;
 
-use thiserror::Error;
+use std::{error, fmt};
 
 /// Why a call of the store is refused. `Display` is the text of the fault line (this profile).
-#[derive(Clone, Copy, Debug, Error)]
+#[derive(Clone, Copy, Debug)]
 pub enum StoreFault {
-    #[error("out of memory")]
     NoMemory(Shortage),
-    #[error("results store failed")]
     Store(FailedStatement),
     /// No run has this number.
-    #[error("results store failed")]
     NoRun,
     /// The run is finished.
-    #[error("results store failed")]
     RunClosed,
     /// The run has an entry with this position.
-    #[error("results store failed")]
     RepeatedPosition,
     /// There are 1,000,000 runs, as many as this profile keeps.
-    #[error("results store failed")]
     StoreFull,
     /// The tables say another number than that of this profile's schema.
-    #[error("results store failed")]
     UnknownSchema,
     /// The position is not below the total of the run.
-    #[error("results store failed")]
     BadPosition,
     /// The run has fewer entries than its total.
-    #[error("results store failed")]
     Incomplete,
 }
+
+impl fmt::Display for StoreFault {
+    fn fmt<W: fmt::Write>(&self, f: &mut fmt::Formatter<W>) -> fmt::Result {
+        match self {
+            StoreFault::NoMemory(_) => f.write_str("out of memory"),
+            _ => f.write_str("results store failed"),
+        }
+    }
+}
+
+impl error::Error for StoreFault {}
 
 /// Memory ran out. Only a refusal of the allocator, or of SQLite, makes this value.
 #[derive(Clone, Copy, Debug)]
