@@ -5,9 +5,16 @@ use std::alloc::Global;
 use std::marker::Model;
 
 /// Bytes. Contracts see their list.
-#[derive(Debug, Drop)]
+#[derive(Debug)]
 pub struct Bytes {
     bytes: Vec<u8>,
+}
+
+/// Written out, so that a drop is one call.
+impl Drop for Bytes {
+    fn drop(self) {
+        let Bytes { bytes: _ } = self;
+    }
 }
 
 impl Model for Bytes {

@@ -5,9 +5,16 @@ use std::alloc::Global;
 use std::marker::Model;
 
 /// A list. Contracts see its elements in order.
-#[derive(Debug, Drop)]
+#[derive(Debug)]
 pub struct Items<T> {
     items: Vec<T>,
+}
+
+/// Written out, so that a drop is one call.
+impl<T: Drop> Drop for Items<T> {
+    fn drop(self) {
+        let Items { items: _ } = self;
+    }
 }
 
 impl<T> Model for Items<T> {
