@@ -1,5 +1,5 @@
-use Rattle.std.proofs.Common.{◌∙◌, ℕ, inr, map, filter, slice_get, refl, sym, ap}
-use Rattle.kt_store.proofs.Common.{option_copied, entry_at, entries_of, entry_row, run_at}
+use Rattle.std.proofs.Common.{◌≡◌, ◌∙◌, ℕ, Option, Some, inr, map, filter, slice_get, refl, sym, ap}
+use Rattle.kt_store.proofs.Common.{Entry, option_copied, entry_at, entries_of, entry_row, output_columns, run_at}
 use Rattle.kt_store.proofs.CursorLemmas.{cs, place_of_entry}
 use Rattle.kt_store.proofs.OutputsLemmas.{has as is_at, outputs_there, no_outputs, no_entry, past_run}
 use Rattle.kt_store.proofs.AloneLemmas.{outputs_looked}
@@ -11,14 +11,18 @@ use Rattle.kt_store.proofs.seeks.find_outputs.Goals as goal
 pub outputs_in-requires : goal.outputs_in-requires
 outputs_in-requires g c = first_wide 4 c.in_ok-rows.rows.items c.in-Some.row.now c.in_ok-rows.ensures.wide (ap (λ l. slice_get l 0) (sym c.deref.ensures.value) ∙ sym c.first.ensures.value ∙ ap option_copied c.in-Some.is)
 
+-- what is said of an entry that was found, by the number that was asked for
+it_is : (at : ℕ → Option Entry) (Q P : Entry → Type 0) (n run : ℕ) → n ≡ run → ((e : Entry) → Q e → P e) → (e : Entry) × (at n ≡ Some e) × Q e → (e : Entry) × (at run ≡ Some e) × P e
+it_is at Q P n run same each it = (it.0, ap at (sym same) ∙ it.1, each it.0 it.2)
+
 pub returns-in-Some : goal.returns-in-Some
 returns-in-Some g c = outputs_looked g.S.Store _ _ c.rows_behind.ensures.looks c.args.run c.args.position _ (λ runs has clean.
     let keeps = has (c.rows_behind.ensures.looks.clean clean) (c.in_ok-rows.ensures.sound clean) in
     let n = c.key-number.result in
     let es = filter (is_at c.args.position) (entries_of (run_at runs n)) in
     let rows = seen_outputs n es _ (rw (c.in_ok-add_number-2.ensures, c.from.ensures, c.in_ok-add_number.ensures, c.new-place.ensures) at (c.in_ok-rows.ensures.all clean) cs (map (entry_row n) es) (λ shaped up. place_of_entry runs _ keeps shaped up n c.args.position)) in
-    let it = outputs_there (run_at runs n) c.args.position c.in_ok-rows.rows.items c.in-Some.row.now rows (ap (λ l. slice_get l 0) (sym c.deref.ensures.value) ∙ sym c.first.ensures.value ∙ ap option_copied c.in-Some.is) in
-    (it.0, ap (λ (n : ℕ). entry_at (run_at runs n) c.args.position) (sym c.if-number-run.true) ∙ it.1, c.in_ok-outputs-in-Some.ensures.outputs it.0 it.2))
+    it_is (λ (n : ℕ). entry_at (run_at runs n) c.args.position) (λ e. c.in-Some.row.now ≡ output_columns e) _ n c.args.run c.if-number-run.true c.in_ok-outputs-in-Some.ensures.outputs
+    (outputs_there (run_at runs n) c.args.position c.in_ok-rows.rows.items c.in-Some.row.now rows (ap (λ l. slice_get l 0) (sym c.deref.ensures.value) ∙ sym c.first.ensures.value ∙ ap option_copied c.in-Some.is)))
 
 pub returns : goal.returns
 returns g c = outputs_looked g.S.Store _ _ c.rows_behind.ensures.looks c.args.run c.args.position _ (λ runs has clean.
