@@ -1,5 +1,5 @@
 ghost use Rattle.std.specs.Prelude.{◌≡◌, IfOk, false};
-ghost use Rattle.kt_words.specs.Common.{App, Rule, app_of, new_app, rule_of, with_rule, with_subcommand, bare_app, config_rule, variable_rule, kyuafile_rule, work_rule, results_rule, filters_rule, case_rule, run_rule, kinds_rule, verbose_rule, list_app, test_app, debug_app, report_app, junit_app, kyua_app};
+ghost use Rattle.kt_words.specs.Common.{App, Rule, app_of, new_app, rule_of, option_rule, with_rule, with_subcommand, bare_app, config_rule, variable_rule, kyuafile_rule, work_rule, results_rule, filters_rule, case_rule, run_rule, kinds_rule, verbose_rule, list_app, test_app, debug_app, report_app, junit_app, kyua_app};
 ghost use Rattle.clap.specs.declared.builder.command.Command.TheViews.{out-Command as fields_of};
 
 use clap::{Arg, ArgAction};
@@ -19,15 +19,23 @@ pub const RESULTS: &str = "kyua.db";
 const BEFORE: &str =
     "The options -c FILE and -v NAME=VALUE stand before the command; see 'kyua --help'.";
 
+/// An option that takes a value.
+fn option_word<'a>(alloc: Global, id: &'a str, long: &'a str, value: &'a str) -> Arg<'a>
+    ensures rule { rule_of result ≡ option_rule id.entry.now long.entry.now }
+    ensures own { result.global ≡ false }
+{
+    Arg::new(alloc, id)
+        .long(long)
+        .value_name(value)
+        .action(ArgAction::Set)
+}
+
 fn config_word<'a>(alloc: Global) -> Arg<'a>
     ensures rule { rule_of result ≡ config_rule }
     ensures own { result.global ≡ false }
 {
-    Arg::new(alloc, "config")
+    option_word(alloc, "config", "config", "FILE")
         .short('c')
-        .long("config")
-        .value_name("FILE")
-        .action(ArgAction::Set)
         .help("The configuration file that the cases are read with [default: no file]")
 }
 
@@ -35,10 +43,8 @@ fn variable_word<'a>(alloc: Global) -> Arg<'a>
     ensures rule { rule_of result ≡ variable_rule }
     ensures own { result.global ≡ false }
 {
-    Arg::new(alloc, "variables")
+    option_word(alloc, "variables", "variable", "NAME=VALUE")
         .short('v')
-        .long("variable")
-        .value_name("NAME=VALUE")
         .action(ArgAction::Append)
         .help("Sets a variable, after those of the configuration file; may be repeated")
 }
@@ -47,12 +53,9 @@ fn kyuafile_word<'a>(alloc: Global) -> Arg<'a>
     ensures rule { rule_of result ≡ kyuafile_rule }
     ensures own { result.global ≡ false }
 {
-    Arg::new(alloc, "kyuafile")
+    option_word(alloc, "kyuafile", "kyuafile", "FILE")
         .short('k')
-        .long("kyuafile")
-        .value_name("FILE")
         .default_value(KYUAFILE)
-        .action(ArgAction::Set)
         .help("The Kyuafile to read")
 }
 
@@ -60,11 +63,8 @@ fn work_word<'a>(alloc: Global) -> Arg<'a>
     ensures rule { rule_of result ≡ work_rule }
     ensures own { result.global ≡ false }
 {
-    Arg::new(alloc, "work")
-        .long("work")
-        .value_name("DIR")
+    option_word(alloc, "work", "work", "DIR")
         .default_value(WORK)
-        .action(ArgAction::Set)
         .help("The absolute path of a directory to make work directories in")
 }
 
@@ -72,12 +72,9 @@ fn results_word<'a>(alloc: Global) -> Arg<'a>
     ensures rule { rule_of result ≡ results_rule }
     ensures own { result.global ≡ false }
 {
-    Arg::new(alloc, "results")
+    option_word(alloc, "results", "results-file", "FILE")
         .short('r')
-        .long("results-file")
-        .value_name("FILE")
         .default_value(RESULTS)
-        .action(ArgAction::Set)
         .help("The file of the results")
 }
 
@@ -107,24 +104,18 @@ fn run_word<'a>(alloc: Global) -> Arg<'a>
     ensures rule { rule_of result ≡ run_rule }
     ensures own { result.global ≡ false }
 {
-    Arg::new(alloc, "run")
-        .long("run")
-        .value_name("N")
-        .action(ArgAction::Set)
-        .help("The number of the run, 1 to 1000000 [default: the last one]")
+    option_word(alloc, "run", "run", "N").help(
+        "The number of the run, 1 to 1000000 [default: the last one]",
+    )
 }
 
 fn kinds_word<'a>(alloc: Global) -> Arg<'a>
     ensures rule { rule_of result ≡ kinds_rule }
     ensures own { result.global ≡ false }
 {
-    Arg::new(alloc, "kinds")
-        .long("results-filter")
-        .value_name("K,..")
-        .action(ArgAction::Set)
-        .help(
-            "The results to show: passed, skipped, xfail, broken, failed [default: all but passed]",
-        )
+    option_word(alloc, "kinds", "results-filter", "K,..").help(
+        "The results to show: passed, skipped, xfail, broken, failed [default: all but passed]",
+    )
 }
 
 fn verbose_word<'a>(alloc: Global) -> Arg<'a>
