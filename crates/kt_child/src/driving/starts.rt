@@ -1,5 +1,5 @@
 ghost use Rattle.std.specs.Prelude.{◌≡◌, ◌≤◌, List, IfOk};
-ghost use Rattle.kt_child.specs.Common.{Chain, Call, HasMoment, SetUp, SetUpIn, SetUpNew, Started, TakesNumber, Tried, child_asks, furnish_asks, spawned, cause_of, fresh, IsFit, IsOnBy, limit_of, spawning_for, want_of};
+ghost use Rattle.kt_child.specs.Common.{Chain, Call, HasMoment, SetUp, SetUpIn, SetUpNew, Started, TakesNumber, Tried, child_asks, furnish_asks, spawned, cause_of, err_of, fresh, IsFit, IsOnBy, limit_of, out_of, program_directory, program_path, spawning_for, want_of, words_of};
 
 use crate::ending::ends::{output_paths, remove_if};
 use crate::planning::words::{absolute_path, program_directory};
@@ -7,7 +7,7 @@ use crate::planning::{Case, Purpose, Spawning};
 use crate::polling::{Watch, Watched};
 use crate::system::moments::moment;
 use crate::{Os, OsFault, Want, argv_plan, env_plan};
-use kt_base::{NoMemory, Refused, Role, Text};
+use kt_base::{Items, NoMemory, Refused, Role, Text};
 use kt_sched::{Job, StartAnswer};
 use std::alloc::Global;
 
@@ -37,6 +37,44 @@ pub(crate) fn want_and_limit(job: &Job, role: Role) -> (Want, u64)
     }
 }
 
+/// The absolute path of a child's program, and its arguments.
+fn command_line(
+    alloc: Global,
+    source: &Text,
+    purpose: Purpose<'_>,
+    case: &Case,
+) -> Result<(Text, Items<Text>), NoMemory>
+    ensures program { IfOk result (λ line. line.0
+        ≡ program_path source.now purpose.entry.program.now) }
+    ensures words { IfOk result (λ line. line.1 ≡ words_of case.now.interface purpose.entry.want
+        case.now.paths.result (program_directory (program_path source.now purpose.entry.program.now))
+        purpose.entry.variables.now purpose.entry.case_name.now) }
+{
+    let program = absolute_path(source, purpose.program)?;
+    let directory = program_directory(alloc, &program)?;
+    let words = argv_plan(
+        alloc,
+        case.interface,
+        purpose.want,
+        &case.paths,
+        &directory,
+        purpose.variables,
+        purpose.case_name,
+    )?;
+    Ok((program, words))
+}
+
+/// Copies of the paths of a child's outputs.
+fn outputs_of(case: &Case) -> Result<(Text, Text), NoMemory>
+    ensures out { IfOk result (λ outputs. outputs.0 ≡ out_of case.now.role case.now.paths) }
+    ensures err { IfOk result (λ outputs. outputs.1 ≡ err_of case.now.role case.now.paths) }
+{
+    let (out, err) = output_paths(case.role, &case.paths);
+    let out = out.copy()?;
+    let err = err.copy()?;
+    Ok((out, err))
+}
+
 /// What the child of a case is started with. `source` is the absolute directory of the root Kyuafile.
 pub(crate) fn spawning(
     alloc: Global,
@@ -55,24 +93,11 @@ pub(crate) fn spawning(
     }) case.now) }
     ensures on { IfOk result (λ plan. IsOnBy plan.limit fresh) }
 {
-    let paths = &case.paths;
-    let program = absolute_path(source, purpose.program)?;
-    let directory = program_directory(alloc, &program)?;
-    let words = argv_plan(
-        alloc,
-        case.interface,
-        purpose.want,
-        paths,
-        &directory,
-        purpose.variables,
-        purpose.case_name,
-    )?;
-    let env = env_plan(alloc, case.interface, purpose.variables, &paths.work)?;
-    let dir = paths.dir.copy()?;
-    let work = paths.work.copy()?;
-    let (out, err) = output_paths(case.role, paths);
-    let out = out.copy()?;
-    let err = err.copy()?;
+    let (program, words) = command_line(alloc, source, purpose, case)?;
+    let (out, err) = outputs_of(case)?;
+    let env = env_plan(alloc, case.interface, purpose.variables, &case.paths.work)?;
+    let dir = case.paths.dir.copy()?;
+    let work = case.paths.work.copy()?;
     Ok(Spawning {
         child: case.child(),
         limit: purpose.limit,

@@ -45,6 +45,22 @@ pub(crate) fn push_text(alloc: Global, texts: &mut Items<Text>, text: &str) -> R
     Ok(())
 }
 
+/// Appends two texts as one word.
+fn push_joined(
+    alloc: Global,
+    words: &mut Items<Text>,
+    first: &str,
+    second: &str,
+) -> Result<(), NoMemory>
+    ensures { OnOk result (words.new
+        ≡ words.old ++ (chars first.now ++ chars second.now) ∷ []) }
+{
+    let mut word = Text::from_str(alloc, first)?;
+    word.push_str(second)?;
+    words.push(word)?;
+    Ok(())
+}
+
 /// The word that hands a variable to an ATF program.
 fn word_of_variable(alloc: Global, variable: &Variable) -> Result<Text, NoMemory>
     ensures { IfOk result (λ word. word ≡ variable_word variable.now) }
@@ -89,14 +105,11 @@ fn body_words(
     ensures { IfOk result (λ words. words ≡ words_of Interface.Atf Want.Body result_file.now
         source.now variables.now case_name.now) }
 {
-    let result_word = joined(alloc, "-r", result_file)?;
-    let source_word = joined(alloc, "-s", source)?;
-    let case_word = case_name.copy()?;
     let mut words = Items::new(alloc);
-    words.push(result_word)?;
-    words.push(source_word)?;
+    push_joined(alloc, &mut words, "-r", result_file.as_str())?;
+    push_joined(alloc, &mut words, "-s", source.as_str())?;
     push_variable_words(alloc, &mut words, variables)?;
-    words.push(case_word)?;
+    push_text(alloc, &mut words, case_name.as_str())?;
     Ok(words)
 }
 
@@ -109,13 +122,10 @@ fn cleanup_words(
     ensures { IfOk result (λ words. words ≡ ((codes "-s" ++ source.now) ∷ [])
         ++ map variable_word variables.now ++ (case_name.now ++ codes ":cleanup") ∷ []) }
 {
-    let source_word = joined(alloc, "-s", source)?;
-    let mut case_word = case_name.copy()?;
-    case_word.push_str(":cleanup")?;
     let mut words = Items::new(alloc);
-    words.push(source_word)?;
+    push_joined(alloc, &mut words, "-s", source.as_str())?;
     push_variable_words(alloc, &mut words, variables)?;
-    words.push(case_word)?;
+    push_joined(alloc, &mut words, case_name.as_str(), ":cleanup")?;
     Ok(words)
 }
 
