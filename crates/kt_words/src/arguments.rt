@@ -1,5 +1,5 @@
 ghost use Rattle.std.specs.Prelude.{◌≡◌, IfOk, false};
-ghost use Rattle.kt_words.specs.Common.{app_of, new_app, rule_of, config_rule, variable_rule, kyuafile_rule, work_rule, results_rule, filters_rule, case_rule, run_rule, kinds_rule, verbose_rule, list_app, test_app, debug_app, report_app, junit_app, kyua_app};
+ghost use Rattle.kt_words.specs.Common.{App, Rule, app_of, new_app, rule_of, option_rule, with_rule, with_subcommand, bare_app, config_rule, variable_rule, kyuafile_rule, work_rule, results_rule, filters_rule, case_rule, run_rule, kinds_rule, verbose_rule, list_app, test_app, debug_app, report_app, junit_app, kyua_app};
 ghost use Rattle.clap.specs.declared.builder.command.Command.TheViews.{out-Command as fields_of};
 
 use clap::{Arg, ArgAction};
@@ -19,15 +19,23 @@ pub const RESULTS: &str = "kyua.db";
 const BEFORE: &str =
     "The options -c FILE and -v NAME=VALUE stand before the command; see 'kyua --help'.";
 
+/// An option that takes a value.
+fn option_word<'a>(alloc: Global, id: &'a str, long: &'a str, value: &'a str) -> Arg<'a>
+    ensures rule { rule_of result ≡ option_rule id.entry.now long.entry.now }
+    ensures own { result.global ≡ false }
+{
+    Arg::new(alloc, id)
+        .long(long)
+        .value_name(value)
+        .action(ArgAction::Set)
+}
+
 fn config_word<'a>(alloc: Global) -> Arg<'a>
     ensures rule { rule_of result ≡ config_rule }
     ensures own { result.global ≡ false }
 {
-    Arg::new(alloc, "config")
+    option_word(alloc, "config", "config", "FILE")
         .short('c')
-        .long("config")
-        .value_name("FILE")
-        .action(ArgAction::Set)
         .help("The configuration file that the cases are read with [default: no file]")
 }
 
@@ -35,10 +43,8 @@ fn variable_word<'a>(alloc: Global) -> Arg<'a>
     ensures rule { rule_of result ≡ variable_rule }
     ensures own { result.global ≡ false }
 {
-    Arg::new(alloc, "variables")
+    option_word(alloc, "variables", "variable", "NAME=VALUE")
         .short('v')
-        .long("variable")
-        .value_name("NAME=VALUE")
         .action(ArgAction::Append)
         .help("Sets a variable, after those of the configuration file; may be repeated")
 }
@@ -47,12 +53,9 @@ fn kyuafile_word<'a>(alloc: Global) -> Arg<'a>
     ensures rule { rule_of result ≡ kyuafile_rule }
     ensures own { result.global ≡ false }
 {
-    Arg::new(alloc, "kyuafile")
+    option_word(alloc, "kyuafile", "kyuafile", "FILE")
         .short('k')
-        .long("kyuafile")
-        .value_name("FILE")
         .default_value(KYUAFILE)
-        .action(ArgAction::Set)
         .help("The Kyuafile to read")
 }
 
@@ -60,11 +63,8 @@ fn work_word<'a>(alloc: Global) -> Arg<'a>
     ensures rule { rule_of result ≡ work_rule }
     ensures own { result.global ≡ false }
 {
-    Arg::new(alloc, "work")
-        .long("work")
-        .value_name("DIR")
+    option_word(alloc, "work", "work", "DIR")
         .default_value(WORK)
-        .action(ArgAction::Set)
         .help("The absolute path of a directory to make work directories in")
 }
 
@@ -72,12 +72,9 @@ fn results_word<'a>(alloc: Global) -> Arg<'a>
     ensures rule { rule_of result ≡ results_rule }
     ensures own { result.global ≡ false }
 {
-    Arg::new(alloc, "results")
+    option_word(alloc, "results", "results-file", "FILE")
         .short('r')
-        .long("results-file")
-        .value_name("FILE")
         .default_value(RESULTS)
-        .action(ArgAction::Set)
         .help("The file of the results")
 }
 
@@ -107,24 +104,18 @@ fn run_word<'a>(alloc: Global) -> Arg<'a>
     ensures rule { rule_of result ≡ run_rule }
     ensures own { result.global ≡ false }
 {
-    Arg::new(alloc, "run")
-        .long("run")
-        .value_name("N")
-        .action(ArgAction::Set)
-        .help("The number of the run, 1 to 1000000 [default: the last one]")
+    option_word(alloc, "run", "run", "N").help(
+        "The number of the run, 1 to 1000000 [default: the last one]",
+    )
 }
 
 fn kinds_word<'a>(alloc: Global) -> Arg<'a>
     ensures rule { rule_of result ≡ kinds_rule }
     ensures own { result.global ≡ false }
 {
-    Arg::new(alloc, "kinds")
-        .long("results-filter")
-        .value_name("K,..")
-        .action(ArgAction::Set)
-        .help(
-            "The results to show: passed, skipped, xfail, broken, failed [default: all but passed]",
-        )
+    option_word(alloc, "kinds", "results-filter", "K,..").help(
+        "The results to show: passed, skipped, xfail, broken, failed [default: all but passed]",
+    )
 }
 
 fn verbose_word<'a>(alloc: Global) -> Arg<'a>
@@ -137,93 +128,110 @@ fn verbose_word<'a>(alloc: Global) -> Arg<'a>
         .help("Shows the properties of each case beneath its line, defaults included")
 }
 
-/// A command, whose help ends with where the options stand that it doesn't name itself.
-fn command_words<'a>(alloc: Global, name: &'a str, about: &'a str) -> clap::Command<'a>
-    ensures app { app_of result ≡ new_app name.entry.now }
-    ensures own { (fields_of result).has_globals ≡ false }
+/// What is said of a command line so far, unless memory ran out.
+type Line<'a> = Result<clap::Command<'a>, NoMemory>;
+
+/// A command line with one more option, which is its own alone.
+fn with_option<'a>(line: Line<'a>, option: Arg<'a>) -> Line<'a>
+    requires { option.global ≡ false }
+    ensures app { (app : App) → (rule : Rule) → rule_of option.entry ≡ rule
+        → IfOk line.entry (λ c. app_of c ≡ app) → IfOk result (λ c. app_of c ≡ with_rule app rule) }
+    ensures own { IfOk line.entry (λ c. (fields_of c).has_globals ≡ false)
+        → IfOk result (λ c. (fields_of c).has_globals ≡ false) }
 {
-    clap::Command::new(alloc, name)
-        .about(about)
-        .after_help(BEFORE)
+    Ok(line?.arg(option)?)
+}
+
+/// A command line with one more command, whose options are its own alone.
+fn with_command<'a>(line: Line<'a>, command: Line<'a>) -> Line<'a>
+    requires { IfOk command (λ c. (fields_of c).has_globals ≡ false) }
+    ensures app { (app : App) → (sub : App) → IfOk command.entry (λ c. app_of c ≡ sub)
+        → IfOk line.entry (λ c. app_of c ≡ app) → IfOk result (λ c. app_of c ≡ with_subcommand app sub.top) }
+    ensures own { IfOk line.entry (λ c. (fields_of c).has_globals ≡ false)
+        → IfOk result (λ c. (fields_of c).has_globals ≡ false) }
+{
+    Ok(line?.subcommand(command?)?)
+}
+
+/// A command, whose help ends with where the options stand that it doesn't name itself.
+fn command_words<'a>(alloc: Global, name: &'a str, about: &'a str) -> Line<'a>
+    ensures app { IfOk result (λ c. app_of c ≡ new_app name.entry.now) }
+    ensures own { IfOk result (λ c. (fields_of c).has_globals ≡ false) }
+{
+    Ok(
+        clap::Command::new(alloc, name)
+            .about(about)
+            .after_help(BEFORE),
+    )
 }
 
 /// `list [-k FILE] [--work=DIR] [FILTER..]`, as kyua-list(1) has it but for `--work`.
-fn list_words<'a>(alloc: Global) -> Result<clap::Command<'a>, NoMemory>
+fn list_words<'a>(alloc: Global) -> Line<'a>
     ensures app { IfOk result (λ c. app_of c ≡ list_app) }
     ensures own { IfOk result (λ c. (fields_of c).has_globals ≡ false) }
 {
-    Ok(
-        command_words(alloc, "list", "Lists test cases")
-            .arg(kyuafile_word(alloc))?
-            .arg(work_word(alloc))?
-            .arg(filters_word(alloc))?,
-    )
+    let line = command_words(alloc, "list", "Lists test cases");
+    let line = with_option(line, kyuafile_word(alloc));
+    let line = with_option(line, work_word(alloc));
+    with_option(line, filters_word(alloc))
 }
 
 /// `test [-k FILE] [-r FILE] [--work=DIR] [FILTER..]`, as kyua-test(1) has it but for `--work`.
-fn test_words<'a>(alloc: Global) -> Result<clap::Command<'a>, NoMemory>
+fn test_words<'a>(alloc: Global) -> Line<'a>
     ensures app { IfOk result (λ c. app_of c ≡ test_app) }
     ensures own { IfOk result (λ c. (fields_of c).has_globals ≡ false) }
 {
-    Ok(
-        command_words(alloc, "test", "Runs test cases and records their results")
-            .arg(kyuafile_word(alloc))?
-            .arg(results_word(alloc))?
-            .arg(work_word(alloc))?
-            .arg(filters_word(alloc))?,
-    )
+    let line = command_words(alloc, "test", "Runs test cases and records their results");
+    let line = with_option(line, kyuafile_word(alloc));
+    let line = with_option(line, results_word(alloc));
+    let line = with_option(line, work_word(alloc));
+    with_option(line, filters_word(alloc))
 }
 
 /// `debug [-k FILE] [--work=DIR] PROGRAM:CASE`, as kyua-debug(1) has it but for `--work`.
-fn debug_words<'a>(alloc: Global) -> Result<clap::Command<'a>, NoMemory>
+fn debug_words<'a>(alloc: Global) -> Line<'a>
     ensures app { IfOk result (λ c. app_of c ≡ debug_app) }
     ensures own { IfOk result (λ c. (fields_of c).has_globals ≡ false) }
 {
-    Ok(
-        command_words(
-            alloc,
-            "debug",
-            "Runs one test case and shows what it writes",
-        )
-        .arg(kyuafile_word(alloc))?
-        .arg(work_word(alloc))?
-        .arg(case_word(alloc))?,
-    )
+    let line = command_words(
+        alloc,
+        "debug",
+        "Runs one test case and shows what it writes",
+    );
+    let line = with_option(line, kyuafile_word(alloc));
+    let line = with_option(line, work_word(alloc));
+    with_option(line, case_word(alloc))
 }
 
 /// `report [-r FILE] [--run=N] [--results-filter=K,..] [--verbose]`, as kyua-report(1) has it but for `--run`.
-fn report_words<'a>(alloc: Global) -> Result<clap::Command<'a>, NoMemory>
+fn report_words<'a>(alloc: Global) -> Line<'a>
     ensures app { IfOk result (λ c. app_of c ≡ report_app) }
     ensures own { IfOk result (λ c. (fields_of c).has_globals ≡ false) }
 {
-    Ok(
-        command_words(alloc, "report", "Shows a recorded run as text")
-            .arg(results_word(alloc))?
-            .arg(run_word(alloc))?
-            .arg(kinds_word(alloc))?
-            .arg(verbose_word(alloc))?,
-    )
+    let line = command_words(alloc, "report", "Shows a recorded run as text");
+    let line = with_option(line, results_word(alloc));
+    let line = with_option(line, run_word(alloc));
+    let line = with_option(line, kinds_word(alloc));
+    with_option(line, verbose_word(alloc))
 }
 
 /// `report-junit [-r FILE] [--run=N]`, as kyua-report-junit(1) has it but for `--run`.
-fn junit_words<'a>(alloc: Global) -> Result<clap::Command<'a>, NoMemory>
+fn junit_words<'a>(alloc: Global) -> Line<'a>
     ensures app { IfOk result (λ c. app_of c ≡ junit_app) }
     ensures own { IfOk result (λ c. (fields_of c).has_globals ≡ false) }
 {
-    Ok(
-        command_words(
-            alloc,
-            "report-junit",
-            "Shows a recorded run as a JUnit report",
-        )
-        .arg(results_word(alloc))?
-        .arg(run_word(alloc))?,
-    )
+    let line = command_words(
+        alloc,
+        "report-junit",
+        "Shows a recorded run as a JUnit report",
+    );
+    let line = with_option(line, results_word(alloc));
+    with_option(line, run_word(alloc))
 }
 
-/// The whole command line, without the program's own name.
-pub fn all_words<'a>(alloc: Global) -> Result<clap::Command<'a>, NoMemory>
-    ensures app { IfOk result (λ c. app_of c ≡ kyua_app) }
+/// The program, whose words hold no name of its own and name one of its commands.
+fn program_words<'a>(alloc: Global) -> Line<'a>
+    ensures app { IfOk result (λ c. app_of c ≡ bare_app) }
     ensures own { IfOk result (λ c. (fields_of c).has_globals ≡ false) }
 {
     Ok(
@@ -232,13 +240,20 @@ pub fn all_words<'a>(alloc: Global) -> Result<clap::Command<'a>, NoMemory>
             .bin_name("kyua")?
             .no_binary_name(true)
             .subcommand_required(true)
-            .disable_help_subcommand(true)
-            .arg(config_word(alloc))?
-            .arg(variable_word(alloc))?
-            .subcommand(list_words(alloc)?)?
-            .subcommand(test_words(alloc)?)?
-            .subcommand(debug_words(alloc)?)?
-            .subcommand(report_words(alloc)?)?
-            .subcommand(junit_words(alloc)?)?,
+            .disable_help_subcommand(true),
     )
+}
+
+/// The whole command line, without the program's own name.
+pub fn all_words<'a>(alloc: Global) -> Result<clap::Command<'a>, NoMemory>
+    ensures app { IfOk result (λ c. app_of c ≡ kyua_app) }
+    ensures own { IfOk result (λ c. (fields_of c).has_globals ≡ false) }
+{
+    let line = with_option(program_words(alloc), config_word(alloc));
+    let line = with_option(line, variable_word(alloc));
+    let line = with_command(line, list_words(alloc));
+    let line = with_command(line, test_words(alloc));
+    let line = with_command(line, debug_words(alloc));
+    let line = with_command(line, report_words(alloc));
+    with_command(line, junit_words(alloc))
 }

@@ -1,4 +1,4 @@
-ghost use Rattle.std.specs.Prelude.{◌≡◌, ◌≤◌, drop, map, chars, codes, option_map, IfOk, IfErr, IfSome, IsErrAnd};
+ghost use Rattle.std.specs.Prelude.{◌≡◌, ◌≤◌, drop, map, chars, codes, option_map, Ok, IfOk, IfErr, IfSome, IsErrAnd};
 ghost use Rattle.kt_words.specs.Common.{string_bytes, into_iter_items, all_of, first_of, found_of, rows_of, subcommand_rows_of, error_kind, OutOfMemory, last_run, HasRunNumber, Reads, RefusesWords, command_in, command_named, is_true, junit_in, kinds_of, options_in, report_in, report_options, results_in, run_of, text_given, text_or, texts_given, Answers, ReadsRun, ReadsShown};
 ghost use Rattle.kt_words.specs.declared.command.Command.TheVariants as command;
 
@@ -158,9 +158,10 @@ fn read_list<'a>(
     alloc: Global,
     before: &ArgMatches<'a>,
     own: &ArgMatches<'a>,
-) -> Result<Command, NoMemory>
-    ensures { IfOk result (λ read. read
-        ≡ command.List (options_in (rows_of (found_of before.now)) (rows_of (found_of own.now)))) }
+) -> Result<Command, CommandFault>
+    ensures value { Answers (Ok (command.List
+        (options_in (rows_of (found_of before.now)) (rows_of (found_of own.now))))) result }
+    ensures range { IfOk result HasRunNumber }
 {
     let options = case_options(alloc, before, own)?;
     Ok(Command::List(options))
@@ -170,10 +171,11 @@ fn read_test<'a>(
     alloc: Global,
     before: &ArgMatches<'a>,
     own: &ArgMatches<'a>,
-) -> Result<Command, NoMemory>
-    ensures { IfOk result (λ read. read
-        ≡ command.Test (options_in (rows_of (found_of before.now)) (rows_of (found_of own.now)))
-        (results_in (rows_of (found_of own.now)))) }
+) -> Result<Command, CommandFault>
+    ensures value { Answers (Ok (command.Test
+        (options_in (rows_of (found_of before.now)) (rows_of (found_of own.now)))
+        (results_in (rows_of (found_of own.now))))) result }
+    ensures range { IfOk result HasRunNumber }
 {
     let options = case_options(alloc, before, own)?;
     let results = results_of(alloc, own)?;
@@ -184,9 +186,10 @@ fn read_debug<'a>(
     alloc: Global,
     before: &ArgMatches<'a>,
     own: &ArgMatches<'a>,
-) -> Result<Command, NoMemory>
-    ensures { IfOk result (λ read. read
-        ≡ command.Debug (options_in (rows_of (found_of before.now)) (rows_of (found_of own.now)))) }
+) -> Result<Command, CommandFault>
+    ensures value { Answers (Ok (command.Debug
+        (options_in (rows_of (found_of before.now)) (rows_of (found_of own.now))))) result }
+    ensures range { IfOk result HasRunNumber }
 {
     let options = case_options(alloc, before, own)?;
     Ok(Command::Debug(options))
@@ -258,13 +261,13 @@ fn read_named<'a>(
     ensures range { IfOk result HasRunNumber }
 {
     if name == "list" {
-        return Ok(read_list(alloc, before, own)?);
+        return read_list(alloc, before, own);
     }
     if name == "test" {
-        return Ok(read_test(alloc, before, own)?);
+        return read_test(alloc, before, own);
     }
     if name == "debug" {
-        return Ok(read_debug(alloc, before, own)?);
+        return read_debug(alloc, before, own);
     }
     if name == "report" {
         return read_report(alloc, before, own);
