@@ -1,5 +1,4 @@
 pub mod Common
-pub mod ChildrenTold
 pub mod ChosenRuns
 pub mod DebugRuns
 pub mod Gainings

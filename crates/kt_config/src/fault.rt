@@ -3,11 +3,11 @@ ghost use Rattle.kt_config.specs.declared.fault.ConfigFault.TheVariants as fault
 
 use kt_base::NoMemory;
 use kt_script::ScriptFault;
-use thiserror::Error;
+use std::error::Error;
+use std::fmt;
 
 /// Why a configuration file, or one variable, was refused.
-#[derive(Clone, Copy, Debug, Error)]
-#[error("{}", self.words())]
+#[derive(Clone, Copy, Debug)]
 pub enum ConfigFault {
     NoMemory(NoMemory),
     /// No variable has this name.
@@ -39,6 +39,14 @@ impl ConfigFault {
         }
     }
 }
+
+impl fmt::Display for ConfigFault {
+    fn fmt<W: fmt::Write>(&self, f: &mut fmt::Formatter<W>) -> fmt::Result {
+        f.write_str(self.words())
+    }
+}
+
+impl Error for ConfigFault {}
 
 impl From<NoMemory> for ConfigFault {
     ghost from_gives = { λ refusal e. e ≡ fault.NoMemory refusal };

@@ -2,20 +2,30 @@ ghost use Rattle.std.specs.Prelude.{◌≡◌};
 ghost use Rattle.kt_metadata.specs.declared.fault.PropFault.TheVariants as prop;
 
 use kt_base::NoMemory;
-use thiserror::Error;
+use std::error::Error;
+use std::fmt;
 
 /// Why a property was refused. `Display` is the text of the fault's line (this profile).
-#[derive(Clone, Copy, Debug, Error)]
+#[derive(Clone, Copy, Debug)]
 pub enum PropFault {
-    #[error("out of memory")]
     NoMemory(NoMemory),
     /// No property has this name.
-    #[error("unknown property")]
     UnknownProperty,
     /// The text isn't a value of the property.
-    #[error("bad value")]
     BadValue,
 }
+
+impl fmt::Display for PropFault {
+    fn fmt<W: fmt::Write>(&self, f: &mut fmt::Formatter<W>) -> fmt::Result {
+        f.write_str(match self {
+            PropFault::NoMemory(_) => "out of memory",
+            PropFault::UnknownProperty => "unknown property",
+            PropFault::BadValue => "bad value",
+        })
+    }
+}
+
+impl Error for PropFault {}
 
 impl From<NoMemory> for PropFault {
     ghost from_gives = { λ error fault. fault ≡ prop.NoMemory error };

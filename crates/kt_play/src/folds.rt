@@ -1,4 +1,4 @@
-use crate::Answer;
+use kt_answers::Answer;
 
 /// How many lines a block has at the most that is folded.
 const LONGEST: usize = 12;

@@ -1,4 +1,4 @@
-use crate::Answer;
+use kt_answers::Answer;
 use kt_base::{NoMemory, Text};
 use kt_child::DriverFault;
 use kt_cli::{Platform, Surroundings};

@@ -2,17 +2,27 @@ ghost use Rattle.std.specs.Prelude.{◌≡◌};
 ghost use Rattle.kt_report.specs.declared.report_fault.ReportFault.TheVariants as fault;
 
 use kt_base::{NoMemory, OutputFault};
-use thiserror::Error;
+use std::error::Error;
+use std::fmt;
 
 /// Why a report ends early. A proper prefix of its text was written. A report can't give up on its
 /// own: each fault holds what it was made from, a refusal of memory or a failed write.
-#[derive(Clone, Copy, Debug, Error)]
+#[derive(Clone, Copy, Debug)]
 pub enum ReportFault {
-    #[error("out of memory")]
     NoMemory(NoMemory),
-    #[error("output could not be written")]
     Output(OutputFault),
 }
+
+impl fmt::Display for ReportFault {
+    fn fmt<W: fmt::Write>(&self, f: &mut fmt::Formatter<W>) -> fmt::Result {
+        f.write_str(match self {
+            ReportFault::NoMemory(_) => "out of memory",
+            ReportFault::Output(_) => "output could not be written",
+        })
+    }
+}
+
+impl Error for ReportFault {}
 
 impl From<NoMemory> for ReportFault {
     ghost from_gives = { λ refusal e. e ≡ fault.NoMemory refusal };

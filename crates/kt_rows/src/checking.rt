@@ -1,6 +1,5 @@
 use crate::answer;
-use crate::row::{Result, Row, RowFault, asked, both};
-use crate::row_file::read_rows;
+use kt_answers::{Result, Row, RowFault, asked, both, read_rows};
 use std::alloc::Global;
 use std::fs::File;
 use std::io::Eprint;

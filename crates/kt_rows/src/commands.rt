@@ -1,19 +1,16 @@
 //! Command lines over a platform, a machine and a system that answer as the row says.
 
 use crate::disk_tests;
-use crate::entries::content_at;
-use crate::escapes::lossy_of;
-use crate::numbers::number;
 use crate::played::Played;
 use crate::printing::push_pieces;
-use crate::row::{Result, Row, RowFault, halves};
 use crate::scenes::{failure, scene_of, shortage};
 use crate::store_calls::{push_call, push_runs};
 use crate::systems::push_calls;
+use kt_answers::{Answer, Result, Row, RowFault, content_at, halves, lossy_of, number};
 use kt_base::Text;
 use kt_child::DriverFault;
 use kt_cli::{MemRuns, source_of};
-use kt_play::{Answer, RefusingStore, Scene, ScriptedPlatform};
+use kt_play::{RefusingStore, Scene, ScriptedPlatform};
 use kt_store::StoreFault;
 use std::alloc::Global;
 

@@ -2,10 +2,9 @@
 
 use crate::disks::{filled, fused, is_cut, left_by, open};
 use crate::played::Played;
-use crate::printing::page_text;
-use crate::row::{Result, Row, RowFault, due};
 use crate::scenes::scene_of;
-use kt_play::{Answer, Scene, ScriptedPlatform};
+use kt_answers::{Answer, Result, Row, RowFault, due};
+use kt_play::{Scene, ScriptedPlatform};
 use kt_store::{ResultStore, Results, StoreFault};
 use sqlite::{Alter, Connection};
 use sqlite_disk::{Crash, Files, Memory};
@@ -143,7 +142,7 @@ impl Trial<'_> {
         played.play(self.row.entries.as_slice(), self.scene)?;
         let status = *due(played.exits.last(), "there is no command")?;
         let tested = Tested {
-            page: page_text(self.scene.alloc, &played.page)?,
+            page: played.page.text(self.scene.alloc)?,
             status,
             spawned: played.log.so_far()?.contains("spawn "),
         };

@@ -2,11 +2,9 @@
 
 ghost use Rattle.std.specs.Prelude.{◌≡◌, false, IfSome};
 
-use crate::entries::push_entries;
-use crate::row::{Result, RowFault, asked, push_made};
 use crate::store_calls::state_text;
+use kt_answers::{Answer, Result, RowFault, asked, push_entries, push_made};
 use kt_base::Entry;
-use kt_play::Answer;
 use kt_store::{ResultStore, Results, RunHead, entries};
 use sqlite::{Alter, Connection, FileStore, Options};
 use sqlite_disk::{Crash, Disk, Files, Fuse};

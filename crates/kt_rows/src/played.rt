@@ -1,18 +1,17 @@
 //! Command lines, each carried out as a process of its own carries it out, over a scripted platform, machine and system.
 
 use crate::printing::push_page;
-use crate::row::{Entry, Result, due};
 use crate::scenes::shortage;
 use crate::words::read_line;
+use kt_answers::{Answer, Line, Result, ScriptedWriter, due};
 use kt_cli::{LineOutput, Outside, carry_out};
-use kt_play::{Answer, Scene, ScriptedMachine, ScriptedPlatform, ScriptedSystem, ScriptedWriter};
+use kt_play::{Scene, ScriptedMachine, ScriptedPlatform, ScriptedSystem};
 use kt_store::ResultStore;
 use kt_words::{Command, CommandFault};
 use std::alloc::Global;
 use std::io::Write;
 
 /// What command lines leave.
-#[derive(Drop)]
 pub struct Played<R: ResultStore + Drop> {
     pub platform: ScriptedPlatform<R>,
     /// Standard output and standard error.
@@ -21,6 +20,18 @@ pub struct Played<R: ResultStore + Drop> {
     pub exits: Vec<u8>,
     /// The calls of their systems.
     pub log: Answer,
+}
+
+impl<R: ResultStore + Drop> Drop for Played<R> {
+    fn drop(self) {
+        let Played {
+            platform: _,
+            page: _,
+            errors: _,
+            exits: _,
+            log: _,
+        } = self;
+    }
 }
 
 /// Carries out a command line: returns its exit status and the machine as it is left, and appends the calls of its
@@ -69,7 +80,7 @@ impl<R: ResultStore + Drop> Played<R> {
     }
 
     /// Carries out the command lines among these: `do WORDS` or `line WORDS`, or `words no-memory` for none.
-    pub fn play(&mut self, lines: &[Entry<'_>], scene: &Scene) -> Result<()> {
+    pub fn play(&mut self, lines: &[Line<'_>], scene: &Scene) -> Result<()> {
         let alloc = self.log.alloc;
         let mut machine = ScriptedMachine::new(scene);
         for line in lines {
@@ -99,8 +110,7 @@ impl<R: ResultStore + Drop> Played<R> {
     }
 
     /// The results as they were closed last.
-    pub fn into_results(self) -> Result<R> {
-        let platform = self.platform;
-        due(platform.results, "there is no store")
+    pub fn into_results(mut self) -> Result<R> {
+        due(self.platform.results.take(), "there is no store")
     }
 }

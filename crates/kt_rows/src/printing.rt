@@ -1,8 +1,6 @@
-use crate::escapes::unescaped;
-use crate::row::{Result, Row, asked, push_made};
+use kt_answers::{Answer, Result, Row, ScriptedWriter, WriteFault, asked, push_made, unescaped};
 use kt_base::{NoMemory, emit};
 use kt_cli::LineOutput;
-use kt_play::{Answer, ScriptedWriter, WriteFault};
 use std::alloc::Global;
 use std::io::Write;
 
@@ -111,11 +109,6 @@ pub fn push_pieces(out: &mut Answer, row: &Row<'_>) -> Result<()> {
     print(&pieces, &mut lines, false);
     out.bytes(page.kept()?);
     Ok(())
-}
-
-/// The text that was written on a page.
-pub fn page_text(alloc: Global, page: &ScriptedWriter) -> Result<String> {
-    asked(String::from_utf8_lossy(alloc, page.kept()?))
 }
 
 /// Appends what was written on a page. One that doesn't end in a newline was cut.

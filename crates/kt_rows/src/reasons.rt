@@ -1,10 +1,9 @@
-use crate::entries::kind_of;
-use crate::escapes::unescaped;
 use crate::printing::{push_printed, writer};
-use crate::row::{Entry, Result, Row, RowFault};
-use crate::verdicts::push_reason;
+use kt_answers::{
+    Answer, Line, Result, Row, RowFault, ScriptedWriter, WriteFault, kind_of, push_reason,
+    unescaped,
+};
 use kt_base::{Bytes, NoMemory, Reason, Text, Verdict, emit_number, emit_wide_number, lossy, send};
-use kt_play::{Answer, ScriptedWriter, WriteFault};
 use std::alloc::Global;
 
 fn push_kind(out: &mut Answer, word: &str) -> Result<()> {
@@ -69,7 +68,7 @@ fn push_told(out: &mut Answer, row: &Row<'_>, word: &str, bytes: Vec<u8>) -> Res
 /// The text of a reason, of a kind, of a number or of bytes: `kind WORD`, `number N`, `words TEXT` or `nothing`, `bytes
 /// TEXT`, `send TEXT` or `emit TEXT`.
 pub fn answer(out: &mut Answer, row: &Row<'_>) -> Result<()> {
-    let Entry { word, text } = row.first()?;
+    let Line { word, text } = row.first()?;
     match word {
         "kind" => push_kind(out, text),
         "number" => push_number(out, text),

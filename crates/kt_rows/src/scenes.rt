@@ -1,10 +1,9 @@
 //! The scripted machine, system and store of a row.
 
-use crate::case_lists::HEADER;
-use crate::escapes::text_of;
-use crate::numbers::{count, numbers};
-use crate::row::{Entry, Result, Row, RowFault, append, asked, both, due, halves, push_made};
-use crate::verdicts::ending_of;
+use kt_answers::{
+    HEADER, Line, Result, Row, RowFault, append, asked, both, count, due, ending_of, halves,
+    numbers_of, push_made, text_of,
+};
 use kt_base::{NoMemory, Outcome, Text};
 use kt_child::Polled;
 use kt_play::{Holding, Life, PartFault, Scene, ask_too_much, failed_statement};
@@ -55,7 +54,7 @@ fn take_line(scene: &mut Scene, raw: &str) -> Result<()> {
 }
 
 /// Adds a path behind its word.
-fn take_path(scene: &mut Scene, line: &Entry<'_>) -> Result<()> {
+fn take_path(scene: &mut Scene, line: &Line<'_>) -> Result<()> {
     let word = asked(String::from_str(scene.alloc, line.word));
     let path = text_of(scene.alloc, line.text).map(Text::into_string);
     push_made(&mut scene.paths, both(word, path))
@@ -68,7 +67,7 @@ pub fn failing_of(text: &str) -> Result<(u32, u32)> {
 }
 
 /// Takes a line that says something of the machine or the system.
-fn take(scene: &mut Scene, line: &Entry<'_>) -> Result<()> {
+fn take(scene: &mut Scene, line: &Line<'_>) -> Result<()> {
     let (alloc, text) = (scene.alloc, line.text);
     let (path, rest) = text.split_once(' ').unwrap_or((text, ""));
     match line.word {
@@ -81,12 +80,12 @@ fn take(scene: &mut Scene, line: &Entry<'_>) -> Result<()> {
         "program" | "locked" | "dear" | "found-file" | "found-program" => {
             return take_path(scene, line);
         }
-        "clock" => scene.moments = numbers(alloc, text)?,
+        "clock" => scene.moments = numbers_of(alloc, text)?,
         "moments" => {
-            scene.moments = numbers(alloc, text)?;
+            scene.moments = numbers_of(alloc, text)?;
             scene.step = 0;
         }
-        "now" => scene.clock = numbers(alloc, text)?,
+        "now" => scene.clock = numbers_of(alloc, text)?,
         "fails" => scene.failing = failing_of(text)?,
         "refuses" => {
             scene.failing = failing_of(text)?;

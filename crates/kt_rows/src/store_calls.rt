@@ -1,10 +1,9 @@
 //! Calls on a store of runs, and what they answer.
 
-use crate::entries::{push_entries, storable_entry};
-use crate::numbers::{count, number};
-use crate::row::{Entry as Line, Result, RowFault, number_in};
+use kt_answers::{
+    Answer, Line, Result, RowFault, count, number, number_in, push_entries, retried, storable_entry,
+};
 use kt_base::LATEST_MOMENT;
-use kt_play::{Answer, retried};
 use kt_store::{ResultStore, RunHead, StoreFault, entries};
 
 /// Appends whether a call was done.

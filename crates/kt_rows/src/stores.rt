@@ -1,9 +1,8 @@
-use crate::entries::{content_at, is_content};
 use crate::played::Played;
-use crate::row::{Entry, Result, Row, RowFault};
 use crate::store_calls::push_call;
+use kt_answers::{Answer, Line, Result, Row, RowFault, content_at, is_content};
 use kt_cli::MemRuns;
-use kt_play::{Answer, Scene, ScriptedPlatform};
+use kt_play::{Scene, ScriptedPlatform};
 use kt_store::{ResultStore, Results};
 use sqlite::{Alter, Connection};
 
@@ -45,8 +44,8 @@ fn attach<S: Alter + Drop>(out: &mut Answer, connection: Connection<S>) -> Resul
 fn ask<R: ResultStore + Drop>(
     out: &mut Answer,
     mut results: R,
-    line: &Entry<'_>,
-    content: &[Entry<'_>],
+    line: &Line<'_>,
+    content: &[Line<'_>],
 ) -> Result<R> {
     if line.word != "do" {
         push_call(out, &mut results, line, content)?;
@@ -62,8 +61,8 @@ fn ask<R: ResultStore + Drop>(
 fn step<S: Alter + Drop>(
     out: &mut Answer,
     store: Store<S>,
-    line: &Entry<'_>,
-    content: &[Entry<'_>],
+    line: &Line<'_>,
+    content: &[Line<'_>],
 ) -> Result<Store<S>> {
     out.separate("\n");
     match line.word {
@@ -88,7 +87,7 @@ fn step<S: Alter + Drop>(
 /// The answers to the lines of a row over a database.
 fn over<S: Alter + Drop>(
     out: &mut Answer,
-    lines: &[Entry<'_>],
+    lines: &[Line<'_>],
     connection: Connection<S>,
 ) -> Result<()> {
     let mut store = Store::Open(connection);

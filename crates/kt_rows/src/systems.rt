@@ -2,18 +2,17 @@
 
 ghost use Rattle.kt_sched.specs.Plan.{IsPlan, IsWidth};
 
-use crate::entries::push_entries;
-use crate::escapes::unescaped;
-use crate::numbers::{limit_of, number};
-use crate::row::{Result, Row, RowFault, both, pairs_of};
 use crate::scenes::{failing_of, scene_of};
 use crate::schedules::width_of;
-use crate::verdicts::push_verdict;
+use kt_answers::{
+    Answer, Result, Row, RowFault, both, limit_of, number, pairs_of, push_entries, push_verdict,
+    unescaped,
+};
 use kt_atflist::{ListBytes, Listing};
 use kt_base::{Entry, Interface, Items, Kind, Text, Variables};
 use kt_child::{Driver, DriverFault, FileRead, Os, read_front, read_start, run_driver};
 use kt_metadata::Props;
-use kt_play::{Answer, EndlessReader, MemorySink, Scene, ScriptedSystem, plan_of, push_folded};
+use kt_play::{EndlessReader, MemorySink, Scene, ScriptedSystem, plan_of, push_folded};
 use kt_sched::{Job, RunFault, SinkFault};
 use kt_suite::Program;
 use std::alloc::Global;

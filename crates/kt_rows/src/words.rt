@@ -1,9 +1,6 @@
-use crate::escapes::text_of;
-use crate::numbers::number;
-use crate::row::{Result, Row, asked, due, halves, push_made};
+use kt_answers::{Answer, Result, Row, asked, due, halves, number, push_made, text_of};
 use kt_base::Text;
 use kt_plan::CaseOptions;
-use kt_play::Answer;
 use kt_words::{Command, CommandFault, ReportOptions, read_command};
 use std::alloc::Global;
 use std::slice;

@@ -1,14 +1,24 @@
 use kt_base::Entry;
-use thiserror::Error;
+use std::error::Error;
+use std::fmt;
 
 /// Why an entry was not put.
-#[derive(Clone, Copy, Debug, Error)]
+#[derive(Clone, Copy, Debug)]
 pub enum SinkFault {
-    #[error("out of memory")]
     Memory,
-    #[error("results store failed")]
     Other,
 }
+
+impl fmt::Display for SinkFault {
+    fn fmt<W: fmt::Write>(&self, f: &mut fmt::Formatter<W>) -> fmt::Result {
+        f.write_str(match self {
+            SinkFault::Memory => "out of memory",
+            SinkFault::Other => "results store failed",
+        })
+    }
+}
+
+impl Error for SinkFault {}
 
 /// Takes the entries, in the order in which they are recorded. How a sink keeps them is its own affair. A failed put
 /// leaves those that were put before.

@@ -7,7 +7,8 @@ ghost use Rattle.kt_words.specs.declared.command_fault.CommandFault.TheVariants 
 use clap::error::ErrorKind;
 use kt_base::{NoMemory, Text};
 use std::alloc::Global;
-use thiserror::Error;
+use std::error::Error;
+use std::fmt;
 
 /// Memory ran out while words were read. Only a refusal of the allocator, or of `clap`, makes this value.
 #[derive(Clone, Copy, Debug)]
@@ -20,20 +21,29 @@ pub struct Shortage {
 struct Refusal;
 
 /// Why a command line was refused. `Display` is the text of the fault line (this profile), or what `clap` says.
-#[derive(Debug, Drop, Error)]
+#[derive(Debug, Drop)]
 pub enum CommandFault {
-    #[error("out of memory")]
     NoMemory(Shortage),
     /// The words are no command; this is what `clap` says of them, or the help that was asked for.
-    #[error("{}", .0.as_str())]
     Usage(Text),
     /// A word of a results filter is none of `passed`, `skipped`, `xfail`, `broken` and `failed`.
-    #[error("bad results filter")]
     BadKind,
     /// The number of a run isn't decimal digits, 1 to 1,000,000.
-    #[error("bad run number")]
     BadRun,
 }
+
+impl fmt::Display for CommandFault {
+    fn fmt<W: fmt::Write>(&self, f: &mut fmt::Formatter<W>) -> fmt::Result {
+        f.write_str(match self {
+            CommandFault::NoMemory(_) => "out of memory",
+            CommandFault::Usage(text) => text.as_str(),
+            CommandFault::BadKind => "bad results filter",
+            CommandFault::BadRun => "bad run number",
+        })
+    }
+}
+
+impl Error for CommandFault {}
 
 impl From<NoMemory> for CommandFault {
     ghost from_gives = { λ _ e. e ≡ fault.NoMemory (record { refusal = record {} }) };

@@ -12,17 +12,27 @@ use kt_base::{NoMemory, Refused, Role, Text};
 use kt_removal::numbered_path;
 use kt_sched::{Ended, Job, Launcher, StartAnswer};
 use std::alloc::Global;
-use thiserror::Error;
+use std::error::Error;
+use std::fmt;
 
 /// Why there is no driver. `Display` is the text of the fault line (this profile).
-#[derive(Clone, Copy, Debug, Error)]
+#[derive(Clone, Copy, Debug)]
 pub enum DriverFault {
-    #[error("out of memory")]
     NoMemory(NoMemory),
     /// None of the 1,000 root directories could be made.
-    #[error("no work directory")]
     NoWorkDirectory,
 }
+
+impl fmt::Display for DriverFault {
+    fn fmt<W: fmt::Write>(&self, f: &mut fmt::Formatter<W>) -> fmt::Result {
+        f.write_str(match self {
+            DriverFault::NoMemory(_) => "out of memory",
+            DriverFault::NoWorkDirectory => "no work directory",
+        })
+    }
+}
+
+impl Error for DriverFault {}
 
 impl From<NoMemory> for DriverFault {
     ghost from_gives = { λ refusal e. e ≡ fault.NoMemory refusal };

@@ -1,8 +1,28 @@
-use Rattle.std.proofs.Common.{refl}
-use Rattle.kt_cli.proofs.Common.{HostWorld}
-use Rattle.kt_cli.proofs.ChildrenTold.{courses_are_told}
+use Rattle.std.proofs.Common.{◌≡◌, ◌∙◌, List, [], ◌∷◌, ap, subst, refl}
+use Rattle.kt_cli.proofs.Common.{Chain, ChildrenState, idle_state, Question, OfTree, OfHost, leads_by, HostWorld, IsHostAnswer, IsLook, host_world, look_kept, running_kept, Course, Seen}
 use Rattle.kt_cli.proofs.Refusing.{none_asked}
+use Rattle.kt_child.specs.Driving.Board.{board_of}
+use Rattle.kt_child.specs.Driving.Runs.{RunsFrom}
+use Rattle.kt_child.proofs.TraceRuns.{ends_are_told}
+use Rattle.kt_child.specs.declared.system.os.Os as system
+use Rattle.kt_cli.specs.declared.host.machine.Machine as machine
 use Rattle.kt_cli.proofs.host.host_execution.execute_over_cases.Goals as goal
+
+module _ {M O : Type 0} (m : machine.Ghosts M) (o : system.Ghosts O) where
+  -- no question changes what runs
+  all_running_kept : (qs : List Question) (old new : HostWorld M O) → Chain (leads_by (IsLook m.answers) (IsHostAnswer m.answers o.leads)) old qs new → new.driver.running ≡ old.driver.running
+  all_running_kept [] old new h = ap (λ (w : HostWorld M O). w.driver.running) h
+  all_running_kept (OfTree asked ∷ qs) old new h = all_running_kept qs h.0 new h.2 ∙ look_kept m.answers old h.0 asked h.1
+  all_running_kept (OfHost told ∷ qs) old new h = all_running_kept qs h.0 new h.2 ∙ running_kept m.answers o.leads old h.0 told h.1
+
+  -- whatever was asked of a world whose driver had nothing running at first: its children tell each end of the trace
+  courses_are_told : (seen : Seen) (old new : HostWorld M O) (course : Course (host_world m o) seen old new) → old.driver.running ≡ idle_state
+      → RunsFrom o.leads seen.plan seen.trace (board_of idle_state course.begun.driver.next) course.begun.driver new.driver
+  courses_are_told seen old new course none =
+      let d = course.begun.driver in
+      let P : ChildrenState → Type 0 = λ b. RunsFrom o.leads seen.plan seen.trace (board_of b d.next) d new.driver in
+      subst P (all_running_kept seen.questions old course.begun course.asked ∙ none)
+      (ends_are_told o.leads (λ (w : HostWorld M O). w.driver) _ _ (λ d e job role answer h. h.0) (λ d e ended h. h.0) seen.plan seen.trace course.begun new course.ran)
 
 pub returns-in-Err-clause-refused : goal.returns-in-Err-clause-refused
 returns-in-Err-clause-refused g c = (none_asked g.O.Os c.args.outside.os _ _, refl)

@@ -19,7 +19,7 @@ pub fn set_number(place: &mut Option<u64>, text: &str) -> Result<()> {
 }
 
 /// Numbers with spaces between them.
-pub fn numbers(alloc: Global, text: &str) -> Result<Vec<u64>> {
+pub fn numbers_of(alloc: Global, text: &str) -> Result<Vec<u64>> {
     let mut numbers = Vec::new(alloc);
     for word in text.split_whitespace() {
         push_made(&mut numbers, number(word))?;

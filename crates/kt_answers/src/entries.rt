@@ -2,13 +2,11 @@
 
 ghost use Rattle.std.specs.Prelude.{◌≤◌, IfOk};
 
+use crate::answer::Answer;
 use crate::escapes::{lossy_of, unescaped};
-use crate::row::{
-    Entry as Line, Result, Row, RowFault, both, due, number_in, pairs_of, push_made, text_in,
-};
+use crate::row::{Line, Result, Row, RowFault, both, due, number_in, pairs_of, push_made, text_in};
 use crate::verdicts::push_verdict;
 use kt_base::{Bytes, Entry, Items, Kind, LATEST_MOMENT, Output, Run, Verdict};
-use kt_play::Answer;
 use std::alloc::Global;
 
 /// The bytes after a word among these lines; none if the word isn't there.

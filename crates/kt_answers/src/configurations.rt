@@ -1,8 +1,9 @@
+use crate::answer::Answer;
 use crate::escapes::text_of;
 use crate::numbers::append_numbered;
-use crate::row::{Entry, Result, Row, RowFault, both, halves, pair_of};
+use crate::retried;
+use crate::row::{Line, Result, Row, RowFault, both, halves, pair_of};
 use kt_config::{Config, ConfigFault};
-use kt_play::{Answer, retried};
 
 /// Appends the variables of a suite in their order, `a=1 b=2`, or how many they are.
 fn push_suite(out: &mut Answer, config: &Config, word: &str, suite: &str) -> Result<()> {
@@ -49,7 +50,7 @@ fn set(out: &mut Answer, config: &mut Config, text: &str) -> Result<()> {
 }
 
 /// Appends the answer to one line of a row.
-fn push_told(out: &mut Answer, config: &mut Config, line: &Entry<'_>) -> Result<()> {
+fn push_told(out: &mut Answer, config: &mut Config, line: &Line<'_>) -> Result<()> {
     out.separate("\n");
     match line.word {
         "set" => return set(out, config, line.text),

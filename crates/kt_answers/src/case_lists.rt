@@ -1,5 +1,6 @@
 //! Lists of cases, and what comes of asking a program for its list.
 
+use crate::answer::Answer;
 use crate::escapes::unescaped;
 use crate::numbers::append_numbered;
 use crate::properties::{push_props, set_known};
@@ -8,7 +9,6 @@ use crate::verdicts::{ending_of, push_reason, refused_of};
 use kt_atflist::{CaseDef, ListBytes, Listing, cases, parse_list};
 use kt_base::{Bytes, Interface, Items, Outcome, Verdict};
 use kt_metadata::Props;
-use kt_play::Answer;
 use std::alloc::Global;
 
 /// The header of a list of ATF cases, and an empty line.

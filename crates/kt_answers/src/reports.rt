@@ -1,8 +1,8 @@
+use crate::answer::Answer;
 use crate::entries::{kinds_of, run_of};
-use crate::printing::page_text;
 use crate::row::{Result, Row, RowFault};
+use crate::scripted_writer::ScriptedWriter;
 use kt_base::Run;
-use kt_play::{Answer, ScriptedWriter};
 use kt_report::ReportFault;
 use std::alloc::Global;
 
@@ -52,7 +52,7 @@ pub fn answer(out: &mut Answer, row: &Row<'_>) -> Result<()> {
         }
         _ => return Err(RowFault::Misspelled("no such report")),
     }
-    let text = page_text(out.alloc, &page)?;
+    let text = page.text(out.alloc)?;
     match report {
         "moment" => push_moment(out, text.as_str()),
         _ => out.push(text.as_str()),

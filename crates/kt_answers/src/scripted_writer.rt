@@ -50,6 +50,11 @@ impl ScriptedWriter {
             Some(refusal) => Err(refusal),
         }
     }
+
+    /// Its text. What isn't UTF-8 in it is replaced.
+    pub fn text(&self, alloc: Global) -> Result<String, NoMemory> {
+        Ok(String::from_utf8_lossy(alloc, self.kept()?)?)
+    }
 }
 
 impl Write for ScriptedWriter {

@@ -1,11 +1,12 @@
+use crate::answer::Answer;
 use crate::escapes::text_of;
 use crate::numbers::{numbered, set_number};
-use crate::row::{Entry, Result, Row, RowFault, asked, due, pair_of};
+use crate::retried;
+use crate::row::{Line, Result, Row, RowFault, asked, due, pair_of};
 use crate::verdicts::push_reason;
 use kt_base::{Text, Variables, Verdict};
 use kt_config::{Config, ConfigFault};
 use kt_metadata::{Host, Need, PropFault, Props, is_kyuafile_property, property_of_key, unmet};
-use kt_play::{Answer, retried};
 use std::alloc::Global;
 
 /// What a row has said so far: the properties of a program and of its case, the configuration and the host.
@@ -84,7 +85,7 @@ impl Example {
     }
 
     /// Takes a line that says something, and appends what is refused; or appends what the line asks.
-    fn take(&mut self, out: &mut Answer, line: &Entry<'_>) -> Result<()> {
+    fn take(&mut self, out: &mut Answer, line: &Line<'_>) -> Result<()> {
         let (alloc, text) = (out.alloc, line.text);
         match line.word {
             "set" => set_property(out, &mut self.program, text),
@@ -109,7 +110,7 @@ impl Example {
     }
 
     /// Appends what a line asks of a name, or of the properties together.
-    fn push_asked(&self, out: &mut Answer, line: &Entry<'_>) -> Result<()> {
+    fn push_asked(&self, out: &mut Answer, line: &Line<'_>) -> Result<()> {
         out.separate("\n");
         let name = text_of(out.alloc, line.text)?;
         let props = Props::overlay(&self.program, &self.case)?;

@@ -1,20 +1,28 @@
 //! The claims of result files and the results of TAP streams, read whole and in pieces.
 
+use crate::answer::Answer;
 use crate::escapes::unescaped;
 use crate::row::{Result, Row, asked};
 use kt_base::NoMemory;
 use kt_claim::{Claim, ClaimReader, Tap, TapReader, read_claim, read_tap};
-use kt_play::Answer;
 use std::alloc::Global;
 
 /// Bytes past this length aren't cut at each place.
 const LONG: usize = 1_000;
 
 /// A reader of bytes that come in pieces.
-#[derive(Drop)]
 enum Reader {
     Claim(ClaimReader),
     Tap(TapReader),
+}
+
+impl Drop for Reader {
+    fn drop(self) {
+        match self {
+            Reader::Claim(_reader) => {}
+            Reader::Tap(_reader) => {}
+        }
+    }
 }
 
 impl Reader {

@@ -1,8 +1,8 @@
+use crate::answer::Answer;
 use crate::escapes::text_of;
 use crate::numbers::numbered;
-use crate::row::{Entry, Result, Row, RowFault, both, due, halves, push_made};
+use crate::row::{Line, Result, Row, RowFault, both, due, halves, push_made};
 use kt_base::Text;
-use kt_play::Answer;
 use kt_suite::{Filter, FilterFault, Item, check_disjoint, select};
 use std::alloc::Global;
 
@@ -101,7 +101,7 @@ impl Example {
     }
 
     /// Appends the answer to a line that asks.
-    fn push_told(&self, out: &mut Answer, line: &Entry<'_>) -> Result<()> {
+    fn push_told(&self, out: &mut Answer, line: &Line<'_>) -> Result<()> {
         out.separate("\n");
         match line.word {
             "read" => return push_read(out, line.text),

@@ -1,0 +1,48 @@
+//! The rows of a file, the text of an answer, and the answers to rows about what stands below the scheduler.
+#![tactic(auto)]
+
+mod answer;
+mod case_lists;
+mod configurations;
+mod entries;
+mod escapes;
+mod filters;
+mod numbers;
+mod properties;
+mod reports;
+mod retry;
+mod row;
+mod row_file;
+mod scripted_writer;
+mod scripts;
+mod streams;
+mod verdicts;
+
+pub use answer::Answer;
+pub use case_lists::HEADER;
+pub use entries::{content_at, is_content, kind_of, push_entries, storable_entry};
+pub use escapes::{lossy_of, text_of, unescaped};
+pub use numbers::{count, limit_of, number, numbers_of};
+pub use properties::push_props;
+pub use row::{
+    Line, Result, Row, RowFault, append, asked, both, due, halves, number_in, pairs_of, push_made,
+};
+pub use row_file::read_rows;
+pub use scripted_writer::{ScriptedWriter, WriteFault};
+pub use verdicts::{ending_of, push_reason, push_verdict};
+
+/// Appends the answer to a row of a subject below the scheduler.
+pub fn push_answer(out: &mut Answer, subject: &str, row: &Row<'_>) -> Result<()> {
+    match subject {
+        "claims" => streams::answer(out, row, "file"),
+        "configurations" => configurations::answer(out, row),
+        "filters" => filters::answer(out, row),
+        "lists" => case_lists::answer(out, row),
+        "properties" => properties::answer(out, row),
+        "reports" => reports::answer(out, row),
+        "scripts" => scripts::answer(out, row),
+        "taps" => streams::answer(out, row, "tap"),
+        "verdicts" => verdicts::answer(out, row),
+        _ => Err(RowFault::Misspelled("no such subject")),
+    }
+}
