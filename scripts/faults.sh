@@ -206,20 +206,19 @@ kt_cli/src/messages.rt: emit(b"kyua: E: out of memory\n", out)
 kt_plan/src/stop.rt: Stop::NoMemory(_) => emit(b"out of memory", out),
 # How a value that only a refusal makes is displayed.
 kt_atflist/src/list_fault.rt: Err(_) => f.write_str("out of memory"),
-kt_child/src/driving/driver.rt: #[error("out of memory")]
-kt_child/src/system/mod.rt: #[error("out of memory")]
+kt_child/src/driving/driver.rt: DriverFault::NoMemory(_) => "out of memory",
 kt_config/src/fault.rt: ConfigFault::NoMemory(_) => "out of memory",
-kt_metadata/src/fault.rt: #[error("out of memory")]
-kt_report/src/report_fault.rt: #[error("out of memory")]
-kt_sched/src/run_fault.rt: #[error("out of memory")]
-kt_sched/src/sink.rt: #[error("out of memory")]
+kt_metadata/src/fault.rt: PropFault::NoMemory(_) => "out of memory",
+kt_report/src/report_fault.rt: ReportFault::NoMemory(_) => "out of memory",
+kt_sched/src/run_fault.rt: RunFault::NoMemory(_) => f.write_str("out of memory"),
+kt_sched/src/sink.rt: SinkFault::Memory => "out of memory",
 kt_script/src/fault.rt: ScriptFault::NoMemory(_) => "out of memory",
 kt_store/src/store_fault/mod.rt: StoreFault::NoMemory(_) => f.write_str("out of memory"),
 kt_suite/src/cause.rt: SuiteCause::NoMemory(_) => "out of memory",
 kt_suite/src/filter.rt: FilterFault::NoMemory(_) => "out of memory",
 kt_suite/src/selecting.rt: SelectFault::NoMemory(_) => "out of memory",
 kt_suite/src/tree.rt: ReadFault::Memory(_) => "out of memory",
-kt_words/src/command_fault.rt: #[error("out of memory")]
+kt_words/src/command_fault.rt: CommandFault::NoMemory(_) => "out of memory",
 # The reason of a refused start, by the phrase that stands for it.
 kt_base/src/phrase.rt: Phrase::NoMemoryToStart => "Test case could not be started for want of memory",
 # The property of a case that needs some.
@@ -369,10 +368,9 @@ BODY
 # By another name none of the rules above would find a value.
 types='(Refused|SinkFault|Claim|TapFault|ListBytes|ReadEnd|OsFault|ReadFault)'
 rule 'gives a name to what has one' lines "[A-Za-z] as [A-Z][A-Za-z]*([,;}]|\$)|::[*]|type [A-Z].*= .*$types|use .*$types::" <<'PLACES'
-# The result of what is displayed, a trait whose name others have, and the error of SQLite, which has rules of its own.
+# A trait whose name others have, and the error of SQLite, which has rules of its own.
 kt_store/src/store_fault/statements.rt: Alter, Connection, Error as SqlError, ErrorCode, FileFrom, FileStore, Row, Start, Transaction,
 kt_store/src/runs_file.rt: use std::rt::Files as FileSystem;
-kt_atflist/src/list_fault.rt: use std::fmt::{Formatter, Result as Shown, Write};
 PLACES
 body kt_child/src/driving/starts.rt 'use kt_sched::{Job, StartAnswer};' <<'BODY'
 use kt_base::Refused as Cause;

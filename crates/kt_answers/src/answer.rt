@@ -87,17 +87,12 @@ impl Answer {
 
     /// The text so far.
     pub fn so_far(&self) -> Result<&str, NoMemory> {
-        match self.refusal {
-            None => Ok(self.text.as_str()),
-            Some(refusal) => Err(refusal),
-        }
+        self.refusal.map_or(Ok(self.text.as_str()), Err)
     }
 
     /// The whole text.
     pub fn end(self) -> Result<String, NoMemory> {
-        match self.refusal {
-            None => Ok(self.text),
-            Some(refusal) => Err(refusal),
-        }
+        self.so_far()?;
+        Ok(self.text)
     }
 }

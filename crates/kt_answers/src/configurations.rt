@@ -3,6 +3,7 @@ use crate::escapes::text_of;
 use crate::numbers::append_numbered;
 use crate::retried;
 use crate::row::{Line, Result, Row, RowFault, both, halves, pair_of};
+use kt_base::Text;
 use kt_config::{Config, ConfigFault};
 
 /// Appends the variables of a suite in their order, `a=1 b=2`, or how many they are.
@@ -24,18 +25,22 @@ fn push_suite(out: &mut Answer, config: &Config, word: &str, suite: &str) -> Res
     Ok(())
 }
 
+/// The value of a variable of a suite, or what there is none of.
+fn value_of<'a>(config: &'a Config, suite: &Text, name: &Text) -> &'a str {
+    let Some(variables) = config.suite_vars(suite) else {
+        return "no suite";
+    };
+    match variables.get(name) {
+        Some(value) if variables.is_defined(name) => value.as_str(),
+        _ => "no variable",
+    }
+}
+
 /// The answer to `value SUITE NAME`.
 fn push_value(out: &mut Answer, config: &Config, text: &str) -> Result<()> {
     let (suite, name) = halves(text, " ", "no suite and name")?;
     let (suite, name) = both(text_of(out.alloc, suite), text_of(out.alloc, name))?;
-    let Some(variables) = config.suite_vars(&suite) else {
-        out.push("no suite");
-        return Ok(());
-    };
-    match variables.get(&name) {
-        Some(value) if variables.is_defined(&name) => out.push(value.as_str()),
-        _ => out.push("no variable"),
-    }
+    out.push(value_of(config, &suite, &name));
     Ok(())
 }
 

@@ -22,7 +22,7 @@ pub use answer::Answer;
 pub use case_lists::HEADER;
 pub use entries::{content_at, is_content, kind_of, push_entries, storable_entry};
 pub use escapes::{lossy_of, text_of, unescaped};
-pub use numbers::{count, limit_of, number, numbers_of};
+pub use numbers::{count, number, number_to, numbers_of};
 pub use properties::push_props;
 pub use row::{
     Line, Result, Row, RowFault, append, asked, both, due, halves, number_in, pairs_of, push_made,

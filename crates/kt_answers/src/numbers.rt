@@ -27,14 +27,18 @@ pub fn numbers_of(alloc: Global, text: &str) -> Result<Vec<u64>> {
     Ok(numbers)
 }
 
+/// A text with a number in place of each `#`.
+fn numbered_text(alloc: Global, text: &str, number: u32) -> Result<String> {
+    let number = number.to_string(alloc)?;
+    asked(text.replace(alloc, "#", number.as_str()))
+}
+
 /// The texts of `COUNT TEXT`: the text this many times, with the number in place of each `#`, from 0.
 pub fn numbered(alloc: Global, raw: &str) -> Result<Vec<String>> {
     let (times, text) = halves(raw, " ", "a text stands after a number")?;
     let mut texts = Vec::new(alloc);
     for number in 0..count(times)? {
-        let number = number.to_string(alloc)?;
-        let told = asked(text.replace(alloc, "#", number.as_str()));
-        push_made(&mut texts, told)?;
+        push_made(&mut texts, numbered_text(alloc, text, number))?;
     }
     Ok(texts)
 }
@@ -51,15 +55,12 @@ pub fn append_numbered(alloc: Global, bytes: &mut Vec<u8>, row: &Row<'_>) -> Res
     Ok(())
 }
 
-/// A limit in seconds, 1 where the row has none.
-pub fn limit_of(text: Option<&str>) -> Result<u32>
-    ensures { IfOk result (λ n. (1 ≤ n) × (n ≤ 1000000)) }
+/// A number from 1 to another one, 1 where the row has none.
+pub fn number_to(text: Option<&str>, most: u32) -> Result<u32>
+    ensures { IfOk result (λ n. (1 ≤ n) × (n ≤ most)) }
 {
-    let Some(text) = text else {
-        return Ok(1);
-    };
-    match text.parse::<u32>() {
-        Ok(limit) if limit >= 1 && limit <= 1_000_000 => Ok(limit),
-        _ => Err(RowFault::Misspelled("a limit is a number from 1 to 1,000,000")),
+    match text.unwrap_or("1").parse::<u32>() {
+        Ok(number) if number >= 1 && number <= most => Ok(number),
+        _ => Err(RowFault::Misspelled("a number is out of its range")),
     }
 }

@@ -41,6 +41,16 @@ impl Reader {
         }
     }
 
+    /// Takes bytes in pieces of this length after a first one.
+    fn take_pieces(&mut self, bytes: &[u8], first: usize, length: usize) -> Result<(), NoMemory> {
+        let (front, back) = bytes.split_at(first.min(bytes.len()));
+        self.take(front)?;
+        for piece in back.chunks(length.max(1)) {
+            self.take(piece)?;
+        }
+        Ok(())
+    }
+
     /// Appends what was read, in the form of a row.
     fn push_read(self, out: &mut Answer) -> Result<()> {
         match self {
@@ -88,12 +98,8 @@ fn pieces_text(
     first: usize,
     length: usize,
 ) -> Result<String> {
-    let (front, back) = bytes.split_at(first.min(bytes.len()));
     let mut reader = Reader::new(alloc, word);
-    reader.take(front)?;
-    for piece in back.chunks(length.max(1)) {
-        reader.take(piece)?;
-    }
+    reader.take_pieces(bytes, first, length)?;
     let mut out = Answer::new(alloc);
     reader.push_read(&mut out)?;
     asked(out.end())

@@ -13,9 +13,9 @@ const READ_LIMIT: usize = 1_048_577;
 /// A machine of files in memory, with a clock of its own.
 #[derive(Drop)]
 pub struct ScriptedMachine<'a> {
-    scene: &'a Scene,
+    pub scene: &'a Scene,
     /// How many moments were answered.
-    told: usize,
+    pub told: usize,
 }
 
 /// The front of these bytes.
@@ -26,12 +26,6 @@ fn front_of(alloc: Global, bytes: &[u8]) -> Result<Bytes, ReadFault>
     match Bytes::from_slice(alloc, &bytes[..count]) {
         Ok(front) => Ok(front),
         Err(refusal) => Err(ReadFault::Memory(refusal)),
-    }
-}
-
-impl<'a> ScriptedMachine<'a> {
-    pub fn new(scene: &'a Scene) -> ScriptedMachine<'a> {
-        ScriptedMachine { scene, told: 0 }
     }
 }
 

@@ -82,7 +82,7 @@ impl<R: ResultStore + Drop> Played<R> {
     /// Carries out the command lines among these: `do WORDS` or `line WORDS`, or `words no-memory` for none.
     pub fn play(&mut self, lines: &[Line<'_>], scene: &Scene) -> Result<()> {
         let alloc = self.log.alloc;
-        let mut machine = ScriptedMachine::new(scene);
+        let mut machine = ScriptedMachine { scene, told: 0 };
         for line in lines {
             let command = match line.word {
                 "do" | "line" => read_line(alloc, line.text)?,

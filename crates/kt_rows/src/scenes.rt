@@ -80,10 +80,9 @@ fn take(scene: &mut Scene, line: &Line<'_>) -> Result<()> {
         "program" | "locked" | "dear" | "found-file" | "found-program" => {
             return take_path(scene, line);
         }
-        "clock" => scene.moments = numbers_of(alloc, text)?,
-        "moments" => {
+        "clock" | "moments" => {
             scene.moments = numbers_of(alloc, text)?;
-            scene.step = 0;
+            scene.step = u64::from(line.word == "clock");
         }
         "now" => scene.clock = numbers_of(alloc, text)?,
         "fails" => scene.failing = failing_of(text)?,

@@ -3,9 +3,8 @@
 ghost use Rattle.kt_sched.specs.Plan.{IsPlan, IsWidth};
 
 use crate::scenes::{failing_of, scene_of};
-use crate::schedules::width_of;
 use kt_answers::{
-    Answer, Result, Row, RowFault, both, limit_of, number, pairs_of, push_entries, push_verdict,
+    Answer, Result, Row, RowFault, both, number, number_to, pairs_of, push_entries, push_verdict,
     unescaped,
 };
 use kt_atflist::{ListBytes, Listing};
@@ -13,7 +12,7 @@ use kt_base::{Entry, Interface, Items, Kind, Text, Variables};
 use kt_child::{Driver, DriverFault, FileRead, Os, read_front, read_start, run_driver};
 use kt_metadata::Props;
 use kt_play::{EndlessReader, MemorySink, Scene, ScriptedSystem, plan_of, push_folded};
-use kt_sched::{Job, RunFault, SinkFault};
+use kt_sched::{Job, MAX_TIMEOUT, MAX_WIDTH, RunFault, SinkFault};
 use kt_suite::Program;
 use std::alloc::Global;
 
@@ -28,13 +27,21 @@ struct Driven<O: Drop> {
     fault: Option<&'static str>,
 }
 
+/// What is shown of a call: all of it, its first word for `words`, nothing for `watching` if it isn't for a child that runs.
+fn call_of<'a>(shown: &str, line: &'a str) -> Option<&'a str> {
+    let (word, _) = line.split_once(' ').unwrap_or((line, ""));
+    match shown {
+        "words" => Some(word),
+        "watching" if !matches!(word, "poll" | "kill" | "pause") => None,
+        _ => Some(line),
+    }
+}
+
 /// Appends the calls of a log, folded: all of `calls`, their first `words`, or those for `watching` children.
 pub fn push_calls(out: &mut Answer, shown: &str, log: &str) -> Result<()> {
     let mut lines = Vec::new(out.alloc);
     for line in log.lines() {
-        let (word, _) = line.split_once(' ').unwrap_or((line, ""));
-        if shown != "watching" || matches!(word, "poll" | "kill" | "pause") {
-            let call = if shown == "words" { word } else { line };
+        if let Some(call) = call_of(shown, line) {
             lines.push(call)?;
         }
     }
@@ -132,8 +139,8 @@ fn drive<O: Os + Drop>(
 /// NAME=VALUE` each; `width N`, `failing PUT`, `base PATH` and `source PATH`.
 fn run_plan<'a>(row: &Row<'_>, scene: &'a Scene) -> Result<Driven<ScriptedSystem<'a>>> {
     let alloc = scene.alloc;
-    let width = width_of(row.text("width"))?;
-    let limit = limit_of(row.text("limit"))?;
+    let width = number_to(row.text("width"), MAX_WIDTH)?;
+    let limit = number_to(row.text("limit"), MAX_TIMEOUT)?;
     let variables = pairs_of(alloc, row.entries.as_slice(), "variable");
     let letters = unescaped(alloc, row.text("plan").unwrap_or(""));
     let (letters, variables) = both(letters, variables)?;

@@ -84,11 +84,8 @@ fn push_fault(out: &mut Answer, fault: &CommandFault) {
 fn all_words(alloc: Global, row: &Row<'_>) -> Result<Vec<String>> {
     let line = due(row.text("line"), "the row has no command line")?;
     let mut words = words_of(alloc, line)?;
-    let (count, word) = halves(
-        row.text("times").unwrap_or("0 "),
-        " ",
-        "a number and a word are due",
-    )?;
+    let times = row.text("times").unwrap_or("0 ");
+    let (count, word) = halves(times, " ", "a number and a word are due")?;
     for _ in 0..number(count)? {
         push_made(&mut words, asked(String::from_str(alloc, word)))?;
     }
