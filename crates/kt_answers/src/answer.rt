@@ -87,7 +87,10 @@ impl Answer {
 
     /// The text so far.
     pub fn so_far(&self) -> Result<&str, NoMemory> {
-        self.refusal.map_or(Ok(self.text.as_str()), Err)
+        match self.refusal {
+            None => Ok(self.text.as_str()),
+            Some(refusal) => Err(refusal),
+        }
     }
 
     /// The whole text.

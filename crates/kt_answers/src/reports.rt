@@ -6,9 +6,6 @@ use kt_base::Run;
 use kt_report::ReportFault;
 use std::alloc::Global;
 
-/// The kinds whose sections a text report has, in their order.
-const ALL_KINDS: &str = "failed broken expected_failure skipped passed";
-
 /// Appends the moment at which a run began, as its text report has it.
 fn push_moment(out: &mut Answer, report: &str) {
     let rest = report.split_once("started ");
@@ -18,7 +15,8 @@ fn push_moment(out: &mut Answer, report: &str) {
 
 /// Prints the text report, with the sections of `kinds WORDS` or of all kinds; `verbose` shows what the cases declared.
 fn print_text(alloc: Global, row: &Row<'_>, run: &Run, page: &mut ScriptedWriter) -> Result<()> {
-    let words = row.text("kinds").unwrap_or(ALL_KINDS);
+    let all = "failed broken expected_failure skipped passed";
+    let words = row.text("kinds").unwrap_or(all);
     let kinds = kinds_of(alloc, words)?;
     let _ = kt_report::text(run, &kinds, row.text("verbose").is_some(), page);
     Ok(())

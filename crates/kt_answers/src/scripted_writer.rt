@@ -45,7 +45,10 @@ impl ScriptedWriter {
 
     /// What was written, unless there was no memory for a part of it.
     pub fn kept(&self) -> Result<&[u8], NoMemory> {
-        self.refusal.map_or(Ok(self.kept.as_slice()), Err)
+        match self.refusal {
+            None => Ok(self.kept.as_slice()),
+            Some(refusal) => Err(refusal),
+        }
     }
 
     /// Its text. What isn't UTF-8 in it is replaced.

@@ -9,9 +9,6 @@ use std::{env, fs, io};
 /// How many bytes of an answer are printed, unless the first argument says that all of it is.
 const SHOWN: usize = 1_000;
 
-/// The argument that says so.
-const WHOLE: &str = "--whole";
-
 /// Where the first line begins in which two answers differ.
 fn differing_line(wanted: &[u8], found: &[u8]) -> usize {
     let mut line = 0usize;
@@ -102,7 +99,7 @@ pub fn check_files<R: Runtime + Files<File = File> + AllocGlobal>(rt: &R) -> io:
     let mut is_good = true;
     let mut shown = SHOWN;
     for file in env::args(rt)?.skip(1) {
-        if file.as_str() == WHOLE {
+        if file.as_str() == "--whole" {
             shown = usize::MAX;
         } else if !check_file(rt, file.as_str(), shown)? {
             is_good = false;

@@ -4,13 +4,6 @@ use kt_cli::LineOutput;
 use std::alloc::Global;
 use std::io::Write;
 
-/// The ways in which a write fails.
-const FAULTS: [WriteFault; 3] = [
-    WriteFault::Broken,
-    WriteFault::Interrupted,
-    WriteFault::Nothing,
-];
-
 /// A writer that takes this many bytes at a time. From this write on, counted from 1, all fail so; 0 for none.
 pub fn writer(alloc: Global, at_most: usize, failing: u64, fault: WriteFault) -> ScriptedWriter {
     let mut writer = ScriptedWriter::new(alloc);
@@ -68,8 +61,12 @@ fn push_wrong(
         out.line("another text into a slow writer");
     }
     for failing in 1..=slow.writes.min(100) {
-        for fault in &FAULTS {
-            let mut cut = writer(out.alloc, at_most, failing, *fault);
+        for fault in [
+            WriteFault::Broken,
+            WriteFault::Interrupted,
+            WriteFault::Nothing,
+        ] {
+            let mut cut = writer(out.alloc, at_most, failing, fault);
             let well = print_whole(pieces, to_lines, &mut cut);
             if let Some(what) = wrong(whole, &cut, well)? {
                 out.line(what);
