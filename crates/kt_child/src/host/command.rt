@@ -1,4 +1,4 @@
-ghost use Rattle.std.specs.Prelude.{◌≡◌, ◌++◌, ℕ, List, Some, None, map, false, IfOk, OnOk, if◌then◌else◌};
+ghost use Rattle.std.specs.Prelude.{◌≡◌, [], ◌++◌, ℕ, List, Some, None, map, false, IfOk, OnOk, if◌then◌else◌};
 ghost use Rattle.kt_child.specs.Common.{SameDir, SameEnv, SameOtherVars, SameProgramAndArgs, clears_env, command_args, command_program, command_var, utf8, IsCommandOf, after_removed, after_set};
 
 use crate::host::or_fault;
@@ -87,16 +87,29 @@ fn set_variables(command: &mut Command, set: &Variables) -> Result<(), NoMemory>
     Ok(())
 }
 
+/// Sets the words, the environment and the directory of a new command.
+fn fill(command: &mut Command, asked: Asked<'_>) -> Result<(), NoMemory>
+    requires program { command_program command.old ≡ utf8 asked.program.now }
+    requires args { command_args command.old ≡ [] }
+    requires inherits { clears_env command.old ≡ false }
+    requires variables { (name : List ℕ) → command_var command.old name ≡ None }
+    ensures { OnOk result (IsCommandOf asked.entry.program.now asked.entry.words.now
+        asked.entry.env.now asked.entry.dir.now command.new) }
+{
+    push_words(command, asked.words)?;
+    remove_variables(command, &asked.env.removed)?;
+    set_variables(command, &asked.env.set)?;
+    command.current_dir(asked.dir.as_str())?;
+    Ok(())
+}
+
 /// The command that starts a program.
 fn command_of(alloc: Global, asked: Asked<'_>) -> Result<Command, NoMemory>
     ensures { IfOk result (λ command. IsCommandOf asked.entry.program.now asked.entry.words.now
         asked.entry.env.now asked.entry.dir.now command) }
 {
     let mut command = Command::new(alloc, asked.program.as_str())?;
-    push_words(&mut command, asked.words)?;
-    remove_variables(&mut command, &asked.env.removed)?;
-    set_variables(&mut command, &asked.env.set)?;
-    command.current_dir(asked.dir.as_str())?;
+    fill(&mut command, asked)?;
     Ok(command)
 }
 

@@ -145,9 +145,14 @@ impl<R: Processes + Files<File = File> + Clock + AllocGlobal + Clone + Drop> Os 
         let second = children::wants_errors(&self.children, child);
         match create_output(&self.rt, path.as_str(), second, self.narrow) {
             Ok(file) => {
-                children::keep_output(&mut self.children, child, self.limit, file, &self.rt)?;
-                Ok(())
-            },
+                children::keep_output(
+                    &mut self.children,
+                    child,
+                    self.limit,
+                    file,
+                    &self.rt,
+                ).map_err(OsFault::Memory)
+            }
             Err(error) => {
                 children::take_out(&mut self.children, child);
                 Err(fault_of(&error))
@@ -169,13 +174,11 @@ impl<R: Processes + Files<File = File> + Clock + AllocGlobal + Clone + Drop> Os 
             env,
             dir,
         };
-        match children::launch(&mut self.children, child, &self.rt, asked) {
-            Ok(()) => Ok(()),
-            Err(fault) => {
-                children::take_out(&mut self.children, child);
-                Err(fault)
-            }
+        let launched = children::launch(&mut self.children, child, &self.rt, asked);
+        if launched.is_err() {
+            children::take_out(&mut self.children, child);
         }
+        launched
     }
 
     fn poll(&mut self, child: Child) -> Result<Polled, OsFault> {
