@@ -81,7 +81,10 @@ pub(crate) fn is_any_late<P: OpenProcess + Drop, C: Clock>(
     children: &Children<P>,
     clock: &C,
 ) -> bool {
-    Instant::now(clock).is_ok_and(|now| children.values().any(|held| held.is_late_at(now)))
+    let Ok(now) = Instant::now(clock) else {
+        return false;
+    };
+    children.values().any(|held| held.is_late_at(now))
 }
 
 /// How a child ended, if it has. While some child is heard late, another may be told as running without a look.

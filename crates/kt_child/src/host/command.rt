@@ -87,6 +87,21 @@ fn set_variables(command: &mut Command, set: &Variables) -> Result<(), NoMemory>
     Ok(())
 }
 
+/// The command of a program, with an empty input. Its output and its errors go to these files.
+fn command_of(alloc: Global, program: &Text, out: File, err: File) -> Result<Command, NoMemory>
+    ensures program { IfOk result (λ command. command_program command ≡ utf8 program.now) }
+    ensures args { IfOk result (λ command. command_args command ≡ []) }
+    ensures inherits { IfOk result (λ command. clears_env command ≡ false) }
+    ensures variables { IfOk result (λ command. (name : List ℕ)
+        → command_var command name ≡ None) }
+{
+    let mut command = Command::new(alloc, program.as_str())?;
+    command.stdin(Stdio::null());
+    command.stdout(out);
+    command.stderr(err);
+    Ok(command)
+}
+
 /// Sets the words, the environment and the directory of a new command.
 fn fill(command: &mut Command, asked: Asked<'_>) -> Result<(), NoMemory>
     requires program { command_program command.old ≡ utf8 asked.program.now }
@@ -103,17 +118,7 @@ fn fill(command: &mut Command, asked: Asked<'_>) -> Result<(), NoMemory>
     Ok(())
 }
 
-/// The command that starts a program.
-fn command_of(alloc: Global, asked: Asked<'_>) -> Result<Command, NoMemory>
-    ensures { IfOk result (λ command. IsCommandOf asked.entry.program.now asked.entry.words.now
-        asked.entry.env.now asked.entry.dir.now command) }
-{
-    let mut command = Command::new(alloc, asked.program.as_str())?;
-    fill(&mut command, asked)?;
-    Ok(command)
-}
-
-/// Spawns a command on which only the streams were set since it was made: all else is as asked.
+/// Spawns a command: but for its streams it is as asked.
 fn spawn_as<R: Processes>(
     rt: &R,
     _asked: Asked<'_>,
@@ -125,6 +130,21 @@ fn spawn_as<R: Processes>(
     command.spawn(rt)
 }
 
+/// Fills a new command, and spawns it.
+fn fill_and_spawn<R: Processes>(
+    rt: &R,
+    asked: Asked<'_>,
+    command: &mut Command,
+) -> Result<process::Child<R::Started>, OsFault>
+    requires program { command_program command.old ≡ utf8 asked.program.now }
+    requires args { command_args command.old ≡ [] }
+    requires inherits { clears_env command.old ≡ false }
+    requires variables { (name : List ℕ) → command_var command.old name ≡ None }
+{
+    fill(command, asked)?;
+    or_fault(spawn_as(rt, asked, command))
+}
+
 /// Starts a program with an empty input, its output and its errors to these files.
 pub(crate) fn spawn<R: Processes + AllocGlobal>(
     rt: &R,
@@ -132,9 +152,6 @@ pub(crate) fn spawn<R: Processes + AllocGlobal>(
     out: File,
     err: File,
 ) -> Result<process::Child<R::Started>, OsFault> {
-    let mut command = command_of(rt.alloc(), asked)?;
-    command.stdin(Stdio::null());
-    command.stdout(out);
-    command.stderr(err);
-    or_fault(spawn_as(rt, asked, &mut command))
+    let mut command = command_of(rt.alloc(), asked.program, out, err)?;
+    fill_and_spawn(rt, asked, &mut command)
 }

@@ -118,10 +118,7 @@ impl<P: OpenProcess + Drop> HostChild<P> {
         ensures pace { self.new.pace ≡ self.old.pace }
     {
         for _ in 0..SLICES {
-            if !self.pace.is_early(clock) {
-                return Ok(());
-            }
-            if self.status()?.is_some() {
+            if !self.pace.is_early(clock) || self.status()?.is_some() {
                 return Ok(());
             }
             thread::sleep(clock, Duration::from_millis(1));
@@ -162,13 +159,11 @@ impl<P: OpenProcess + Drop> HostChild<P> {
             return Ok(None);
         }
         self.keep_pace(clock)?;
-        match self.status()? {
-            Some(status) => Ok(Some(status)),
-            None => {
-                self.pace.tell();
-                Ok(None)
-            }
+        let status = self.status()?;
+        if status.is_none() {
+            self.pace.tell();
         }
+        Ok(status)
     }
 
     /// Kills it. Its 500 answers from then on have the pace of a limit of their own.
@@ -195,12 +190,6 @@ impl<P: OpenProcess + Drop> HostChild<P> {
         ensures ended { IsTrue result → ((status : Status)
             × (stand_of self.new ≡ Some (Some status))) }
     {
-        if self.seen {
-            return false;
-        }
-        match self.status() {
-            Ok(Some(_)) => true,
-            Ok(None) | Err(_) => false,
-        }
+        !self.seen && matches!(self.status(), Ok(Some(_)))
     }
 }

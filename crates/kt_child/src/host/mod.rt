@@ -19,10 +19,7 @@ use std::io;
 pub(crate) fn fault_of(error: &io::Error) -> OsFault
     ensures { IsFaultOf (error_kind error.now) result }
 {
-    match NoMemory::in_error(error) {
-        Some(refusal) => OsFault::Memory(refusal),
-        None => OsFault::Failed,
-    }
+    NoMemory::in_error(error).map_or(OsFault::Failed, OsFault::Memory)
 }
 
 /// A result of the library, with that fault.
