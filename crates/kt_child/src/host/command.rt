@@ -153,5 +153,7 @@ pub(crate) fn spawn<R: Processes + AllocGlobal>(
     err: File,
 ) -> Result<process::Child<R::Started>, OsFault> {
     let mut command = command_of(rt.alloc(), asked.program, out, err)?;
-    fill_and_spawn(rt, asked, &mut command)
+    let started = fill_and_spawn(rt, asked, &mut command);
+    drop(command);
+    started
 }

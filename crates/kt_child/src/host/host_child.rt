@@ -90,7 +90,7 @@ impl<P: OpenProcess + Drop> HostChild<P> {
         let Some((out, err)) = self.out.take().zip(self.err.take()) else {
             return Err(OsFault::Failed);
         };
-        self.process = Some(spawn(rt, asked, out, err)?);
+        drop(self.process.replace(spawn(rt, asked, out, err)?));
         self.pace = Pace::begun(self.pace.limit, rt);
         Ok(())
     }

@@ -124,7 +124,7 @@ impl<R: Processes + Files<File = File> + Clock + AllocGlobal + Clone + Drop> Os 
             return or_fault(create_directory(&self.rt, path.as_str(), self.narrow));
         }
         let (removals, narrow) = create_root(&self.rt, path)?;
-        self.removals = Some(removals);
+        drop(self.removals.replace(removals));
         self.narrow = narrow;
         Ok(())
     }
