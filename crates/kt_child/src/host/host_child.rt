@@ -30,10 +30,11 @@ impl<P: OpenProcess + Drop> Drop for HostChild<P> {
         let HostChild {
             out: _,
             err: _,
-            process: _,
+            process,
             pace: _,
             seen: _,
         } = self;
+        drop(process);
     }
 }
 

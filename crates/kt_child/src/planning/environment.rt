@@ -41,7 +41,7 @@ fn push_variable(
 fn for_test(alloc: Global, variable: &Variable) -> Result<Variable, NoMemory>
     ensures { IfOk result (λ v. v ≡ test_variable variable.now) }
 {
-    let name = joined(alloc, "TEST_ENV_", &variable.name)?;
+    let name = joined(alloc, "TEST_ENV_", variable.name.as_str())?;
     let value = variable.value.copy()?;
     Ok(Variable { name, value })
 }
