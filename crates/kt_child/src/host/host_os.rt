@@ -150,7 +150,7 @@ impl<R: Processes + Files<File = File> + Clock + AllocGlobal + Clone + Drop> Os 
                 ).map_err(OsFault::Memory)
             }
             Err(error) => {
-                children::take_out(&mut self.children, child);
+                drop(children::take_out(&mut self.children, child));
                 Err(fault_of(&error))
             }
         }
@@ -172,7 +172,7 @@ impl<R: Processes + Files<File = File> + Clock + AllocGlobal + Clone + Drop> Os 
         };
         let launched = children::launch(&mut self.children, child, &self.rt, asked);
         if launched.is_err() {
-            children::take_out(&mut self.children, child);
+            drop(children::take_out(&mut self.children, child));
         }
         launched
     }

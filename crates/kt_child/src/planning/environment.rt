@@ -33,8 +33,7 @@ fn push_variable(
 {
     let name = Text::from_str(alloc, name)?;
     let value = Text::from_str(alloc, value)?;
-    set.push(Variable { name, value })?;
-    Ok(())
+    set.push(Variable { name, value })
 }
 
 /// A variable of the suite, as a TAP or plain program sees it.

@@ -41,8 +41,7 @@ pub(crate) fn push_text(alloc: Global, texts: &mut Items<Text>, text: &str) -> R
     ensures { OnOk result (texts.new ≡ texts.old ++ chars text.now ∷ []) }
 {
     let text = Text::from_str(alloc, text)?;
-    texts.push(text)?;
-    Ok(())
+    texts.push(text)
 }
 
 /// Appends two texts, joined, to a list of texts.
@@ -55,8 +54,7 @@ fn push_joined(
     ensures { OnOk result (texts.new ≡ texts.old ++ (chars first.now ++ chars second.now) ∷ []) }
 {
     let text = joined(alloc, first, second)?;
-    texts.push(text)?;
-    Ok(())
+    texts.push(text)
 }
 
 /// The word that hands a variable to an ATF program.
