@@ -100,17 +100,14 @@ impl<O: Os + Drop> Driver<O> {
         let mut os = os;
         match find_root(alloc, &mut os, base) {
             Err(fault) => Err((fault, os)),
-            Ok(root) => {
-                let running = RunningChildren::new(alloc);
-                Ok(Driver {
-                    os,
-                    alloc,
-                    source,
-                    root,
-                    next: 0,
-                    running,
-                })
-            }
+            Ok(root) => Ok(Driver {
+                os,
+                alloc,
+                source,
+                root,
+                next: 0,
+                running: RunningChildren::new(alloc),
+            }),
         }
     }
 
@@ -119,8 +116,7 @@ impl<O: Os + Drop> Driver<O> {
         ensures { (done : Bool) × O.leads self.os (RemoveTree self.root done) result }
     {
         let mut os = self.os;
-        let root = self.root;
-        let _ = os.remove_tree(&root);
+        let _ = os.remove_tree(&self.root);
         os
     }
 }
@@ -129,8 +125,7 @@ impl<O: Os + Drop> Driver<O> {
 pub(crate) fn root_path(alloc: Global, base: &Text, number: u64) -> Result<Text, NoMemory>
     ensures { IfOk result (λ path. path ≡ root_of base.now number) }
 {
-    let path = numbered_path(alloc, base, "/kyua.", number)?;
-    Ok(path)
+    numbered_path(alloc, base, "/kyua.", number)
 }
 
 /// Makes the root directory of a driver: the first of `kyua.0` to `kyua.999` below `base` that can be made (this

@@ -67,12 +67,13 @@ pub(crate) fn spawning(
         purpose.variables,
         purpose.case_name,
     )?;
-    let env = env_plan(alloc, case.interface, purpose.variables, &paths.work)?;
+    drop(directory);
     let dir = paths.dir.copy()?;
     let work = paths.work.copy()?;
     let (out, err) = output_paths(case.role, paths);
     let out = out.copy()?;
     let err = err.copy()?;
+    let env = env_plan(alloc, case.interface, purpose.variables, &paths.work)?;
     Ok(Spawning {
         child: case.child(),
         limit: purpose.limit,

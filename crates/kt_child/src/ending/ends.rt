@@ -56,10 +56,7 @@ pub(crate) fn output_paths(role: Role, paths: &Paths) -> (&Text, &Text)
 pub(crate) fn over(case: &Case) -> bool
     ensures { result ≡ is_over case.now }
 {
-    match case.role {
-        Role::Cleanup => true,
-        Role::Body => !case.cleanup,
-    }
+    case.role == Role::Cleanup || !case.cleanup
 }
 
 pub(crate) fn remove_if<O: Os>(os: &mut O, removed: bool, dir: &Text)

@@ -59,8 +59,7 @@ fn read_tap<O: Os>(alloc: Global, os: &mut O, path: &Text) -> Tap
 {
     let mut reader = TapReader::new(alloc);
     match read_in_parts(os, path, STREAM_PART, STREAM_LIMIT, &mut reader) {
-        ReadEnd::Missing => Tap::Invalid(TapFault::Unreadable),
-        ReadEnd::Unreadable => Tap::Invalid(TapFault::Unreadable),
+        ReadEnd::Missing | ReadEnd::Unreadable => Tap::Invalid(TapFault::Unreadable),
         ReadEnd::TooLong => Tap::Invalid(TapFault::TooLong),
         ReadEnd::Complete => tap_read(reader),
     }
@@ -78,12 +77,9 @@ pub(crate) fn gather<O: Os>(
         × Gathers interface role paths.now calls result }
     ensures interface { IsEvidence interface role result }
 {
-    match role {
-        Role::Body => match interface {
-            Interface::Atf => Evidence::Atf(read_claim(alloc, os, &paths.result)),
-            Interface::Tap => Evidence::Tap(read_tap(alloc, os, &paths.out)),
-            Interface::Plain => Evidence::Plain,
-        },
-        Role::Cleanup => Evidence::Plain,
+    match (role, interface) {
+        (Role::Body, Interface::Atf) => Evidence::Atf(read_claim(alloc, os, &paths.result)),
+        (Role::Body, Interface::Tap) => Evidence::Tap(read_tap(alloc, os, &paths.out)),
+        (Role::Body, Interface::Plain) | (Role::Cleanup, _) => Evidence::Plain,
     }
 }

@@ -68,8 +68,7 @@ fn hand<R: PartReader>(reader: &mut R, bytes: &Bytes) -> Result<(), NoMemory>
     if bytes.is_empty() {
         return Ok(());
     }
-    reader.take(bytes.as_slice())?;
-    Ok(())
+    reader.take(bytes.as_slice())
 }
 
 /// Passes the bytes of a part to the reader.
@@ -83,13 +82,8 @@ fn take<R: PartReader>(reader: &mut R, got: &mut u64, read: FileRead, limit: u64
         × (got.old < got.new) × (got.new < limit)) }
 {
     match read {
-        FileRead::Missing => {
-            if *got == 0 {
-                Some(ReadEnd::Missing)
-            } else {
-                Some(ReadEnd::Unreadable)
-            }
-        }
+        FileRead::Missing if *got == 0 => Some(ReadEnd::Missing),
+        FileRead::Missing => Some(ReadEnd::Unreadable),
         FileRead::Part(bytes, follows) => match hand(reader, &bytes) {
             Err(_) => Some(ReadEnd::Unreadable),
             Ok(()) => count_part(got, &bytes, follows, limit),

@@ -36,10 +36,7 @@ pub(crate) fn take_out<P: OpenProcess + Drop>(
 pub(crate) fn wants_errors<P: OpenProcess + Drop>(children: &Children<P>, child: Child) -> bool
     ensures { IsTrue result → stand_in children.now.entries child ≡ None }
 {
-    match children.get(&child) {
-        Some(held) => held.wants_errors(),
-        None => false,
-    }
+    children.get(&child).is_some_and(|held| held.wants_errors())
 }
 
 /// Keeps an opened file: as the errors of the child whose output is open, else as the output of a new child.
@@ -87,12 +84,7 @@ pub(crate) fn is_any_late<P: OpenProcess + Drop, C: Clock>(
     let Ok(now) = Instant::now(clock) else {
         return false;
     };
-    for held in children.values() {
-        if held.is_late_at(now) {
-            return true;
-        }
-    }
-    false
+    children.values().any(|held| held.is_late_at(now))
 }
 
 /// How a child ended, if it has. While some child is heard late, another may be told as running without a look.

@@ -1,4 +1,4 @@
-ghost use Rattle.std.specs.Prelude.{◌≡◌, ◌++◌, ℕ, List, Some, None, map, false, IfOk, OnOk, if◌then◌else◌};
+ghost use Rattle.std.specs.Prelude.{◌≡◌, [], ◌++◌, ℕ, List, Some, None, map, false, IfOk, OnOk, if◌then◌else◌};
 ghost use Rattle.kt_child.specs.Common.{SameDir, SameEnv, SameOtherVars, SameProgramAndArgs, clears_env, command_args, command_program, command_var, utf8, IsCommandOf, after_removed, after_set};
 
 use crate::host::or_fault;
@@ -87,20 +87,38 @@ fn set_variables(command: &mut Command, set: &Variables) -> Result<(), NoMemory>
     Ok(())
 }
 
-/// The command that starts a program.
-fn command_of(alloc: Global, asked: Asked<'_>) -> Result<Command, NoMemory>
-    ensures { IfOk result (λ command. IsCommandOf asked.entry.program.now asked.entry.words.now
-        asked.entry.env.now asked.entry.dir.now command) }
+/// The command of a program, with an empty input. Its output and its errors go to these files.
+fn command_of(alloc: Global, program: &Text, out: File, err: File) -> Result<Command, NoMemory>
+    ensures program { IfOk result (λ command. command_program command ≡ utf8 program.now) }
+    ensures args { IfOk result (λ command. command_args command ≡ []) }
+    ensures inherits { IfOk result (λ command. clears_env command ≡ false) }
+    ensures variables { IfOk result (λ command. (name : List ℕ)
+        → command_var command name ≡ None) }
 {
-    let mut command = Command::new(alloc, asked.program.as_str())?;
-    push_words(&mut command, asked.words)?;
-    remove_variables(&mut command, &asked.env.removed)?;
-    set_variables(&mut command, &asked.env.set)?;
-    command.current_dir(asked.dir.as_str())?;
+    let mut command = Command::new(alloc, program.as_str())?;
+    command.stdin(Stdio::null());
+    command.stdout(out);
+    command.stderr(err);
     Ok(command)
 }
 
-/// Spawns a command on which only the streams were set since it was made: all else is as asked.
+/// Sets the words, the environment and the directory of a new command.
+fn fill(command: &mut Command, asked: Asked<'_>) -> Result<(), NoMemory>
+    requires program { command_program command.old ≡ utf8 asked.program.now }
+    requires args { command_args command.old ≡ [] }
+    requires inherits { clears_env command.old ≡ false }
+    requires variables { (name : List ℕ) → command_var command.old name ≡ None }
+    ensures { OnOk result (IsCommandOf asked.entry.program.now asked.entry.words.now
+        asked.entry.env.now asked.entry.dir.now command.new) }
+{
+    push_words(command, asked.words)?;
+    remove_variables(command, &asked.env.removed)?;
+    set_variables(command, &asked.env.set)?;
+    command.current_dir(asked.dir.as_str())?;
+    Ok(())
+}
+
+/// Spawns a command: but for its streams it is as asked.
 fn spawn_as<R: Processes>(
     rt: &R,
     _asked: Asked<'_>,
@@ -112,6 +130,21 @@ fn spawn_as<R: Processes>(
     command.spawn(rt)
 }
 
+/// Fills a new command, and spawns it.
+fn fill_and_spawn<R: Processes>(
+    rt: &R,
+    asked: Asked<'_>,
+    command: &mut Command,
+) -> Result<process::Child<R::Started>, OsFault>
+    requires program { command_program command.old ≡ utf8 asked.program.now }
+    requires args { command_args command.old ≡ [] }
+    requires inherits { clears_env command.old ≡ false }
+    requires variables { (name : List ℕ) → command_var command.old name ≡ None }
+{
+    fill(command, asked)?;
+    or_fault(spawn_as(rt, asked, command))
+}
+
 /// Starts a program with an empty input, its output and its errors to these files.
 pub(crate) fn spawn<R: Processes + AllocGlobal>(
     rt: &R,
@@ -119,9 +152,8 @@ pub(crate) fn spawn<R: Processes + AllocGlobal>(
     out: File,
     err: File,
 ) -> Result<process::Child<R::Started>, OsFault> {
-    let mut command = command_of(rt.alloc(), asked)?;
-    command.stdin(Stdio::null());
-    command.stdout(out);
-    command.stderr(err);
-    or_fault(spawn_as(rt, asked, &mut command))
+    let mut command = command_of(rt.alloc(), asked.program, out, err)?;
+    let started = fill_and_spawn(rt, asked, &mut command);
+    drop(command);
+    started
 }

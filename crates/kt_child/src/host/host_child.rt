@@ -1,5 +1,3 @@
-ghost use Rattle.std.specs.Prelude.{◌≡◌, ◌↔◌, Ok, None, IsTrue};
-
 use crate::OsFault;
 use crate::host::command::{Asked, spawn};
 use crate::host::or_fault;
@@ -16,18 +14,7 @@ const SLICES: u32 = 20;
 /// The limit of a child that was killed, in seconds: the time of 500 answers.
 const KILLED_LIMIT: u64 = 5;
 
-/// Whether a child was found running.
-fn is_running(answer: &Result<Option<ExitStatus>, OsFault>) -> bool
-    ensures { IsTrue result ↔ (answer.now ≡ Ok None) }
-{
-    match answer {
-        Ok(None) => true,
-        Ok(Some(_)) | Err(_) => false,
-    }
-}
-
 /// A child of the host, from the opening of its first file until its end is reported.
-#[derive(Drop)]
 pub(crate) struct HostChild<P: OpenProcess> {
     out: Option<File>,
     err: Option<File>,
@@ -35,6 +22,20 @@ pub(crate) struct HostChild<P: OpenProcess> {
     pace: Pace,
     /// Whether its end was seen, or it couldn't be waited for.
     seen: bool,
+}
+
+/// Written out, so that a drop is one call.
+impl<P: OpenProcess + Drop> Drop for HostChild<P> {
+    fn drop(self) {
+        let HostChild {
+            out: _,
+            err: _,
+            process,
+            pace: _,
+            seen: _,
+        } = self;
+        drop(process);
+    }
 }
 
 impl<P: OpenProcess + Drop> HostChild<P> {
@@ -87,10 +88,10 @@ impl<P: OpenProcess + Drop> HostChild<P> {
         ensures started { OnOk result (IsSome (stand_of self.new)) }
         ensures told { OnOk result (self.new.pace.told ≡ 0) }
     {
-        let (Some(out), Some(err)) = (self.out.take(), self.err.take()) else {
+        let Some((out, err)) = self.out.take().zip(self.err.take()) else {
             return Err(OsFault::Failed);
         };
-        self.process = Some(spawn(rt, asked, out, err)?);
+        drop(self.process.replace(spawn(rt, asked, out, err)?));
         self.pace = Pace::begun(self.pace.limit, rt);
         Ok(())
     }
@@ -106,7 +107,7 @@ impl<P: OpenProcess + Drop> HostChild<P> {
             Some(process) => or_fault(process.try_wait()),
             None => return Err(OsFault::Failed),
         };
-        if !is_running(&answer) {
+        if !matches!(answer, Ok(None)) {
             self.seen = true;
         }
         answer
@@ -118,10 +119,7 @@ impl<P: OpenProcess + Drop> HostChild<P> {
         ensures pace { self.new.pace ≡ self.old.pace }
     {
         for _ in 0..SLICES {
-            if !self.pace.is_early(clock) {
-                return Ok(());
-            }
-            if self.status()?.is_some() {
+            if !self.pace.is_early(clock) || self.status()?.is_some() {
                 return Ok(());
             }
             thread::sleep(clock, Duration::from_millis(1));
@@ -162,13 +160,11 @@ impl<P: OpenProcess + Drop> HostChild<P> {
             return Ok(None);
         }
         self.keep_pace(clock)?;
-        match self.status()? {
-            Some(status) => Ok(Some(status)),
-            None => {
-                self.pace.tell();
-                Ok(None)
-            }
+        let status = self.status()?;
+        if status.is_none() {
+            self.pace.tell();
         }
+        Ok(status)
     }
 
     /// Kills it. Its 500 answers from then on have the pace of a limit of their own.
@@ -195,12 +191,6 @@ impl<P: OpenProcess + Drop> HostChild<P> {
         ensures ended { IsTrue result → ((status : Status)
             × (stand_of self.new ≡ Some (Some status))) }
     {
-        if self.seen {
-            return false;
-        }
-        match self.status() {
-            Ok(Some(_)) => true,
-            Ok(None) | Err(_) => false,
-        }
+        !self.seen && matches!(self.status(), Ok(Some(_)))
     }
 }

@@ -97,14 +97,12 @@ impl<R: Processes + Clock + AllocGlobal + Drop> HostOs<R> {
         ensures last { self.new.last ≡ self.old.last }
         ensures late { self.new.late ≡ Some result }
     {
-        match self.late {
+        let late = match self.late {
             Some(late) => late,
-            None => {
-                let late = children::is_any_late(&self.children, &self.rt);
-                self.late = Some(late);
-                late
-            }
-        }
+            None => children::is_any_late(&self.children, &self.rt),
+        };
+        self.late = Some(late);
+        late
     }
 }
 
@@ -122,15 +120,13 @@ impl<R: Processes + Files<File = File> + Clock + AllocGlobal + Clone + Drop> Os 
     }
 
     fn make_dir(&mut self, path: &Text) -> Result<(), OsFault> {
-        match self.removals {
-            Some(_) => or_fault(create_directory(&self.rt, path.as_str(), self.narrow)),
-            None => {
-                let (removals, narrow) = create_root(&self.rt, path)?;
-                self.removals = Some(removals);
-                self.narrow = narrow;
-                Ok(())
-            }
+        if self.removals.is_some() {
+            return or_fault(create_directory(&self.rt, path.as_str(), self.narrow));
         }
+        let (removals, narrow) = create_root(&self.rt, path)?;
+        drop(self.removals.replace(removals));
+        self.narrow = narrow;
+        Ok(())
     }
 
     fn remove_tree(&mut self, path: &Text) -> Result<(), OsFault> {
@@ -145,11 +141,16 @@ impl<R: Processes + Files<File = File> + Clock + AllocGlobal + Clone + Drop> Os 
         let second = children::wants_errors(&self.children, child);
         match create_output(&self.rt, path.as_str(), second, self.narrow) {
             Ok(file) => {
-                children::keep_output(&mut self.children, child, self.limit, file, &self.rt)?;
-                Ok(())
-            },
+                children::keep_output(
+                    &mut self.children,
+                    child,
+                    self.limit,
+                    file,
+                    &self.rt,
+                ).map_err(OsFault::Memory)
+            }
             Err(error) => {
-                children::take_out(&mut self.children, child);
+                drop(children::take_out(&mut self.children, child));
                 Err(fault_of(&error))
             }
         }
@@ -169,13 +170,11 @@ impl<R: Processes + Files<File = File> + Clock + AllocGlobal + Clone + Drop> Os 
             env,
             dir,
         };
-        match children::launch(&mut self.children, child, &self.rt, asked) {
-            Ok(()) => Ok(()),
-            Err(fault) => {
-                children::take_out(&mut self.children, child);
-                Err(fault)
-            }
+        let launched = children::launch(&mut self.children, child, &self.rt, asked);
+        if launched.is_err() {
+            drop(children::take_out(&mut self.children, child));
         }
+        launched
     }
 
     fn poll(&mut self, child: Child) -> Result<Polled, OsFault> {
@@ -210,12 +209,8 @@ impl<R: Processes + Files<File = File> + Clock + AllocGlobal + Clone + Drop> Os 
             rest(&mut self.removals, &self.rt, PAUSE);
             return Ok(());
         }
-        let ended = children::await_end(
-            &mut self.children,
-            &mut self.removals,
-            &self.rt,
-            quiet == 1,
-        );
+        let first = quiet == 1;
+        let ended = children::await_end(&mut self.children, &mut self.removals, &self.rt, first);
         self.quiet = if ended { 0 } else { quiet };
         Ok(())
     }

@@ -62,9 +62,8 @@ pub fn read_front<F: Read>(alloc: Global, file: &mut F, limit: u64) -> Result<Fi
     ensures front { IfSome (F.remaining file.old) (λ xs. IsFront limit xs result) }
     ensures past { TakesAtMost (limit + 1) (F.remaining file.old) (F.remaining file.new) }
 {
-    let bytes = match read_start(alloc, file, limit as usize) {
-        Ok(bytes) => bytes,
-        Err(_fault) => return Err(OsFault::Failed),
+    let Ok(bytes) = read_start(alloc, file, limit as usize) else {
+        return Err(OsFault::Failed);
     };
     if (bytes.len() as u64) < limit {
         return Ok(FileRead::Part(bytes, false));

@@ -6,20 +6,20 @@ use crate::planning::words::{joined, push_text};
 use kt_base::{Interface, Items, NoMemory, Text, Variable, Variables};
 use std::alloc::Global;
 
-/// The names of the variables that no child gets: those that choose a language.
-fn removed(alloc: Global) -> Result<Items<Text>, NoMemory>
-    ensures { IfOk result (λ names. names ≡ removed_names) }
+/// Appends the names of the variables that no child gets: those that choose a language.
+fn push_removed(alloc: Global, names: &mut Items<Text>) -> Result<(), NoMemory>
+    requires { names.old ≡ [] }
+    ensures { OnOk result (names.new ≡ removed_names) }
 {
-    let mut names = Items::new(alloc);
-    push_text(alloc, &mut names, "LANG")?;
-    push_text(alloc, &mut names, "LC_ALL")?;
-    push_text(alloc, &mut names, "LC_COLLATE")?;
-    push_text(alloc, &mut names, "LC_CTYPE")?;
-    push_text(alloc, &mut names, "LC_MESSAGES")?;
-    push_text(alloc, &mut names, "LC_MONETARY")?;
-    push_text(alloc, &mut names, "LC_NUMERIC")?;
-    push_text(alloc, &mut names, "LC_TIME")?;
-    Ok(names)
+    push_text(alloc, names, "LANG")?;
+    push_text(alloc, names, "LC_ALL")?;
+    push_text(alloc, names, "LC_COLLATE")?;
+    push_text(alloc, names, "LC_CTYPE")?;
+    push_text(alloc, names, "LC_MESSAGES")?;
+    push_text(alloc, names, "LC_MONETARY")?;
+    push_text(alloc, names, "LC_NUMERIC")?;
+    push_text(alloc, names, "LC_TIME")?;
+    Ok(())
 }
 
 /// Appends a variable.
@@ -33,15 +33,14 @@ fn push_variable(
 {
     let name = Text::from_str(alloc, name)?;
     let value = Text::from_str(alloc, value)?;
-    set.push(Variable { name, value })?;
-    Ok(())
+    set.push(Variable { name, value })
 }
 
 /// A variable of the suite, as a TAP or plain program sees it.
 fn for_test(alloc: Global, variable: &Variable) -> Result<Variable, NoMemory>
     ensures { IfOk result (λ v. v ≡ test_variable variable.now) }
 {
-    let name = joined(alloc, "TEST_ENV_", &variable.name)?;
+    let name = joined(alloc, "TEST_ENV_", variable.name.as_str())?;
     let value = variable.value.copy()?;
     Ok(Variable { name, value })
 }
@@ -62,14 +61,14 @@ fn push_test_variables(
 }
 
 /// Appends the variables that every child gets.
-fn common(alloc: Global, work: &Text) -> Result<Variables, NoMemory>
-    ensures { IfOk result (λ set. set ≡ common_variables work.now) }
+fn push_common(alloc: Global, set: &mut Variables, work: &Text) -> Result<(), NoMemory>
+    requires { set.old ≡ [] }
+    ensures { OnOk result (set.new ≡ common_variables work.now) }
 {
-    let mut set = Variables::new(alloc);
-    push_variable(alloc, &mut set, "TZ", "UTC")?;
-    push_variable(alloc, &mut set, "HOME", work.as_str())?;
-    push_variable(alloc, &mut set, "TMPDIR", work.as_str())?;
-    Ok(set)
+    push_variable(alloc, set, "TZ", "UTC")?;
+    push_variable(alloc, set, "HOME", work.as_str())?;
+    push_variable(alloc, set, "TMPDIR", work.as_str())?;
+    Ok(())
 }
 
 /// Appends the variables that a child of an interface gets in addition.
@@ -102,8 +101,10 @@ pub fn env_plan(
 ) -> Result<EnvPlan, NoMemory>
     ensures { IfOk result (λ plan. plan ≡ env_of interface variables.now work.now) }
 {
-    let removed = removed(alloc)?;
-    let mut set = common(alloc, work)?;
+    let mut removed = Items::new(alloc);
+    push_removed(alloc, &mut removed)?;
+    let mut set = Variables::new(alloc);
+    push_common(alloc, &mut set, work)?;
     push_own(alloc, &mut set, interface, variables)?;
     Ok(EnvPlan { removed, set })
 }

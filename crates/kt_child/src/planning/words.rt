@@ -28,11 +28,11 @@ pub(crate) fn program_directory(alloc: Global, path: &Text) -> Result<Text, NoMe
 }
 
 /// Two texts, joined.
-pub(crate) fn joined(alloc: Global, first: &str, second: &Text) -> Result<Text, NoMemory>
-    ensures { IfOk result (λ text. text ≡ chars first.now ++ second.now) }
+pub(crate) fn joined(alloc: Global, first: &str, second: &str) -> Result<Text, NoMemory>
+    ensures { IfOk result (λ text. text ≡ chars first.now ++ chars second.now) }
 {
     let mut text = Text::from_str(alloc, first)?;
-    text.push_str(second.as_str())?;
+    text.push_str(second)?;
     Ok(text)
 }
 
@@ -41,15 +41,27 @@ pub(crate) fn push_text(alloc: Global, texts: &mut Items<Text>, text: &str) -> R
     ensures { OnOk result (texts.new ≡ texts.old ++ chars text.now ∷ []) }
 {
     let text = Text::from_str(alloc, text)?;
-    texts.push(text)?;
-    Ok(())
+    texts.push(text)
+}
+
+/// Appends two texts, joined, to a list of texts.
+fn push_joined(
+    alloc: Global,
+    texts: &mut Items<Text>,
+    first: &str,
+    second: &str,
+) -> Result<(), NoMemory>
+    ensures { OnOk result (texts.new ≡ texts.old ++ (chars first.now ++ chars second.now) ∷ []) }
+{
+    let text = joined(alloc, first, second)?;
+    texts.push(text)
 }
 
 /// The word that hands a variable to an ATF program.
 fn word_of_variable(alloc: Global, variable: &Variable) -> Result<Text, NoMemory>
     ensures { IfOk result (λ word. word ≡ variable_word variable.now) }
 {
-    let mut word = joined(alloc, "-v", &variable.name)?;
+    let mut word = joined(alloc, "-v", variable.name.as_str())?;
     word.push_str("=")?;
     word.push_str(variable.value.as_str())?;
     Ok(word)
@@ -89,14 +101,11 @@ fn body_words(
     ensures { IfOk result (λ words. words ≡ words_of Interface.Atf Want.Body result_file.now
         source.now variables.now case_name.now) }
 {
-    let result_word = joined(alloc, "-r", result_file)?;
-    let source_word = joined(alloc, "-s", source)?;
-    let case_word = case_name.copy()?;
     let mut words = Items::new(alloc);
-    words.push(result_word)?;
-    words.push(source_word)?;
+    push_joined(alloc, &mut words, "-r", result_file.as_str())?;
+    push_joined(alloc, &mut words, "-s", source.as_str())?;
     push_variable_words(alloc, &mut words, variables)?;
-    words.push(case_word)?;
+    push_text(alloc, &mut words, case_name.as_str())?;
     Ok(words)
 }
 
@@ -109,13 +118,10 @@ fn cleanup_words(
     ensures { IfOk result (λ words. words ≡ ((codes "-s" ++ source.now) ∷ [])
         ++ map variable_word variables.now ++ (case_name.now ++ codes ":cleanup") ∷ []) }
 {
-    let source_word = joined(alloc, "-s", source)?;
-    let mut case_word = case_name.copy()?;
-    case_word.push_str(":cleanup")?;
     let mut words = Items::new(alloc);
-    words.push(source_word)?;
+    push_joined(alloc, &mut words, "-s", source.as_str())?;
     push_variable_words(alloc, &mut words, variables)?;
-    words.push(case_word)?;
+    push_joined(alloc, &mut words, case_name.as_str(), ":cleanup")?;
     Ok(words)
 }
 

@@ -41,8 +41,7 @@ impl Drop for Paths {
 fn attempt_path(alloc: Global, root: &Text, number: u64) -> Result<Text, NoMemory>
     ensures { IfOk result (λ path. path ≡ attempt_dir root.now number) }
 {
-    let path = numbered_path(alloc, root, "/", number)?;
-    Ok(path)
+    numbered_path(alloc, root, "/", number)
 }
 
 /// A name in the directory of an attempt.

@@ -4,4 +4,4 @@ use Rattle.kt_child.proofs.planning.environment.for_test.Goals as goal
 
 pub returns : goal.returns
 unfolding chars
-returns c = rw (c.in_ok-name.ensures, c.in_ok-value.ensures) refl
+returns c = rw (c.in_ok-name.ensures, c.in_ok-value.ensures, c.as_str.ensures.characters) refl

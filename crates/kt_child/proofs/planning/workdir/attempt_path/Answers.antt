@@ -1,7 +1,6 @@
-use Rattle.std.proofs.Common.{refl}
 use Rattle.kt_child.proofs.Common.{chars}
 use Rattle.kt_child.proofs.planning.workdir.attempt_path.Goals as goal
 
 pub returns : goal.returns
 unfolding chars
-returns c = rw c.in_ok-path.ensures refl
+returns c = c.numbered_path.ensures
