@@ -1,5 +1,5 @@
 -- What a refusal is reported as.
-use Rattle.std.proofs.Common.{◌≡◌, sym, subst, Result, Ok, Err, IsErrAnd, IfErr, OnErr}
+use Rattle.std.proofs.Common.{◌≡◌, sym, subst, Result, Ok, Err, IsErrAnd, IfErr, IfOk, OnErr, OnOk}
 use Rattle.kt_store.proofs.Common.{StoreFault, NoMemory, Store, IsNoMemory, IsStoreFault}
 
 -- what is known of a fault is known of the answer that hands it on
@@ -11,6 +11,24 @@ if_same Q (Err fault) e h q = subst Q (sym h) q
 pub on_err : {T E P : Type 0} (r : Result T E) → P → OnErr r P
 on_err (Ok x) p = tt
 on_err (Err e) p = p
+
+-- what a result says, by what two facts say of it
+pub if_both : {T E : Type 0} (P Q R : T → Type 0) (r : Result T E) → ((x : T) → P x → Q x → R x) → IfOk r P → IfOk r Q → IfOk r R
+if_both P Q R (Ok x) f p q = f x p q
+if_both P Q R (Err e) f p q = tt
+
+pub err_both : {T E Q : Type 0} (P R : E → Type 0) (r : Result T E) → ((e : E) → P e → Q → R e) → IfErr r P → OnErr r Q → IfErr r R
+err_both P R (Ok x) f p q = tt
+err_both P R (Err e) f p q = f e p q
+
+-- what holds of a result under a premise holds of it with the premise
+pub ok_later : {T E A : Type 0} (P : Type 0) (r : Result T E) → (A → OnOk r P) → OnOk r (A → P)
+ok_later P (Ok x) f = f
+ok_later P (Err e) f = tt
+
+pub err_later : {T E A : Type 0} (P : Type 0) (r : Result T E) → (A → OnErr r P) → OnErr r (A → P)
+err_later P (Ok x) f = tt
+err_later P (Err e) f = f
 
 -- a lack of memory is a fault of the store
 pub starved : (fault : StoreFault) → IsNoMemory fault → IsStoreFault fault

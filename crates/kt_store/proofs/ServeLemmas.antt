@@ -1,5 +1,5 @@
 -- How the tables of a database serve the calls of a store.
-use Rattle.std.proofs.Common.{Result, Ok, Err, Bool, ◌≡◌, inl, ℕ, suc, List, [], ◌∷◌, ◌++◌, ◌<◌, None, length, IsErrAnd, refl, subst, sym, arith}
+use Rattle.std.proofs.Common.{Result, Ok, Err, IfErr, OnOk, OnErr, Bool, ◌≡◌, inl, ℕ, suc, List, [], ◌∷◌, ◌++◌, ◌<◌, None, length, IsErrAnd, refl, subst, sym, arith}
 use Rattle.kt_store.proofs.Common.{Trees, Ghosts, Held, state, State, HasCleanDisk, Survives, survives_then, survives_weaker, last_run, Entry, Run, IsStoreFault, KeepsRuns, OnlyReads, Changes, MayChange, Keeps, KeepsOne, new_run, with_entry, put_refusal, finish, finish_refusal, Serves, Agrees, Outlasts, changed_by, StandsFor, Leaves, StoreCall, Began, Put, Finished, Heads, Outline, Outputs, StoreFault}
 use Rattle.kt_store.specs.declared.result_store.CaseOutputs.{CaseOutputs}
 use Rattle.kt_store.specs.declared.result_store.RunHead.{RunHead}
@@ -137,6 +137,10 @@ module _ {S : Type 0} (g : Ghosts S) (old mid new : Held S) (kept : KeepsRuns g 
   put_failed fault failed more =
       serves g (Put number e (Err fault)) old new (λ runs has. more runs (kept runs has)) (old_clean g old mid new kept only _ _ may may_change) (λ runs has clean. inl failed) (written g old mid new kept only _ _ may may_change)
 
+  pub put_called : (r : Result (Unit {0}) StoreFault) → OnOk r (Changes g mid new Fits (with_entry number e)) → IfErr r IsStoreFault → OnErr r (KeepsRuns g mid new) → Serves (results g) (Put number e r) old new
+  put_called (Ok done) ok failed more = put_done ok
+  put_called (Err fault) ok failed more = put_failed fault failed more
+
 -- a run is finished after a look
 module _ {S : Type 0} (g : Ghosts S) (old mid new : Held S) (kept : KeepsRuns g old mid) (only : OnlyReads g old mid) (number : ℕ) (Fits : List Run → Type 0)
     (fits : (runs : List Run) → StandsFor (state g old) runs → HasCleanDisk (state g mid) → (finish_refusal runs number ≡ None) × Fits runs) (may_change : MayChange g mid new Fits (finish number)) where
@@ -150,3 +154,7 @@ module _ {S : Type 0} (g : Ghosts S) (old mid new : Held S) (kept : KeepsRuns g 
   pub finish_failed : (fault : StoreFault) → IsStoreFault fault → KeepsRuns g mid new → Serves (results g) (Finished number (Err fault)) old new
   finish_failed fault failed more =
       serves g (Finished number (Err fault)) old new (λ runs has. more runs (kept runs has)) (old_clean g old mid new kept only _ _ can may_change) (λ runs has clean. inl failed) (written g old mid new kept only _ _ can may_change)
+
+  pub finish_called : (r : Result (Unit {0}) StoreFault) → OnOk r (Changes g mid new Fits (finish number)) → IfErr r IsStoreFault → OnErr r (KeepsRuns g mid new) → Serves (results g) (Finished number r) old new
+  finish_called (Ok done) ok failed more = finish_done ok
+  finish_called (Err fault) ok failed more = finish_failed fault failed more

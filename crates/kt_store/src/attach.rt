@@ -43,8 +43,7 @@ pub(crate) fn create<S: Alter>(conn: &mut Connection<S>) -> Result<(), StoreFaul
         CREATE_PROPS,
         "INSERT INTO meta (name, value) VALUES ('schema', 2)",
     ];
-    commit(conn, &Texts { texts: &makes })?;
-    Ok(())
+    commit(conn, &Texts { texts: &makes })
 }
 
 /// Whether there is no table yet.
@@ -52,8 +51,7 @@ pub(crate) fn is_blank<S: Alter>(conn: &Connection<S>) -> bool
     ensures blank { result ≡ true → (state S.Store conn.now).now.schema.tables ≡ [] }
     ensures filled { result ≡ false → (state S.Store conn.now).now.schema.tables ≢ [] }
 {
-    let schema = conn.schema();
-    schema.tables.len() == 0
+    conn.schema().tables.len() == 0
 }
 
 /// The number of the schema.
@@ -161,8 +159,7 @@ pub(crate) fn renew<S: Alter>(conn: &mut Connection<S>) -> Result<(), StoreFault
         CREATE_PROPS,
         "UPDATE meta SET value = 2 WHERE name = 'schema'",
     ];
-    commit(conn, &Texts { texts: &raises })?;
-    Ok(())
+    commit(conn, &Texts { texts: &raises })
 }
 
 /// Takes the tables of a database that has some, and those of schema 1 to schema 2.

@@ -72,6 +72,5 @@ pub(crate) fn all_heads<S: Alter>(
         4,
         &[],
     )?;
-    let heads = heads_in(alloc, &rows)?;
-    Ok(heads)
+    heads_in(alloc, &rows)
 }

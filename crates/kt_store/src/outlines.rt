@@ -171,13 +171,12 @@ pub(crate) fn all_pairs<S: Alter>(
     if !pairs {
         return Ok(Vec::new(alloc));
     }
-    let rows = query(
+    query(
         conn,
         "SELECT position, name, value FROM props WHERE run = ?1 ORDER BY position, place",
         3,
         &[int(run)],
-    )?;
-    Ok(rows)
+    )
 }
 
 /// The rows of a run's entries without their outputs, by position.
@@ -193,13 +192,12 @@ pub(crate) fn all_rows<S: Alter>(conn: &mut Connection<S>, run: u64) -> Result<V
     ensures stands { KeepsRuns S.Store conn.old conn.new }
     ensures crash { OnlyReads S.Store conn.old conn.new }
 {
-    let rows = query(
+    query(
         conn,
         "SELECT position, program, case_name, kind, reason, started, millis FROM entries WHERE run = ?1 ORDER BY position",
         7,
         &[int(run)],
-    )?;
-    Ok(rows)
+    )
 }
 
 /// The entries of a run without their outputs, by position, with their pairs if they are asked for.
@@ -219,6 +217,5 @@ pub(crate) fn all_entries<S: Alter>(
 {
     let rows = all_rows(conn, run)?;
     let shown = all_pairs(conn, alloc, run, pairs)?;
-    let entries = entries_in(alloc, &rows, &shown)?;
-    Ok(entries)
+    entries_in(alloc, &rows, &shown)
 }

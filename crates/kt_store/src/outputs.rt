@@ -27,12 +27,9 @@ fn output_in(row: &Row, out: usize, err: usize) -> Result<Output, StoreFault>
         → IfErr result IsNoMemory }
     ensures failed { IfErr result IsStoreFault }
 {
-    let first = bytes_in(row, out)?;
-    let second = bytes_in(row, err)?;
-    Ok(Output {
-        out: first,
-        err: second,
-    })
+    let out = bytes_in(row, out)?;
+    let err = bytes_in(row, err)?;
+    Ok(Output { out, err })
 }
 
 /// The outputs in a row.
@@ -66,13 +63,12 @@ fn output_rows<S: Alter>(
     ensures stands { KeepsRuns S.Store conn.old conn.new }
     ensures crash { OnlyReads S.Store conn.old conn.new }
 {
-    let rows = query(
+    query(
         conn,
         "SELECT body_out, body_err, clean_out, clean_err FROM entries WHERE run = ?1 AND position = ?2 ORDER BY position",
         4,
         &[int(run), int(u64::from(position))],
-    )?;
-    Ok(rows)
+    )
 }
 
 /// The outputs of a run's entry at a position.
@@ -99,6 +95,5 @@ pub(crate) fn find_outputs<S: Alter>(
     if number != run {
         return Err(StoreFault::NoRun);
     }
-    let outputs = outputs_in(row)?;
-    Ok(outputs)
+    outputs_in(row)
 }

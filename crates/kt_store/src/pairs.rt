@@ -32,8 +32,7 @@ fn add_pair<S: Alter>(
             text(&pair.name),
             text(&pair.value),
         ],
-    )?;
-    Ok(())
+    )
 }
 
 /// Adds the first five of these pairs from a place on, inside a transaction.
@@ -78,8 +77,7 @@ fn add_five<S: Alter>(
             text(&fifth.name),
             text(&fifth.value),
         ],
-    )?;
-    Ok(())
+    )
 }
 
 /// Adds pairs one by one from a place on, inside a transaction.
@@ -127,6 +125,5 @@ pub(crate) fn add_pairs<S: Alter>(
         rest = after;
         place += 5;
     }
-    add_singly(tx, run, position, place, rest)?;
-    Ok(())
+    add_singly(tx, run, position, place, rest)
 }

@@ -69,8 +69,7 @@ pub(crate) fn fill<S: Alter>(
             blob(&entry.cleanup.err),
         ],
     )?;
-    add_pairs(tx, run, entry.position, entry.meta.as_slice())?;
-    Ok(())
+    add_pairs(tx, run, entry.position, entry.meta.as_slice())
 }
 
 /// An entry that is put into a run, with the text of its reason.
@@ -91,8 +90,7 @@ impl Batch for NewEntry<'_> {
         × IsStorable n.entry.now };
 
     fn fill<S: Alter>(&self, tx: &mut Transaction<'_, S>) -> Result<(), StoreFault> {
-        fill(tx, self.run, self.entry, self.reason)?;
-        Ok(())
+        fill(tx, self.run, self.entry, self.reason)
     }
 }
 
@@ -113,8 +111,7 @@ pub(crate) fn add_entry<S: Alter>(
     ensures crash { MayChange S.Store conn.old conn.new
         (CanAdd run entry.now) (with_entry run entry.now) }
 {
-    commit(conn, &NewEntry { run, entry, reason })?;
-    Ok(())
+    commit(conn, &NewEntry { run, entry, reason })
 }
 
 /// Asks whether the run takes the entry.

@@ -96,30 +96,25 @@ impl<S: Alter> ResultStore for Results<S> {
     fn put(&mut self, run: u64, entry: &Entry) -> Result<(), StoreFault> {
         let reason = reason_of(self.alloc, entry)?;
         check(&mut self.conn, run, entry)?;
-        add_entry(&mut self.conn, run, entry, &reason)?;
-        Ok(())
+        add_entry(&mut self.conn, run, entry, &reason)
     }
 
     fn finish(&mut self, run: u64) -> Result<(), StoreFault> {
         run_rows::check(&mut self.conn, run)?;
-        mark(&mut self.conn, run)?;
-        Ok(())
+        mark(&mut self.conn, run)
     }
 
     fn runs(&mut self) -> Result<Vec<RunHead>, StoreFault> {
-        let found = all_heads(&mut self.conn, self.alloc)?;
-        Ok(found)
+        all_heads(&mut self.conn, self.alloc)
     }
 
     fn outline(&mut self, run: u64, pairs: bool) -> Result<Vec<Entry>, StoreFault> {
         look(&mut self.conn, run)?;
-        let found = all_entries(&mut self.conn, self.alloc, run, pairs)?;
-        Ok(found)
+        all_entries(&mut self.conn, self.alloc, run, pairs)
     }
 
     fn outputs(&mut self, run: u64, position: u32) -> Result<CaseOutputs, StoreFault> {
-        let found = find_outputs(&mut self.conn, run, position)?;
-        Ok(found)
+        find_outputs(&mut self.conn, run, position)
     }
 }
 
@@ -146,7 +141,6 @@ impl<S: Start> Results<FileStore<FileFrom<S>>> {
         ensures closed { OnOk result (IsClosed self) }
         ensures failed { IfErr result IsStoreFault }
     {
-        close_file(self.detach())?;
-        Ok(())
+        close_file(self.detach())
     }
 }

@@ -65,8 +65,7 @@ pub(crate) fn count<S: Alter>(conn: &mut Connection<S>, run: u64) -> Result<u64,
     let Some(row) = rows.first() else {
         return Ok(0);
     };
-    let number = number_in(row, 0)?;
-    Ok(number)
+    number_in(row, 0)
 }
 
 /// Asks whether the run may be finished.
@@ -104,6 +103,5 @@ pub(crate) fn mark<S: Alter>(conn: &mut Connection<S>, run: u64) -> Result<(), S
         conn,
         "UPDATE runs SET finished = 1 WHERE id = ?1",
         &[int(run)],
-    )?;
-    Ok(())
+    )
 }

@@ -7,7 +7,9 @@ use crate::heads::heads_in;
 use crate::lookup::key;
 use crate::outlines::entries_in;
 use crate::outputs::outputs_in;
-use crate::store_fault::trees::{DAMAGED, Table, add_number, all_shown, rows_behind, rows_in};
+use crate::store_fault::trees::{
+    DAMAGED, Table, add_number, all_shown, number_row, rows_behind, rows_in,
+};
 use crate::{CaseOutputs, RunHead, StoreFault};
 use kt_base::Entry;
 use sqlite_exec::check::all_rows;
@@ -42,8 +44,7 @@ pub(crate) fn heads<S: Store>(store: &mut S, alloc: Global) -> Result<Vec<RunHea
 {
     let stored = all_rows(store, &mut Workspace::new(alloc), RUNS)?;
     let rows = all_shown(alloc, &stored, &[0, 2, 3, 4])?;
-    let heads = heads_in(alloc, &rows)?;
-    Ok(heads)
+    heads_in(alloc, &rows)
 }
 
 /// The entries of a run without their outputs, by position, with their pairs if they are asked for.
@@ -62,12 +63,10 @@ fn all_entries<S: Store>(
 {
     let rows = rows_in(store, alloc, &ENTRIES, run, &[2, 3, 4, 5, 6, 7, 8])?;
     if !pairs {
-        let entries = entries_in(alloc, &rows, &[])?;
-        return Ok(entries);
+        return entries_in(alloc, &rows, &[]);
     }
     let shown = rows_in(store, alloc, &PAIRS, run, &[2, 4, 5])?;
-    let entries = entries_in(alloc, &rows, &shown)?;
-    Ok(entries)
+    entries_in(alloc, &rows, &shown)
 }
 
 /// The same, of a run that is there.
@@ -88,8 +87,7 @@ pub(crate) fn outline<S: Store>(
     if !store.get(RUNS, number as i64, &mut row)? || number != run {
         return Err(StoreFault::NoRun);
     }
-    let found = all_entries(store, alloc, run, pairs)?;
-    Ok(found)
+    all_entries(store, alloc, run, pairs)
 }
 
 /// The outputs of a run's entry at a position.
@@ -102,15 +100,11 @@ pub(crate) fn find_outputs<S: Store>(
     ensures { Serves (readings S.Store) (Outputs run position result) store.old store.new }
 {
     let number = key(run);
-    let mut place = row::Row::new(alloc);
-    add_number(&mut place, number)?;
+    let mut place = number_row(alloc, number)?;
     add_number(&mut place, u64::from(position))?;
     let rows = rows_behind(store, alloc, &ENTRIES, &place, &[9, 10, 11, 12])?;
     match rows.first() {
-        Some(row) if number == run => {
-            let outputs = outputs_in(row)?;
-            Ok(outputs)
-        }
+        Some(row) if number == run => outputs_in(row),
         _ => Err(StoreFault::NoRun),
     }
 }

@@ -43,8 +43,7 @@ pub(crate) fn number_in(row: &Row, at: usize) -> Result<u64, StoreFault>
     ensures read { (n : ℕ) → column row.now at ≡ Int (pos n) → IfErr result IsNoMemory }
     ensures failed { IfErr result IsStoreFault }
 {
-    let number = value_in::<u64>(row, at)?;
-    Ok(number)
+    value_in::<u64>(row, at)
 }
 
 /// A number of a row, 0 to 4,294,967,295. Any other is refused.
@@ -55,6 +54,5 @@ pub(crate) fn small_in(row: &Row, at: usize) -> Result<u32, StoreFault>
         → IfErr result IsNoMemory }
     ensures failed { IfErr result IsStoreFault }
 {
-    let number = value_in::<u32>(row, at)?;
-    Ok(number)
+    value_in::<u32>(row, at)
 }

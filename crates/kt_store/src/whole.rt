@@ -66,6 +66,5 @@ pub fn entries<R: ResultStore>(
         ⊎ ((e ≡ StoreFault.NoRun) × (run_at runs run ≡ None))) }
 {
     let outline = results.outline(run, true)?;
-    let entries = all_with_outputs(alloc, results, run, outline)?;
-    Ok(entries)
+    all_with_outputs(alloc, results, run, outline)
 }

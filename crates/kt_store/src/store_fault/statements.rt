@@ -1,4 +1,4 @@
-ghost use Rattle.std.specs.Prelude.{◌≡◌, ◌<◌, IfOk, OnOk, OnErr, IfErr, nat_lt, length, []};
+ghost use Rattle.std.specs.Prelude.{◌≡◌, ◌<◌, Ok, IfOk, OnOk, OnErr, IfErr, nat_lt, length, []};
 ghost use Rattle.kt_store.specs.Common.{bound, IsPlain, understood, HasCleanDisk, Survives, IsUnchanged, state, column, Tells, CommitsNothing, KeepsRuns, OnlyReads, Asked, AreWide, HasColumns, MayShow, MayTell, ShowsOf, Told, Commits, CommitsLater, MayCommit, RunsOne, Undoes, Rests, IsNoMemory, IsStoreFault, image_at, IsOver, IsClosed, IsUnderstood, StandsFor, schema_2};
 
 use crate::StoreFault;
@@ -205,15 +205,23 @@ const NOT_OPENED: StoreFault = StoreFault::Store(FailedStatement(Cause::Reported
 fn unopened(error: &OpenError) -> StoreFault
     ensures { IsStoreFault result }
 {
-    let is_short = match error {
-        OpenError::OutOfMemory => true,
-        OpenError::Io(error) => error.kind() == ErrorKind::OutOfMemory,
-        OpenError::Busy | OpenError::HotJournal => false,
-    };
-    if is_short {
-        StoreFault::NoMemory(Shortage(Refusal))
-    } else {
-        NOT_OPENED
+    match error {
+        OpenError::OutOfMemory => StoreFault::NoMemory(Shortage(Refusal)),
+        OpenError::Io(error) if error.kind() == ErrorKind::OutOfMemory => {
+            StoreFault::NoMemory(Shortage(Refusal))
+        }
+        _ => NOT_OPENED,
+    }
+}
+
+/// What a call returned that gives back what it took if it fails.
+fn done<T: Drop, L: Drop>(returned: Result<T, (SqlError, L)>) -> Result<T, StoreFault>
+    ensures ok { IfOk result (λ it. returned ≡ Ok it) }
+    ensures failed { IfErr result IsStoreFault }
+{
+    match returned {
+        Ok(it) => Ok(it),
+        Err((error, _left)) => Err(fault_of(error)),
     }
 }
 
@@ -236,10 +244,7 @@ pub(crate) fn open_file<S: Start>(
     let Some(options) = options(rt, PAGES) else {
         return Err(NOT_OPENED);
     };
-    match Connection::open_files(rt.alloc(), files, options) {
-        Ok(connection) => Ok(connection),
-        Err((error, _left)) => Err(fault_of(error)),
-    }
+    done(Connection::open_files(rt.alloc(), files, options))
 }
 
 /// Closes a database. Afterwards the file alone has all; after an error it stands in the file and in its log.
@@ -249,10 +254,9 @@ pub(crate) fn close_file<S: Start>(
     ensures closed { OnOk result (IsClosed connection) }
     ensures failed { IfErr result IsStoreFault }
 {
-    match connection.close_files() {
-        Ok(_files) => Ok(()),
-        Err((error, _store)) => Err(fault_of(error)),
-    }
+    let files = done(connection.close_files())?;
+    drop(files);
+    Ok(())
 }
 
 pub(crate) fn has_rows(rows: &[Row]) -> bool

@@ -36,6 +36,27 @@ pub(crate) struct Table<'a> {
     pub(crate) blobs: &'a [usize],
 }
 
+/// A place of an index, and the row that it is of.
+struct Found {
+    place: row::Row,
+    row: row::Row,
+}
+
+impl Found {
+    fn new(alloc: Global) -> Found {
+        Found {
+            place: row::Row::new(alloc),
+            row: row::Row::new(alloc),
+        }
+    }
+}
+
+impl Drop for Found {
+    fn drop(self) {
+        let Found { place: _, row: _ } = self;
+    }
+}
+
 impl From<StoreError> for StoreFault {
     ghost from_gives = { λ _ fault. IsStoreFault fault };
 
@@ -56,6 +77,16 @@ pub(crate) fn add_number(key: &mut row::Row, number: u64) -> Result<(), NoMemory
     Ok(())
 }
 
+/// A key of one number.
+pub(crate) fn number_row(alloc: Global, number: u64) -> Result<row::Row, NoMemory>
+    requires { number < 2 ^ 63 }
+    ensures { IfOk result (λ key. key ≡ Int (pos number) ∷ []) }
+{
+    let mut key = row::Row::new(alloc);
+    add_number(&mut key, number)?;
+    Ok(key)
+}
+
 /// These columns of a stored row.
 pub(crate) fn columns_of(
     alloc: Global,
@@ -71,13 +102,18 @@ pub(crate) fn columns_of(
     Ok(values)
 }
 
-/// The same, as a query shows them.
-fn shown<T: FromRow>(alloc: Global, row: &row::Row, columns: &[usize]) -> Result<T, NoMemory>
-    ensures { IfOk result (λ shown. shown
-        ≡ T.FromRow.from_row_gives (in_columns columns.now row.now)) }
+/// Adds the same, as a query shows them.
+fn add_shown<T: FromRow>(
+    alloc: Global,
+    row: &row::Row,
+    columns: &[usize],
+    found: &mut Vec<T>,
+) -> Result<(), NoMemory>
+    ensures { OnOk result (found.new.items ≡ found.old.items
+        ++ T.FromRow.from_row_gives (in_columns columns.now row.now) ∷ []) }
 {
     let values = columns_of(alloc, row, columns)?;
-    Ok(T::from_row(alloc, &values)?)
+    add(found, T::from_row(alloc, &values)?)
 }
 
 /// The rowid that a place of an index ends with.
@@ -109,28 +145,28 @@ fn has_blobs(row: &row::Row, columns: &[usize]) -> bool {
         .all(|at| matches!(row.get(*at), ValueRef::Blob(_)))
 }
 
-/// Writes the next place of the cursor over `place` and its row over `row`, if one is left, and returns whether it
+/// Writes the next place of the cursor and its row over what was found, if one is left, and returns whether it
 /// begins with the key. A place of another row is damage, and so is a row of another form.
 fn next_row<S: Store>(
     store: &mut S,
     alloc: Global,
     table: &Table,
     key: &row::Row,
-    place: &mut row::Row,
-    row: &mut row::Row,
+    found: &mut Found,
 ) -> Result<bool, StoreFault>
     requires cursor { IsSome ((S.Store.view store.old).cursors 0) }
     requires table { (S.Store.view store.old).shape table.now.tree ≡ kind.Table }
-    ensures goes { IfOk result (λ found. IsClean (S.Store.view store.new)
+    ensures goes { IfOk result (λ is_ours. IsClean (S.Store.view store.new)
         → Goes key.now ((S.Store.view store.old).trees table.now.tree)
-        (left_of (S.Store.view store.old) 0) place.new row.new
-        (left_of (S.Store.view store.new) 0) found) }
+        (left_of (S.Store.view store.old) 0) found.new.place found.new.row
+        (left_of (S.Store.view store.new) 0) is_ours) }
     ensures live { OnOk result (IsSome ((S.Store.view store.new).cursors 0)) }
     ensures reads { OnOk result (IsClean (S.Store.view store.new)
         → OnlyReads (S.Store.view store.old) (S.Store.view store.new)) }
     ensures failed { IfErr result IsStoreFault }
     ensures looks { Looks S.Store store.old store.new }
 {
+    let Found { place, row } = found;
     if !store.next(0, place)? {
         return Ok(false);
     }
@@ -169,16 +205,15 @@ pub(crate) fn rows_behind<S: Store>(
         return Err(DAMAGED);
     }
     store.seek(0, table.index, key, Direction::Forward)?;
-    let mut place = row::Row::new(alloc);
-    let mut row = row::Row::new(alloc);
+    let mut found = Found::new(alloc);
     let mut rows = Vec::new(alloc);
     // A disk that lies could keep a cursor going, so the loop counts.
     'places: for _ in 0..u64::MAX {
         // The place behind is read too: it may be one of these that was damaged.
-        if !next_row(store, alloc, table, key, &mut place, &mut row)? {
+        if !next_row(store, alloc, table, key, &mut found)? {
             return Ok(rows);
         }
-        add(&mut rows, shown(alloc, &row, columns)?)?;
+        add_shown(alloc, &found.row, columns, &mut rows)?;
     }
     Err(DAMAGED)
 }
@@ -205,17 +240,13 @@ pub(crate) fn rows_in<S: Store>(
     if !are_shaped(store, table) {
         return Err(DAMAGED);
     }
-    let mut before = row::Row::new(alloc);
-    add_number(&mut before, run.saturating_sub(1))?;
+    let before = number_row(alloc, run.saturating_sub(1))?;
     store.seek(0, table.index, &before, Direction::Backward)?;
-    let mut place = row::Row::new(alloc);
-    let mut row = row::Row::new(alloc);
-    next_row(store, alloc, table, &before, &mut place, &mut row)?;
-    drop((before, place, row));
-    let mut key = row::Row::new(alloc);
-    add_number(&mut key, run)?;
-    let rows = rows_behind(store, alloc, table, &key, columns)?;
-    Ok(rows)
+    let mut found = Found::new(alloc);
+    next_row(store, alloc, table, &before, &mut found)?;
+    drop((before, found));
+    let key = number_row(alloc, run)?;
+    rows_behind(store, alloc, table, &key, columns)
 }
 
 /// These columns of each of these rows.
@@ -229,7 +260,7 @@ pub(crate) fn all_shown<T: FromRow>(
 {
     let mut found = Vec::new(alloc);
     for row in rows {
-        add(&mut found, shown(alloc, row, columns)?)?;
+        add_shown(alloc, row, columns, &mut found)?;
     }
     Ok(found)
 }

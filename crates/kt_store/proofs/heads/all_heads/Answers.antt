@@ -13,4 +13,4 @@ query-requires-clause-width g c = runs_select_is.3
 pub returns-clause-all : goal.returns-clause-all
 returns-clause-all g c runs has clean =
     let it = c.in_ok-rows.ensures.shown runs has clean in
-    c.in_ok-heads.ensures.heads runs (c.deref.ensures.value ∙ tells_heads (state g.S.Store it.mid) (state g.S.Store c.query.new.conn) runs c.in_ok-rows.rows.items it.stored it.shown)
+    c.heads_in.ensures.heads runs (c.deref.ensures.value ∙ tells_heads (state g.S.Store it.mid) (state g.S.Store c.query.new.conn) runs c.in_ok-rows.rows.items it.stored it.shown)

@@ -1,3 +1,4 @@
+use Rattle.std.proofs.lemmas.Result.{IfOk-weaker}
 use Rattle.std.proofs.Common.{◌∙◌, arith, map}
 use Rattle.kt_store.proofs.Common.{state, HasCleanDisk, survives_then, map-map, entries_of, run_at, with_pairs, without_outputs}
 use Rattle.kt_store.proofs.EntriesLemmas.{sound_of, up_of}
@@ -10,23 +11,14 @@ returns-clause-all g c runs has clean =
     let valid = c.in_ok-rows.ensures.valid runs has early in
     let es = entries_of (run_at runs c.args.run) in
     let pairs = c.args.pairs in
-    c.in_ok-entries.ensures.entries (map (with_pairs pairs) es) (still_sound pairs es (sound_of runs c.args.run valid)) (still_up pairs es (up_of runs c.args.run valid))
-    (c.deref.ensures.value ∙ c.in_ok-rows.ensures.all runs has early ∙ same_columns pairs es) (c.deref-2.ensures.value ∙ c.in_ok-shown.ensures.all runs (c.all_rows.ensures.stands runs has) clean)
-    ∙ map-map without_outputs (with_pairs pairs) es
+    IfOk-weaker c.entries_in.result _ _ (λ found e. e ∙ map-map without_outputs (with_pairs pairs) es) (c.entries_in.ensures.entries (map (with_pairs pairs) es) (still_sound pairs es (sound_of runs c.args.run valid)) (still_up pairs es (up_of runs c.args.run valid))
+    (c.deref.ensures.value ∙ c.in_ok-rows.ensures.all runs has early ∙ same_columns pairs es) (c.deref-2.ensures.value ∙ c.in_ok-shown.ensures.all runs (c.all_rows.ensures.stands runs has) clean))
 
 pub returns-in_err-shown-clause-stands : goal.returns-in_err-shown-clause-stands
 returns-in_err-shown-clause-stands g c runs has = c.all_pairs.ensures.stands runs (c.all_rows.ensures.stands runs has)
 
 pub returns-in_err-shown-clause-crash : goal.returns-in_err-shown-clause-crash
 returns-in_err-shown-clause-crash g c runs has =
-    survives_then (state g.S.Store c.args.conn.now) (state g.S.Store c.all_rows.new.conn) (state g.S.Store c.all_pairs.new.conn) (λ _. ⊥) (λ _. ⊥) (λ _. ⊥) (λ _ db none. none) (λ _ db none. none)
-    (c.all_rows.ensures.crash runs has) (c.all_pairs.ensures.crash runs (c.all_rows.ensures.stands runs has))
-
-pub returns-in_err-entries-clause-stands : goal.returns-in_err-entries-clause-stands
-returns-in_err-entries-clause-stands g c runs has = c.all_pairs.ensures.stands runs (c.all_rows.ensures.stands runs has)
-
-pub returns-in_err-entries-clause-crash : goal.returns-in_err-entries-clause-crash
-returns-in_err-entries-clause-crash g c runs has =
     survives_then (state g.S.Store c.args.conn.now) (state g.S.Store c.all_rows.new.conn) (state g.S.Store c.all_pairs.new.conn) (λ _. ⊥) (λ _. ⊥) (λ _. ⊥) (λ _ db none. none) (λ _ db none. none)
     (c.all_rows.ensures.crash runs has) (c.all_pairs.ensures.crash runs (c.all_rows.ensures.stands runs has))
 

@@ -1,3 +1,4 @@
+use Rattle.std.proofs.lemmas.Result.{IfOk-weaker}
 use Rattle.std.proofs.Common.{◌∙◌, ap, sym, map}
 use Rattle.kt_store.proofs.Common.{state, entries_of, run_at, pairs_shown, with_pairs}
 use Rattle.kt_store.proofs.SqlFacts.{pairs_select_is}
@@ -12,11 +13,11 @@ pub query-requires-clause-width : goal.query-requires-clause-width
 query-requires-clause-width g c = pairs_select_is.3
 
 pub returns-clause-all : goal.returns-clause-all
-returns-clause-all g c runs has clean =
-    let it = rw c.int.ensures at (c.in_ok-rows.ensures.shown runs has clean) in
-    tells_pairs (state g.S.Store it.mid) (state g.S.Store c.query.new.conn) runs c.args.run c.in_ok-rows.rows.items it.stored it.shown
+returns-clause-all g c runs has clean = IfOk-weaker c.query.result _ _ (λ rows are.
+    let it = rw c.int.ensures at are in
+    tells_pairs (state g.S.Store it.mid) (state g.S.Store c.query.new.conn) runs c.args.run rows.items it.stored it.shown
     ∙ all_shown (entries_of (run_at runs c.args.run))
-    ∙ ap (λ b. pairs_shown (map (with_pairs b) (entries_of (run_at runs c.args.run)))) (sym c.if-not-pairs.false)
+    ∙ ap (λ b. pairs_shown (map (with_pairs b) (entries_of (run_at runs c.args.run)))) (sym c.if-not-pairs.false)) (c.query.ensures.shown runs has clean)
 
 pub returns-then-not-pairs-clause-all : goal.returns-then-not-pairs-clause-all
 returns-then-not-pairs-clause-all g c runs has clean =

@@ -1,3 +1,4 @@
+use Rattle.std.proofs.lemmas.Result.{IfOk-weaker}
 use Rattle.kt_store.proofs.Common.{state}
 use Rattle.kt_store.proofs.SqlFacts.{outputs_select_is}
 use Rattle.kt_store.proofs.OutputsLemmas.{tells_outputs}
@@ -10,9 +11,9 @@ pub query-requires-clause-width : goal.query-requires-clause-width
 query-requires-clause-width g c = outputs_select_is.3
 
 pub returns-clause-all : goal.returns-clause-all
-returns-clause-all g c runs has clean =
-    let it = rw (c.int.ensures, c.int-2.ensures, c.from.ensures) at (c.in_ok-rows.ensures.shown runs has clean) in
-    tells_outputs (state g.S.Store it.mid) (state g.S.Store c.query.new.conn) runs c.args.run c.args.position c.in_ok-rows.rows.items it.stored it.shown
+returns-clause-all g c runs has clean = IfOk-weaker c.query.result _ _ (λ rows are.
+    let it = rw (c.int.ensures, c.int-2.ensures, c.from.ensures) at are in
+    tells_outputs (state g.S.Store it.mid) (state g.S.Store c.query.new.conn) runs c.args.run c.args.position rows.items it.stored it.shown) (c.query.ensures.shown runs has clean)
 
 pub returns-clause-valid : goal.returns-clause-valid
-returns-clause-valid g c runs has clean = (c.in_ok-rows.ensures.shown runs has clean).stored.tables.valid
+returns-clause-valid g c runs has clean = IfOk-weaker c.query.result _ _ (λ rows are. are.stored.tables.valid) (c.query.ensures.shown runs has clean)

@@ -1,27 +1,24 @@
+use Rattle.std.proofs.lemmas.Result.{on_ok_weaker, on_err_weaker}
 use Rattle.std.proofs.Common.{arith}
 use Rattle.kt_store.proofs.Common.{entry_statements, Tables, with_entry}
 use Rattle.kt_store.proofs.CommitLemmas.{undone_holds, commit_stands, commit_lasts, commit_crash}
-use Rattle.kt_store.proofs.FaultLemmas.{on_err}
+use Rattle.kt_store.proofs.FaultLemmas.{ok_later, err_later}
 use Rattle.kt_store.proofs.FillLemmas.{entry_made}
 use Rattle.kt_store.proofs.put.add_entry.Goals as goal
 
-pub returns-in_err-commit-clause-kept : goal.returns-in_err-commit-clause-kept
-returns-in_err-commit-clause-kept g c =
-    on_err c.from_residual.result (λ runs has. undone_holds g.S.Store (λ db. Tables db runs) c.args.conn.now c.commit.new.conn has (λ clean. omega (arith, clean, c.commit.ensures.crash.clean)) (λ clean. c.in_err-commit.ensures.undone clean))
-
-pub returns-in_err-commit-clause-crash : goal.returns-in_err-commit-clause-crash
-returns-in_err-commit-clause-crash g c runs has fits =
-    commit_crash g.S.Store (entry_statements c.args.run c.args.entry.now) c.args.conn.now c.commit.new.conn (with_entry c.args.run c.args.entry.now runs) c.commit.ensures.crash (entry_made g.S.Store runs c.args.entry.now c.args.run c.args.conn.now has fits)
+pub returns-clause-kept : goal.returns-clause-kept
+returns-clause-kept g c =
+    on_err_weaker c.commit.result (λ undone runs has. undone_holds g.S.Store (λ db. Tables db runs) c.args.conn.now c.commit.new.conn has (λ clean. omega (arith, clean, c.commit.ensures.crash.clean)) (λ clean. undone clean)) (err_later _ c.commit.result c.commit.ensures.undone)
 
 pub returns-clause-added : goal.returns-clause-added
-returns-clause-added g c = record {
+returns-clause-added g c = on_ok_weaker c.commit.result (λ done. record {
   stands = λ runs has fits.
       commit_stands g.S.Store (entry_statements c.args.run c.args.entry.now) c.args.conn.now c.commit.new.conn (with_entry c.args.run c.args.entry.now runs) c.commit.ensures.crash (entry_made g.S.Store runs c.args.entry.now c.args.run c.args.conn.now has fits)
-      (λ clean. c.in_ok-commit.ensures.done clean);
+      (λ clean. done clean);
   lasts = λ runs has fits.
       commit_lasts g.S.Store (entry_statements c.args.run c.args.entry.now) c.args.conn.now c.commit.new.conn (with_entry c.args.run c.args.entry.now runs) c.commit.ensures.crash (entry_made g.S.Store runs c.args.entry.now c.args.run c.args.conn.now has fits)
-      (λ db opened may. g.met.S.Store.settled c.commit.new.conn.store db opened may) (λ clean. c.in_ok-commit.ensures.done clean);
-}
+      (λ db opened may. g.met.S.Store.settled c.commit.new.conn.store db opened may) (λ clean. done clean);
+}) (ok_later _ c.commit.result c.commit.ensures.done)
 
 pub returns-clause-crash : goal.returns-clause-crash
 returns-clause-crash g c runs has fits =

@@ -1,3 +1,4 @@
+use Rattle.std.proofs.lemmas.Result.{IfOk-weaker}
 use Rattle.std.proofs.Common.{◌∙◌, pos, min, length, slice_get, sym, ap, arith}
 use Rattle.kt_store.proofs.Common.{option_copied, entries_of, run_at}
 use Rattle.kt_store.proofs.SqlFacts.{count_is}
@@ -18,8 +19,8 @@ query-requires-clause-width g c = count_is.3
 pub returns-clause-found : goal.returns-clause-found
 returns-clause-found g c runs has clean =
     let are = tells_count g.S.Store c.query.new.conn runs c.args.run c.in_ok-rows.rows.items (rw c.int.ensures at (c.in_ok-rows.ensures.shown runs has clean)) in
-    only_number (min (length (entries_of (run_at runs c.args.run))) most) c.in_ok-rows.rows.items c.in-Some.row.now c.in_ok-number.number are
-    (ap (λ l. slice_get l 0) (sym c.deref.ensures.value) ∙ sym c.first.ensures.value ∙ ap option_copied c.in-Some.is) c.in_ok-number.ensures.number
+    IfOk-weaker c.number_in.result _ _ (λ n is. only_number (min (length (entries_of (run_at runs c.args.run))) most) c.in_ok-rows.rows.items c.in-Some.row.now n are
+    (ap (λ l. slice_get l 0) (sym c.deref.ensures.value) ∙ sym c.first.ensures.value ∙ ap option_copied c.in-Some.is) is) c.number_in.ensures.number
 
 pub returns-in_default-clause-found : goal.returns-in_default-clause-found
 returns-in_default-clause-found g c runs has clean =

@@ -1,3 +1,5 @@
+use Rattle.std.proofs.lemmas.Result.{on_ok_weaker}
+use Rattle.kt_store.proofs.FaultLemmas.{ok_later}
 use Rattle.std.proofs.Common.{arith}
 use Rattle.kt_store.proofs.Common.{state, survives_weaker, Keeps, finish}
 use Rattle.kt_store.proofs.BeginLemmas.{leaves_commit}
@@ -5,19 +7,13 @@ use Rattle.kt_store.proofs.CloseLemmas.{told_finish, crash_finish}
 use Rattle.kt_store.proofs.run_rows.mark.Goals as goal
 
 pub returns-clause-marked : goal.returns-clause-marked
-returns-clause-marked g c = record {
+returns-clause-marked g c = on_ok_weaker c.tell.result (λ told. record {
   stands = λ runs has closes clean opened.
-      (told_finish g.S.Store c.args.conn.now c.tell.new.conn runs c.args.run has (λ k. omega (arith, k, c.tell.ensures.survives.clean)) closes clean (rw c.int.ensures at (c.in_ok-tell.ensures.told clean))).0;
+      (told_finish g.S.Store c.args.conn.now c.tell.new.conn runs c.args.run has (λ k. omega (arith, k, c.tell.ensures.survives.clean)) closes clean (rw c.int.ensures at (told clean))).0;
   lasts = λ runs has closes clean.
-      let done = told_finish g.S.Store c.args.conn.now c.tell.new.conn runs c.args.run has (λ k. omega (arith, k, c.tell.ensures.survives.clean)) closes clean (rw c.int.ensures at (c.in_ok-tell.ensures.told clean)) in
+      let done = told_finish g.S.Store c.args.conn.now c.tell.new.conn runs c.args.run has (λ k. omega (arith, k, c.tell.ensures.survives.clean)) closes clean (rw c.int.ensures at (told clean)) in
       leaves_commit g.S.Store c.tell.new.conn (finish c.args.run runs) (λ db opened may. g.met.S.Store.settled c.tell.new.conn.store db opened may) done.1 done.0 done.2 clean;
-}
-
-pub returns-in_err-tell-clause-crash : goal.returns-in_err-tell-clause-crash
-returns-in_err-tell-clause-crash g c runs has closes =
-    survives_weaker (state g.S.Store c.args.conn.now) (state g.S.Store c.tell.new.conn) _ (Keeps (finish c.args.run runs))
-    (crash_finish g.S.Store c.args.conn.now c.tell.new.conn runs c.args.run has (λ k. omega (arith, k, c.tell.ensures.survives.clean)) closes)
-    (rw c.int.ensures at c.tell.ensures.survives)
+}) (ok_later _ c.tell.result c.tell.ensures.told)
 
 pub returns-clause-crash : goal.returns-clause-crash
 returns-clause-crash g c runs has closes =

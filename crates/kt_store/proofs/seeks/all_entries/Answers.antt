@@ -1,3 +1,4 @@
+use Rattle.std.proofs.lemmas.Result.{IfOk-weaker}
 use Rattle.std.proofs.Common.{◌∙◌, map, flat_map}
 use Rattle.kt_store.proofs.Common.{map-map, entries_of, run_at, with_pairs, without_outputs, entry_row, pair_rows}
 use Rattle.sqlite_trees.specs.View.{IsClean}
@@ -14,9 +15,8 @@ returns-then-not-pairs-clause-all g c runs has clean =
     let es = entries_of (run_at runs n) in
     let pairs = c.args.pairs in
     let rows = seen_entries n es _ (c.in_ok-rows.ensures.all clean cs (map (entry_row n) es) (λ shaped up. places_of_run runs _ keeps shaped up n)) in
-    c.in_ok-entries.ensures.entries (map (with_pairs pairs) es) (still_sound pairs es (sound_of runs n keeps.3.valid)) (still_up pairs es (up_of runs n keeps.3.valid))
-    (c.deref.ensures.value ∙ rows ∙ same_columns pairs es) (rw c.if-not-pairs.true (none_shown es))
-    ∙ map-map without_outputs (with_pairs pairs) es
+    IfOk-weaker c.entries_in.result _ _ (λ found e. e ∙ map-map without_outputs (with_pairs pairs) es) (c.entries_in.ensures.entries (map (with_pairs pairs) es) (still_sound pairs es (sound_of runs n keeps.3.valid)) (still_up pairs es (up_of runs n keeps.3.valid))
+    (c.deref.ensures.value ∙ rows ∙ same_columns pairs es) (rw c.if-not-pairs.true (none_shown es)))
 
 pub returns-clause-all : goal.returns-clause-all
 returns-clause-all g c runs has clean =
@@ -28,6 +28,5 @@ returns-clause-all g c runs has clean =
     let pairs = c.args.pairs in
     let rows = seen_entries n es _ (c.in_ok-rows.ensures.all early cs (map (entry_row n) es) (λ shaped up. places_of_run runs _ keeps shaped up n)) in
     let shown = seen_pairs n es _ (c.in_ok-shown.ensures.all clean cs3 (flat_map (pair_rows n) es) (λ shaped up. places_of_pairs runs _ later shaped up n)) in
-    c.in_ok-entries-2.ensures.entries (map (with_pairs pairs) es) (still_sound pairs es (sound_of runs n keeps.3.valid)) (still_up pairs es (up_of runs n keeps.3.valid))
-    (c.deref-2.ensures.value ∙ rows ∙ same_columns pairs es) (c.deref-3.ensures.value ∙ rw c.if-not-pairs.false (shown ∙ all_shown es))
-    ∙ map-map without_outputs (with_pairs pairs) es
+    IfOk-weaker c.entries_in-2.result _ _ (λ found e. e ∙ map-map without_outputs (with_pairs pairs) es) (c.entries_in-2.ensures.entries (map (with_pairs pairs) es) (still_sound pairs es (sound_of runs n keeps.3.valid)) (still_up pairs es (up_of runs n keeps.3.valid))
+    (c.deref-2.ensures.value ∙ rows ∙ same_columns pairs es) (c.deref-3.ensures.value ∙ rw c.if-not-pairs.false (shown ∙ all_shown es)))

@@ -1,7 +1,7 @@
 use Rattle.std.proofs.Common.{rules, ◌∙◌, map, subst, sym, ap}
 use Rattle.kt_store.proofs.Common.{AreWide, Trees}
 use Rattle.kt_store.specs.Inner.Cursors.{Looks, in_columns}
-use Rattle.kt_store.proofs.AloneLemmas.{heads_looked}
+use Rattle.kt_store.proofs.AloneLemmas.{heads_agree, heads_looked}
 use Rattle.kt_store.proofs.SeenLemmas.{all_wide, head_places, seen_heads}
 use Rattle.kt_store.proofs.seeks.heads.Goals as goal
 
@@ -14,4 +14,4 @@ returns-clause-served g c =
     heads_looked g.S.Store _ _ looks _ (λ runs has clean.
     let keeps = has (looks.clean clean) (c.in_ok-stored.ensures.sound clean) in
     let shown = c.in_ok-rows.ensures ∙ ap (map (in_columns head_places)) (c.deref.ensures.value ∙ c.in_ok-stored.ensures.ok clean) in
-    c.in_ok-heads.ensures.heads runs (c.deref-2.ensures.value ∙ seen_heads runs _ _ (ap (λ (t : Trees). t 2) keeps.2 ∙ keeps.3.runs_are) shown))
+    heads_agree c.heads_in.result _ runs (c.heads_in.ensures.heads runs (c.deref-2.ensures.value ∙ seen_heads runs _ _ (ap (λ (t : Trees). t 2) keeps.2 ∙ keeps.3.runs_are) shown)) c.heads_in.ensures.failed)

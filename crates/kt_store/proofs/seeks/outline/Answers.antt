@@ -1,11 +1,11 @@
 use Rattle.std.proofs.lemmas.Int.{to_z_pos}
-use Rattle.std.proofs.Common.{rules, arith, w64, ◌≡◌, ◌∙◌, ℤ, true, false, Some, inr, map, refl, sym, ap, subst}
-use Rattle.kt_store.proofs.Common.{Trees, outlined, entries_of, run_at}
+use Rattle.std.proofs.Common.{rules, arith, w64, ◌≡◌, ◌∙◌, ℤ, true, false, Some, inr, refl, sym, ap, subst}
+use Rattle.kt_store.proofs.Common.{Trees, run_at}
 use Rattle.sqlite_trees.specs.View.{IsClean, Finds}
 use Rattle.kt_store.specs.Inner.Cursors.{Looks}
 use Rattle.kt_store.proofs.OutputsLemmas.{no_run, past_run}
 use Rattle.kt_store.proofs.SeenLemmas.{still_has, there_is, there_is_none}
-use Rattle.kt_store.proofs.AloneLemmas.{looks_then, outline_looked}
+use Rattle.kt_store.proofs.AloneLemmas.{looks_then, outline_agree, outline_looked}
 use Rattle.kt_store.proofs.seeks.outline.Goals.{then-not-branch-via-then-not-branch, then-not-branch-via-else-not-branch+then-number-run}
 use Rattle.kt_store.proofs.seeks.outline.Goals as goal
 
@@ -36,4 +36,4 @@ returns g c =
     let one = subst (λ (id : ℤ). Finds ((g.S.Store.view c.args.store.now).trees 2) id c.get.new.row true) (to_z_pos w64 n (omega (arith, c.key-number.ensures.low))) (rw c.if-not-branch.false at (c.in_ok-get.ensures.ok early)) in
     let found = there_is runs n _ c.get.new.row keeps.3.valid.numbered (ap (λ (t : Trees). t 2) keeps.2 ∙ keeps.3.runs_are) one in
     let is : run_at runs c.args.run ≡ Some found.0 = ap (run_at runs) (sym c.if-number-run.false) ∙ found.1 in
-    (found.0, is, c.in_ok-found.ensures.all runs (still_has g.S.Store _ _ looks runs has) clean ∙ ap (λ o. map (outlined c.args.pairs) (entries_of o)) is))
+    outline_agree c.all_entries.result _ runs c.args.run c.args.pairs found.0 is (c.all_entries.ensures.all runs (still_has g.S.Store _ _ looks runs has) clean) c.all_entries.ensures.failed)

@@ -1,6 +1,6 @@
-use Rattle.std.proofs.Common.{Ok, inl, refl}
+use Rattle.std.proofs.Common.{inl, refl}
 use Rattle.kt_store.proofs.Common.{Put, CanAdd}
-use Rattle.kt_store.proofs.ServeLemmas.{failed_at, seen_at, survives_self, put_refused, put_done, put_failed}
+use Rattle.kt_store.proofs.ServeLemmas.{failed_at, seen_at, survives_self, put_refused, put_called}
 use Rattle.kt_store.proofs.FaultLemmas.{starved}
 use Rattle.kt_store.proofs.results.ResultsResultStore.put.Goals as goal
 
@@ -14,12 +14,7 @@ returns-in_err-check g c =
     failed_at g.S.Store (λ r. Put c.args.run c.args.entry.now r) c.self.inside.conn c.args.self.now c.check.new.conn c.self.view_is c.from_residual-in_err-check.result c.in_err-check.field-0.0 c.from_residual-in_err-check.ensures.1
     (put_refused g.S.Store c.self.inside.conn c.check.new.conn c.check.ensures.stands c.check.ensures.crash _ c.args.run c.args.entry.now (λ runs has clean. c.in_err-check.ensures.refused runs has clean))
 
-pub returns-in_err-add_entry : goal.returns-in_err-add_entry
-returns-in_err-add_entry g c =
-    failed_at g.S.Store (λ r. Put c.args.run c.args.entry.now r) c.self.inside.conn c.args.self.now c.add_entry.new.conn c.self.view_is c.from_residual-in_err-add_entry.result c.in_err-add_entry.field-0.0 c.from_residual-in_err-add_entry.ensures.1
-    (put_failed g.S.Store c.self.inside.conn c.check.new.conn c.add_entry.new.conn c.check.ensures.stands c.check.ensures.crash c.args.run c.args.entry.now (CanAdd c.args.run c.args.entry.now) (λ runs has clean. c.in_ok-check.ensures.taken runs has clean c.in_ok-reason.ensures.passed) c.add_entry.ensures.crash _ c.in_err-add_entry.ensures.failed c.in_err-add_entry.ensures.kept)
-
 pub returns : goal.returns
 returns g c =
-    seen_at g.S.Store (Put c.args.run c.args.entry.now (Ok tt)) c.self.inside.conn c.args.self.now c.add_entry.new.conn c.self.view_is
-    (put_done g.S.Store c.self.inside.conn c.check.new.conn c.add_entry.new.conn c.check.ensures.stands c.check.ensures.crash c.args.run c.args.entry.now (CanAdd c.args.run c.args.entry.now) (λ runs has clean. c.in_ok-check.ensures.taken runs has clean c.in_ok-reason.ensures.passed) c.add_entry.ensures.crash c.in_ok-add_entry.ensures.added)
+    seen_at g.S.Store _ c.self.inside.conn c.args.self.now c.add_entry.new.conn c.self.view_is
+    (put_called g.S.Store c.self.inside.conn c.check.new.conn c.add_entry.new.conn c.check.ensures.stands c.check.ensures.crash c.args.run c.args.entry.now (CanAdd c.args.run c.args.entry.now) (λ runs has clean. c.in_ok-check.ensures.taken runs has clean c.in_ok-reason.ensures.passed) c.add_entry.ensures.crash c.add_entry.result c.add_entry.ensures.added c.add_entry.ensures.failed c.add_entry.ensures.kept)

@@ -1,6 +1,6 @@
 use Rattle.kt_store.proofs.store_fault.statements.close_file.Goals as goal
 
-pub returns-in-Ok-clause-closed : goal.returns-in-Ok-clause-closed
-returns-in-Ok-clause-closed g c =
-    let it = c.in-Ok.ensures.ok in
-    record { last = it.0; ended = it.2; files = c.in-Ok._files; own = it.1; copied = c.in-Ok.ensures.copied }
+pub returns-clause-closed : goal.returns-clause-closed
+returns-clause-closed g c =
+    let it = rw c.in_ok-files.ensures.ok at c.close_files.ensures.ok in
+    record { last = it.0; ended = it.2; files = c.in_ok-files.files; own = it.1; copied = rw c.in_ok-files.ensures.ok at c.close_files.ensures.copied }

@@ -1,3 +1,4 @@
+use Rattle.std.proofs.lemmas.Result.{IfOk-weaker}
 use Rattle.std.proofs.Common.{ℕ, Bool, cond, List, ap₂, subst}
 use Rattle.sqlite_disk.specs.Events.{Event, replay}
 use Rattle.sqlite_wal.specs.Recovery.{Image}
@@ -11,9 +12,9 @@ image log db = record { log = log; db = db }
 abbrev seen : List ℕ → List ℕ → Bool → List Event → List ℕ
 seen log db is_log history = (replay (cond is_log log db) history).seen
 
-pub returns-in-Ok-open_files-clause-opened : goal.returns-in-Ok-open_files-clause-opened
-returns-in-Ok-open_files-clause-opened g c clean =
+pub returns-clause-opened : goal.returns-clause-opened
+returns-clause-opened g c = IfOk-weaker c.done.result _ _ (λ it ok clean.
     let (log, db) = c.in-Ok.ensures.fresh in
-    let found = c.in-Ok-open_files.ensures.found clean in
+    let found = (rw ok at c.open_files.ensures.found) clean in
     let same = ap₂ image (ap₂ (seen g.S.Start.log g.S.Start.db) log.0 log.1) (ap₂ (seen g.S.Start.log g.S.Start.db) db.0 db.1) in
-    (c.in-Ok-open_files.ensures.opened clean, subst (λ i. FindsIn i (file_state c.in-Ok-open_files.connection)) same (record { holds = found.holds; reads = found.reads }))
+    ((rw ok at c.open_files.ensures.opened) clean, subst (λ i. FindsIn i (file_state it)) same (record { holds = found.holds; reads = found.reads }))) c.done.ensures.ok
