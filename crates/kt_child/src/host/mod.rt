@@ -26,5 +26,8 @@ pub(crate) fn fault_of(error: &io::Error) -> OsFault
 pub(crate) fn or_fault<T: Drop>(answer: io::Result<T>) -> Result<T, OsFault>
     ensures { MatchResult result (λ value. answer ≡ Ok value) (λ _. IsErr answer) }
 {
-    answer.map_err(|error| fault_of(&error))
+    match answer {
+        Ok(value) => Ok(value),
+        Err(error) => Err(fault_of(&error)),
+    }
 }
