@@ -68,17 +68,22 @@ pub(crate) fn spawning(
         purpose.case_name,
     )?;
     drop(directory);
+    let dir = paths.dir.copy()?;
+    let work = paths.work.copy()?;
     let (out, err) = output_paths(case.role, paths);
+    let out = out.copy()?;
+    let err = err.copy()?;
+    let env = env_plan(alloc, case.interface, purpose.variables, &paths.work)?;
     Ok(Spawning {
         child: case.child(),
         limit: purpose.limit,
         program,
         words,
-        dir: paths.dir.copy()?,
-        work: paths.work.copy()?,
-        out: out.copy()?,
-        err: err.copy()?,
-        env: env_plan(alloc, case.interface, purpose.variables, &paths.work)?,
+        env,
+        dir,
+        work,
+        out,
+        err,
     })
 }
 

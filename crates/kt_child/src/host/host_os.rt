@@ -141,13 +141,8 @@ impl<R: Processes + Files<File = File> + Clock + AllocGlobal + Clone + Drop> Os 
         let second = children::wants_errors(&self.children, child);
         match create_output(&self.rt, path.as_str(), second, self.narrow) {
             Ok(file) => {
-                children::keep_output(
-                    &mut self.children,
-                    child,
-                    self.limit,
-                    file,
-                    &self.rt,
-                ).map_err(OsFault::Memory)
+                children::keep_output(&mut self.children, child, self.limit, file, &self.rt)?;
+                Ok(())
             }
             Err(error) => {
                 drop(children::take_out(&mut self.children, child));

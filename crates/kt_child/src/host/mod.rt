@@ -19,7 +19,10 @@ use std::io;
 pub(crate) fn fault_of(error: &io::Error) -> OsFault
     ensures { IsFaultOf (error_kind error.now) result }
 {
-    NoMemory::in_error(error).map_or(OsFault::Failed, OsFault::Memory)
+    match NoMemory::in_error(error) {
+        Some(refusal) => OsFault::Memory(refusal),
+        None => OsFault::Failed,
+    }
 }
 
 /// A result of the library, with that fault.
