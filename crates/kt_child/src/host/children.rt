@@ -36,7 +36,10 @@ pub(crate) fn take_out<P: OpenProcess + Drop>(
 pub(crate) fn wants_errors<P: OpenProcess + Drop>(children: &Children<P>, child: Child) -> bool
     ensures { IsTrue result → stand_in children.now.entries child ≡ None }
 {
-    children.get(&child).is_some_and(|held| held.wants_errors())
+    match children.get(&child) {
+        Some(held) => held.wants_errors(),
+        None => false,
+    }
 }
 
 /// Keeps an opened file: as the errors of the child whose output is open, else as the output of a new child.
@@ -84,7 +87,12 @@ pub(crate) fn is_any_late<P: OpenProcess + Drop, C: Clock>(
     let Ok(now) = Instant::now(clock) else {
         return false;
     };
-    children.values().any(|held| held.is_late_at(now))
+    for held in children.values() {
+        if held.is_late_at(now) {
+            return true;
+        }
+    }
+    false
 }
 
 /// How a child ended, if it has. While some child is heard late, another may be told as running without a look.

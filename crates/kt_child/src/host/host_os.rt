@@ -54,11 +54,11 @@ fn polled(status: ExitStatus) -> Result<Polled, OsFault>
     ensures { IsPolledOf (status_bits status) result }
 {
     if let Some(code) = status.code() {
-        let code = u8::try_from(code).map_err(|_| OsFault::Failed)?;
+        let code = u8::try_from(code).or(Err(OsFault::Failed))?;
         return Ok(Polled::Exited(code));
     }
     if let Some(signal) = status.signal() {
-        let signal = u8::try_from(signal).map_err(|_| OsFault::Failed)?;
+        let signal = u8::try_from(signal).or(Err(OsFault::Failed))?;
         return Ok(Polled::Signaled(signal, has_core(status)));
     }
     Err(OsFault::Failed)
@@ -141,13 +141,8 @@ impl<R: Processes + Files<File = File> + Clock + AllocGlobal + Clone + Drop> Os 
         let second = children::wants_errors(&self.children, child);
         match create_output(&self.rt, path.as_str(), second, self.narrow) {
             Ok(file) => {
-                children::keep_output(
-                    &mut self.children,
-                    child,
-                    self.limit,
-                    file,
-                    &self.rt,
-                ).map_err(OsFault::Memory)
+                children::keep_output(&mut self.children, child, self.limit, file, &self.rt)?;
+                Ok(())
             }
             Err(error) => {
                 drop(children::take_out(&mut self.children, child));
@@ -226,7 +221,7 @@ impl<R: Processes + Files<File = File> + Clock + AllocGlobal + Clone + Drop> Os 
     fn now(&mut self) -> Result<u64, OsFault> {
         let now = or_fault(SystemTime::now(&self.rt))?;
         match now.duration_since(SystemTime::UNIX_EPOCH) {
-            Ok(since) => u64::try_from(since.as_millis()).map_err(|_| OsFault::Failed),
+            Ok(since) => u64::try_from(since.as_millis()).or(Err(OsFault::Failed)),
             Err(_) => Err(OsFault::Failed),
         }
     }

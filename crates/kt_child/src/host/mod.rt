@@ -19,12 +19,18 @@ use std::io;
 pub(crate) fn fault_of(error: &io::Error) -> OsFault
     ensures { IsFaultOf (error_kind error.now) result }
 {
-    NoMemory::in_error(error).map_or(OsFault::Failed, OsFault::Memory)
+    match NoMemory::in_error(error) {
+        Some(refusal) => OsFault::Memory(refusal),
+        None => OsFault::Failed,
+    }
 }
 
 /// A result of the library, with that fault.
 pub(crate) fn or_fault<T: Drop>(answer: io::Result<T>) -> Result<T, OsFault>
     ensures { MatchResult result (λ value. answer ≡ Ok value) (λ _. IsErr answer) }
 {
-    answer.map_err(|error| fault_of(&error))
+    match answer {
+        Ok(value) => Ok(value),
+        Err(error) => Err(fault_of(&error)),
+    }
 }

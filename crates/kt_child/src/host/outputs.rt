@@ -39,9 +39,10 @@ pub(crate) fn create_directory<R: Files>(rt: &R, path: &str, narrow: bool) -> io
 /// Makes a first directory, and returns whether the umask is narrow: whether it takes a right from the owner.
 fn create_first<R: Files>(rt: &R, path: &str) -> io::Result<bool> {
     create_directory(rt, path, false)?;
-    let made = fs::symlink_metadata(rt, path);
-    if made.is_ok_and(|made| made.permissions().mode() & DIRECTORY_MODE == DIRECTORY_MODE) {
-        return Ok(false);
+    if let Ok(made) = fs::symlink_metadata(rt, path) {
+        if made.permissions().mode() & DIRECTORY_MODE == DIRECTORY_MODE {
+            return Ok(false);
+        }
     }
     give_rights(rt, path)?;
     Ok(true)

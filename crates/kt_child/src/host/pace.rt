@@ -68,13 +68,6 @@ fn is_late(limit: u64, told: u64, millis: u128) -> bool
     u128::from(told) < u128::from(limit) * 100 && due < millis
 }
 
-/// Whether one more answer `running` is of the first half.
-fn is_free(limit: u64, told: u64) -> bool
-    ensures { IsTrue result ↔ IsFree limit told }
-{
-    u128::from(told) + 1 <= u128::from(limit) * 50
-}
-
 impl Pace {
     /// The pace of a child that begins to run.
     pub(crate) fn begun<C: Clock>(limit: u64, clock: &C) -> Pace
@@ -107,7 +100,7 @@ impl Pace {
     pub(crate) fn is_free(&self) -> bool
         ensures { IsTrue result ↔ IsFree self.now.limit self.now.told }
     {
-        is_free(self.limit, self.told)
+        u128::from(self.told) + 1 <= u128::from(self.limit) * 50
     }
 
     /// Whether one more answer `running` would come too early at this time.

@@ -58,20 +58,13 @@ fn path_below(alloc: Global, root: &Text, number: u64, name: &str) -> Result<Tex
 pub fn workdir_plan(alloc: Global, root: &Text, number: u64) -> Result<Paths, NoMemory>
     ensures { IfOk result (λ paths. paths ≡ paths_of root.now number) }
 {
-    let dir = attempt_path(alloc, root, number)?;
-    let work = path_below(alloc, root, number, "work")?;
-    let result_file = path_below(alloc, root, number, "result")?;
-    let out = path_below(alloc, root, number, "out")?;
-    let err = path_below(alloc, root, number, "err")?;
-    let cleanup_out = path_below(alloc, root, number, "cleanup.out")?;
-    let cleanup_err = path_below(alloc, root, number, "cleanup.err")?;
     Ok(Paths {
-        dir,
-        work,
-        result: result_file,
-        out,
-        err,
-        cleanup_out,
-        cleanup_err,
+        dir: attempt_path(alloc, root, number)?,
+        work: path_below(alloc, root, number, "work")?,
+        result: path_below(alloc, root, number, "result")?,
+        out: path_below(alloc, root, number, "out")?,
+        err: path_below(alloc, root, number, "err")?,
+        cleanup_out: path_below(alloc, root, number, "cleanup.out")?,
+        cleanup_err: path_below(alloc, root, number, "cleanup.err")?,
     })
 }
