@@ -240,7 +240,7 @@ BODY
 rule 'says that a file could not be read' lines \
   '(Claim|TapFault|ListBytes|ReadEnd|Self)::Unreadable($|[^ ]| [^=])' <<'PLACES'
 # A part that is missing after another one, and an empty one that others follow.
-kt_child/src/ending/parts.rt: Some(ReadEnd::Unreadable)
+kt_child/src/ending/parts.rt: FileRead::Missing => Some(ReadEnd::Unreadable),
 kt_child/src/ending/parts.rt: return Some(ReadEnd::Unreadable);
 # A read that failed, and bytes for which memory was refused.
 kt_child/src/ending/parts.rt: Err(_) => Some(ReadEnd::Unreadable),
@@ -249,9 +249,8 @@ kt_child/src/ending/ends.rt: Ok(FileRead::Missing) | Err(_) => ListBytes::Unread
 # What is made of these, and of readers that were refused memory.
 kt_child/src/ending/gathering.rt: Err(_) => Claim::Unreadable,
 kt_child/src/ending/gathering.rt: Err(_) => Tap::Invalid(TapFault::Unreadable),
-kt_child/src/ending/gathering.rt: ReadEnd::Missing => Tap::Invalid(TapFault::Unreadable),
+kt_child/src/ending/gathering.rt: ReadEnd::Missing | ReadEnd::Unreadable => Tap::Invalid(TapFault::Unreadable),
 kt_child/src/ending/gathering.rt: ReadEnd::Unreadable => Claim::Unreadable,
-kt_child/src/ending/gathering.rt: ReadEnd::Unreadable => Tap::Invalid(TapFault::Unreadable),
 PLACES
 body kt_child/src/ending/parts.rt 'FileRead::Part(bytes, follows) => match hand(reader, &bytes) {' <<'BODY'
 FileRead::Part(bytes, _) if bytes.as_slice().last() == Some(&b'\r') => Some(ReadEnd::Unreadable),
@@ -267,7 +266,7 @@ rule 'says that a call of the host failed' lines \
 # What an error of the system is called.
 kt_child/src/host/mod.rt: None => OsFault::Failed,
 kt_child/src/host/reads.rt: Err(_) => return Err(ReadFault::Failed),
-kt_child/src/host/reads.rt: Err(_fault) => return Err(OsFault::Failed),
+kt_child/src/host/reads.rt: return Err(OsFault::Failed);
 kt_child/src/host/reads.rt: ErrorKind::NotFound => Ok(FileRead::Missing),
 kt_child/src/host/reads.rt: _ => Err(OsFault::Failed),
 kt_cli/src/host/host_machine.rt: ErrorKind::NotFound => ReadFault::Missing,
@@ -291,10 +290,10 @@ kt_child/src/host/host_child.rt: return Err(OsFault::Failed);
 # A status that is none, a directory that is left, and a clock before 1970 or past what can be told.
 kt_child/src/host/host_os.rt: Err(OsFault::Failed)
 kt_child/src/host/host_os.rt: Err(_) => Err(OsFault::Failed),
-kt_child/src/host/host_os.rt: Ok(since) => u64::try_from(since.as_millis()).map_err(|_| OsFault::Failed),
+kt_child/src/host/host_os.rt: Ok(since) => u64::try_from(since.as_millis()).or(Err(OsFault::Failed)),
 kt_child/src/host/host_os.rt: if gone { Ok(()) } else { Err(OsFault::Failed) }
-kt_child/src/host/host_os.rt: let code = u8::try_from(code).map_err(|_| OsFault::Failed)?;
-kt_child/src/host/host_os.rt: let signal = u8::try_from(signal).map_err(|_| OsFault::Failed)?;
+kt_child/src/host/host_os.rt: let code = u8::try_from(code).or(Err(OsFault::Failed))?;
+kt_child/src/host/host_os.rt: let signal = u8::try_from(signal).or(Err(OsFault::Failed))?;
 # A writer that has failed fails again.
 kt_cli/src/output/line_output.rt: io::Error::from(ErrorKind::BrokenPipe)
 PLACES

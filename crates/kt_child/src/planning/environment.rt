@@ -6,19 +6,26 @@ use crate::planning::words::{joined, push_text};
 use kt_base::{Interface, Items, NoMemory, Text, Variable, Variables};
 use std::alloc::Global;
 
+/// The variables that choose a language.
+const LANGUAGE: [&str; 8] = [
+    "LANG",
+    "LC_ALL",
+    "LC_COLLATE",
+    "LC_CTYPE",
+    "LC_MESSAGES",
+    "LC_MONETARY",
+    "LC_NUMERIC",
+    "LC_TIME",
+];
+
 /// Appends the names of the variables that no child gets: those that choose a language.
 fn push_removed(alloc: Global, names: &mut Items<Text>) -> Result<(), NoMemory>
     requires { names.old ≡ [] }
     ensures { OnOk result (names.new ≡ removed_names) }
 {
-    push_text(alloc, names, "LANG")?;
-    push_text(alloc, names, "LC_ALL")?;
-    push_text(alloc, names, "LC_COLLATE")?;
-    push_text(alloc, names, "LC_CTYPE")?;
-    push_text(alloc, names, "LC_MESSAGES")?;
-    push_text(alloc, names, "LC_MONETARY")?;
-    push_text(alloc, names, "LC_NUMERIC")?;
-    push_text(alloc, names, "LC_TIME")?;
+    for name in &LANGUAGE {
+        push_text(alloc, names, name)?;
+    }
     Ok(())
 }
 

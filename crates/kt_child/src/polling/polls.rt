@@ -112,11 +112,9 @@ pub(crate) fn wait<O: Os>(os: &mut O, children: &mut [Watched]) -> Over
     ensures same { length children.new ≡ length children.old }
 {
     'turns: loop {
-        match turn(os, children) {
-            Some(over) => return over,
-            None => {
-                let _ = os.pause();
-            }
+        if let Some(over) = turn(os, children) {
+            return over;
         }
+        let _ = os.pause();
     }
 }

@@ -15,15 +15,15 @@ pub turns-smaller : goal.turns-smaller
 turns-smaller g c =
     let P : List Watched → Type 0 = λ t. first_left t < first_left c.turns.children in
     let some : 0 < length c.turns.children = omega arith in
-    subst P (sym (c.in-None.ensures.went_on refl)) (turn_falls c.turns.children some c.turns.invariant.on)
+    subst P (sym (c.in_default.ensures.went_on refl)) (turn_falls c.turns.children some c.turns.invariant.on)
 
 pub turns-preserved : goal.turns-preserved
 turns-preserved g c =
     let P : List Watched → Type 0 = λ t. Waiting g.O.Os.leads c.args.os.now c.args.children.now c.pause.new.self t in
     record {
       waiting =
-          subst P (sym (c.in-None.ensures.went_on refl))
+          subst P (sym (c.in_default.ensures.went_on refl))
           (waiting_more g.O.Os.leads c.args.os.now c.turns.os c.turn.new.os c.pause.new.self c.args.children.now c.turns.children
-          (is_ok c.pause.result) c.turns.invariant.waiting (c.in-None.ensures.none refl) c.pause.ensures);
+          (is_ok c.pause.result) c.turns.invariant.waiting (c.in_default.ensures.none refl) c.pause.ensures);
       on = c.turn.ensures.on;
     }
