@@ -15,7 +15,7 @@ loop-entry-preserved g c =
           let stood = v.reads.stands runs h in
           let f = v.filled runs es h (c.with_outputs.ensures.reads.earlier runs stood s) at outline in
           let n = first_of (run_at runs c.args.run) f.0 _ _ _ f.1 f.2 is in
-          (n.1, n.4, n.6, with_next so_far _ f.0 n.1 es c.in_ok-whole.whole n.0 c.in_ok-add.ensures.added (c.in_ok-whole.ensures.filled runs n.0 stood s n.3 n.5) n.2 f.3);
+          (n.1, n.4, n.6, with_next so_far c.add.new.items.items f.0 n.1 es c.in_ok-whole.whole n.0 c.in_ok-add.ensures.added (c.in_ok-whole.ensures.filled runs n.0 stood s n.3 n.5) n.2 f.3);
     }
 
 pub returns-in_err-whole-clause-failed : goal.returns-in_err-whole-clause-failed
