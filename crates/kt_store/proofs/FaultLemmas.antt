@@ -30,6 +30,19 @@ pub err_later : {T E A : Type 0} (P : Type 0) (r : Result T E) → (A → OnErr 
 err_later P (Ok x) f = tt
 err_later P (Err e) f = f
 
+pub fault_later : {T E A : Type 0} (P : E → Type 0) (r : Result T E) → (A → IfErr r P) → IfErr r (λ e. A → P e)
+fault_later P (Ok x) f = tt
+fault_later P (Err e) f = f
+
+-- the same of premises that name something
+pub ok_of : {T E A : Type 0} (B C P : A → Type 0) (r : Result T E) → ((a : A) → B a → C a → OnOk r (P a)) → OnOk r ((a : A) → B a → C a → P a)
+ok_of B C P (Ok x) f = f
+ok_of B C P (Err e) f = tt
+
+pub fault_of : {T E A : Type 0} (B C : A → Type 0) (P : A → E → Type 0) (r : Result T E) → ((a : A) → B a → C a → IfErr r (P a)) → IfErr r (λ e. (a : A) → B a → C a → P a e)
+fault_of B C P (Ok x) f = tt
+fault_of B C P (Err e) f = f
+
 -- a lack of memory is a fault of the store
 pub starved : (fault : StoreFault) → IsNoMemory fault → IsStoreFault fault
 starved (NoMemory refusal) h = tt

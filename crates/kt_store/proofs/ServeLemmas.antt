@@ -1,5 +1,5 @@
 -- How the tables of a database serve the calls of a store.
-use Rattle.std.proofs.Common.{Result, Ok, Err, IfErr, OnOk, OnErr, Bool, ◌≡◌, inl, ℕ, suc, List, [], ◌∷◌, ◌++◌, ◌<◌, None, length, IsErrAnd, refl, subst, sym, arith}
+use Rattle.std.proofs.Common.{Result, Ok, Err, IfOk, IfErr, OnOk, OnErr, Bool, ◌≡◌, inl, ℕ, suc, List, [], ◌∷◌, ◌++◌, ◌<◌, None, length, IsErrAnd, refl, subst, sym, arith}
 use Rattle.kt_store.proofs.Common.{Trees, Ghosts, Held, state, State, HasCleanDisk, Survives, survives_then, survives_weaker, last_run, Entry, Run, IsStoreFault, KeepsRuns, OnlyReads, Changes, MayChange, Keeps, KeepsOne, new_run, with_entry, put_refusal, finish, finish_refusal, Serves, Agrees, Outlasts, changed_by, StandsFor, Leaves, StoreCall, Began, Put, Finished, Heads, Outline, Outputs, StoreFault}
 use Rattle.kt_store.specs.declared.result_store.CaseOutputs.{CaseOutputs}
 use Rattle.kt_store.specs.declared.result_store.RunHead.{RunHead}
@@ -122,6 +122,11 @@ module _ {S : Type 0} (g : Ghosts S) (old mid new : Held S) (kept : KeepsRuns g 
   pub begin_failed : (fault : StoreFault) → IsStoreFault fault → KeepsRuns g mid new → Serves (results g) (Began total moment (Err fault)) old new
   begin_failed fault failed more =
       serves g (Began total moment (Err fault)) old new (λ runs has. more runs (kept runs has)) (old_clean g old mid new kept only _ _ room may_change) (λ runs has clean. inl failed) (written g old mid new kept only _ _ room may_change)
+
+  pub begin_called : (r : Result ℕ StoreFault) → OnOk r (Changes g mid new (λ runs. length runs < last_run) (λ runs. runs ++ new_run runs total moment ∷ []))
+      → ((runs : List Run) → StandsFor (state g old) runs → HasCleanDisk (state g new) → IfOk r (λ n. n ≡ suc (length runs))) → IfErr r IsStoreFault → OnErr r (KeepsRuns g mid new) → Serves (results g) (Began total moment r) old new
+  begin_called (Ok number) changes is failed more = begin_done number changes is
+  begin_called (Err fault) changes is failed more = begin_failed fault failed more
 
 -- an entry is put after a look
 module _ {S : Type 0} (g : Ghosts S) (old mid new : Held S) (kept : KeepsRuns g old mid) (only : OnlyReads g old mid) (number : ℕ) (e : Entry) (Fits : List Run → Type 0)

@@ -1,5 +1,5 @@
 -- The entries of a run are read whole, each found at its position.
-use Rattle.std.proofs.Common.{◌≡◌, ◌==◌, ◌<◌, ℕ, zero, suc, List, [], ◌∷◌, map, false, Option, Some, slice_get, refl, sym, ◌∙◌, subst, arith}
+use Rattle.std.proofs.Common.{◌≡◌, ◌==◌, ◌<◌, ℕ, zero, suc, List, [], ◌∷◌, ◌++◌, map, false, Option, Some, slice_get, refl, sym, ap, ◌∙◌, append_assoc, subst, arith}
 use Rattle.kt_store.proofs.Common.{AllByRecursion, find, eq-eqb, nat_tests, IsAscending, Entry, Run, AreOrdered, Reads, entry_at, run_at, without_outputs, AreAt}
 use Rattle.kt_store.specs.declared.result_store.Keeping as store
 use Rattle.kt_store.proofs.OutputsLemmas.{has}
@@ -41,3 +41,8 @@ first_of o [] items left next at are is = absurd (let none : [] ≡ next ∷ lef
 first_of o (e ∷ more) items left next at are is =
     let both : without_outputs e ∷ map without_outputs more ≡ next ∷ left = sym are ∙ is in
     (e, more, refl, at.0, at.1, cc, cc)
+
+-- one more entry after those so far
+pub with_next : (so_far new rest more es : List Entry) (whole e : Entry) → new ≡ so_far ++ whole ∷ [] → whole ≡ e → rest ≡ e ∷ more → so_far ++ rest ≡ es → new ++ more ≡ es
+with_next so_far new rest more es whole e added is next all =
+    ap (λ (l : List Entry). l ++ more) added ∙ append_assoc so_far (whole ∷ []) more ∙ ap (λ (x : Entry). so_far ++ x ∷ more) is ∙ ap (λ (l : List Entry). so_far ++ l) (sym next) ∙ all

@@ -189,9 +189,7 @@ pub(crate) fn settle<S: Alter>(conn: &mut Connection<S>) -> Result<(), StoreFaul
     lives(conn);
     probe(conn, "SELECT 1")?;
     if is_blank(conn) {
-        create(conn)?;
-        return Ok(());
+        return create(conn);
     }
-    take(conn)?;
-    Ok(())
+    take(conn)
 }

@@ -89,8 +89,7 @@ impl<S: Alter> ResultStore for Results<S> {
         if is_full(&mut self.conn)? {
             return Err(StoreFault::StoreFull);
         }
-        let number = add_run(&mut self.conn, total, moment)?;
-        Ok(number)
+        add_run(&mut self.conn, total, moment)
     }
 
     fn put(&mut self, run: u64, entry: &Entry) -> Result<(), StoreFault> {

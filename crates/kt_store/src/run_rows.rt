@@ -4,7 +4,7 @@ ghost use Rattle.kt_store.specs.Common.{last_run, IsMoment, HasCleanDisk, state,
 use crate::StoreFault;
 use crate::lookup::look;
 use crate::store_fault::statements::{has_rows, query, tell};
-use crate::value::{int, magnitude, number_in};
+use crate::value::{int, number_in};
 use sqlite::{Alter, Connection};
 
 /// Whether there are as many runs as may be.
@@ -43,7 +43,7 @@ pub(crate) fn add_run<S: Alter>(
         "INSERT INTO runs (started, total, finished) VALUES (?1, ?2, 0)",
         &[int(moment), int(u64::from(total))],
     )?;
-    Ok(magnitude(conn.last_insert_rowid()))
+    Ok(conn.last_insert_rowid().unsigned_abs())
 }
 
 /// How many entries the run has, none without a row; SQL counts no further than its integers go.

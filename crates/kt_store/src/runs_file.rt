@@ -191,12 +191,13 @@ fn kept<T: Drop>(value: T, is_ours: Option<bool>) -> Option<T>
 fn runs_over<D: Disk + Drop>(
     alloc: Global,
     mut files: Files<D>,
-    options: Options,
+    options: Option<Options>,
 ) -> Option<FileStore<D>>
     requires log { IsTrue (D.Disk.is_usable files.log) }
     requires db { IsTrue (D.Disk.is_usable files.db) }
     ensures { IfSome result (ReadsRuns (image_of D.Disk files)) }
 {
+    let options = options?;
     let size = plain_size(alloc, &mut files)?;
     let mut fresh = unopened(alloc, files, size, options)?;
     let is_listed = list_schema(alloc, &mut fresh);
@@ -223,6 +224,5 @@ pub fn open_alone<S: Start>(
         return None;
     }
     let files = sqlite_std_file::open(rt, file.as_str(), start).ok()?;
-    let options = options(rt, PAGES)?;
-    runs_over(rt.alloc(), files, options)
+    runs_over(rt.alloc(), files, options(rt, PAGES))
 }

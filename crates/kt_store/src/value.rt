@@ -1,4 +1,4 @@
-ghost use Rattle.std.specs.Prelude.{◌≡◌, ◌<◌, ◌^◌, pos, unsigned_abs, ℕ, length, IfOk, IfErr};
+ghost use Rattle.std.specs.Prelude.{◌≡◌, ◌<◌, ◌^◌, pos, ℕ, length, IfOk, IfErr};
 ghost use Rattle.kt_store.specs.Common.{utf8, owned, Int, Blob, IsText, column, IsNoMemory, IsStoreFault};
 ghost use Rattle.sqlite_value.specs.declared.value.Value.TheVariants.{Text as Words};
 
@@ -28,12 +28,6 @@ pub(crate) fn blob(bytes: &Bytes) -> ValueRef<'_>
     ensures { owned result ≡ Blob bytes.entry.now }
 {
     ValueRef::Blob(bytes.as_slice())
-}
-
-pub(crate) fn magnitude(n: i64) -> u64
-    ensures { result ≡ unsigned_abs n }
-{
-    n.unsigned_abs()
 }
 
 /// A number of a row. A negative one is refused.

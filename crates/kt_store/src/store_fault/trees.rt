@@ -140,9 +140,12 @@ fn are_shaped<S: Store>(store: &S, table: &Table) -> bool
 
 /// Whether a row has a blob in each of these columns.
 fn has_blobs(row: &row::Row, columns: &[usize]) -> bool {
-    columns
-        .iter()
-        .all(|at| matches!(row.get(*at), ValueRef::Blob(_)))
+    for at in columns {
+        if !matches!(row.get(*at), ValueRef::Blob(_)) {
+            return false;
+        }
+    }
+    true
 }
 
 /// Writes the next place of the cursor and its row over what was found, if one is left, and returns whether it

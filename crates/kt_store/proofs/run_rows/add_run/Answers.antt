@@ -13,7 +13,7 @@ pub returns-clause-number : goal.returns-clause-number
 returns-clause-number g c runs has room clean =
     let done = told_begin g.S.Store c.args.conn.now c.tell.new.conn runs c.args.total c.args.moment has room (omega (arith, c.ranges.total.fits)) (λ k. omega (arith, k, c.tell.ensures.survives.clean)) clean
     (rw (c.int.ensures, c.int-2.ensures, c.from.ensures) at (c.in_ok-tell.ensures.told clean)) in
-    c.magnitude.ensures ∙ ap unsigned_abs (to_z-of_z w64 c.last_insert_rowid.result (let fits : SFits w64 c.last_insert_rowid.result = search rules in fits) ∙ c.last_insert_rowid.ensures ∙ done.1)
+    c.unsigned_abs.ensures.value ∙ ap unsigned_abs (to_z-of_z w64 c.last_insert_rowid.result (let fits : SFits w64 c.last_insert_rowid.result = search rules in fits) ∙ c.last_insert_rowid.ensures ∙ done.1)
 
 pub returns-clause-added : goal.returns-clause-added
 returns-clause-added g c = record {

@@ -1,7 +1,7 @@
-use Rattle.std.proofs.Common.{rules, ◌≡◌, ◌++◌, List, [], ◌∷◌, sym, ap, ◌∙◌, append_assoc}
-use Rattle.kt_store.proofs.Common.{Entry, IsStoreFault, run_at}
+use Rattle.std.proofs.Common.{rules, ◌≡◌, ◌∷◌}
+use Rattle.kt_store.proofs.Common.{IsStoreFault, run_at}
 use Rattle.kt_store.proofs.FaultLemmas.{if_same}
-use Rattle.kt_store.proofs.WholeEntries.{first_of, reads_more}
+use Rattle.kt_store.proofs.WholeEntries.{first_of, reads_more, with_next}
 use Rattle.kt_store.proofs.whole.all_with_outputs.Goals as goal
 
 pub loop-entry-preserved : goal.loop-entry-preserved
@@ -15,13 +15,7 @@ loop-entry-preserved g c =
           let stood = v.reads.stands runs h in
           let f = v.filled runs es h (c.with_outputs.ensures.reads.earlier runs stood s) at outline in
           let n = first_of (run_at runs c.args.run) f.0 _ _ _ f.1 f.2 is in
-          let whole = c.in_ok-whole.ensures.filled runs n.0 stood s n.3 n.5 in (
-            n.1,
-            n.4,
-            n.6,
-            ap (λ (l : List Entry). l ++ n.1) c.in_ok-add.ensures.added ∙ append_assoc so_far (c.in_ok-whole.whole ∷ []) n.1
-                ∙ ap (λ (e : Entry). so_far ++ e ∷ n.1) whole ∙ ap (λ (l : List Entry). so_far ++ l) (sym n.2) ∙ f.3,
-          );
+          (n.1, n.4, n.6, with_next so_far c.add.new.items.items f.0 n.1 es c.in_ok-whole.whole n.0 c.in_ok-add.ensures.added (c.in_ok-whole.ensures.filled runs n.0 stood s n.3 n.5) n.2 f.3);
     }
 
 pub returns-in_err-whole-clause-failed : goal.returns-in_err-whole-clause-failed

@@ -1,6 +1,6 @@
-use Rattle.std.proofs.Common.{Ok, Err, inl, inr, refl}
+use Rattle.std.proofs.Common.{Err, inl, inr, refl}
 use Rattle.kt_store.proofs.Common.{Began, StoreFull}
-use Rattle.kt_store.proofs.ServeLemmas.{failed_at, seen_at, begin_refused, begin_done, begin_failed}
+use Rattle.kt_store.proofs.ServeLemmas.{failed_at, seen_at, begin_refused, begin_called}
 use Rattle.kt_store.proofs.results.ResultsResultStore.begin.Goals as goal
 
 pub returns-in_err-is_full : goal.returns-in_err-is_full
@@ -13,13 +13,8 @@ returns-then-branch g c =
     seen_at g.S.Store (Began c.args.total c.args.moment (Err StoreFull)) c.self.inside.conn c.args.self.now c.is_full.new.conn c.self.view_is
     (begin_refused g.S.Store c.self.inside.conn c.is_full.new.conn c.is_full.ensures.stands c.is_full.ensures.crash StoreFull c.args.total c.args.moment (λ runs has clean. inr (refl, (c.in_ok-is_full.ensures.full runs has clean).0 c.if-branch.true)))
 
-pub returns-in_err-number : goal.returns-in_err-number
-returns-in_err-number g c =
-    failed_at g.S.Store (λ r. Began c.args.total c.args.moment r) c.self.inside.conn c.args.self.now c.add_run.new.conn c.self.view_is c.from_residual-in_err-number.result c.in_err-number.field-0.0 c.from_residual-in_err-number.ensures.1
-    (begin_failed g.S.Store c.self.inside.conn c.is_full.new.conn c.add_run.new.conn c.is_full.ensures.stands c.is_full.ensures.crash c.args.total c.args.moment (λ runs has clean. (c.in_ok-is_full.ensures.full runs has clean).1 c.if-branch.false) c.add_run.ensures.crash _ c.in_err-number.ensures.failed c.in_err-number.ensures.kept)
-
 pub returns : goal.returns
 returns g c =
-    seen_at g.S.Store (Began c.args.total c.args.moment (Ok c.in_ok-number.number)) c.self.inside.conn c.args.self.now c.add_run.new.conn c.self.view_is
-    (begin_done g.S.Store c.self.inside.conn c.is_full.new.conn c.add_run.new.conn c.is_full.ensures.stands c.is_full.ensures.crash c.args.total c.args.moment (λ runs has clean. (c.in_ok-is_full.ensures.full runs has clean).1 c.if-branch.false) c.add_run.ensures.crash c.in_ok-number.number c.in_ok-number.ensures.added
-    (λ runs has clean. c.in_ok-number.ensures.number runs (c.is_full.ensures.stands runs has) (λ k. (c.in_ok-is_full.ensures.full runs has k).1 c.if-branch.false) clean))
+    seen_at g.S.Store _ c.self.inside.conn c.args.self.now c.add_run.new.conn c.self.view_is
+    (begin_called g.S.Store c.self.inside.conn c.is_full.new.conn c.add_run.new.conn c.is_full.ensures.stands c.is_full.ensures.crash c.args.total c.args.moment (λ runs has clean. (c.in_ok-is_full.ensures.full runs has clean).1 c.if-branch.false) c.add_run.ensures.crash c.add_run.result c.add_run.ensures.added
+    (λ runs has clean. c.add_run.ensures.number runs (c.is_full.ensures.stands runs has) (λ k. (c.in_ok-is_full.ensures.full runs has k).1 c.if-branch.false) clean) c.add_run.ensures.failed c.add_run.ensures.kept)
