@@ -63,3 +63,7 @@ one_found None total finished h = absurd cc
 one_found (Some r) total finished h =
     let both : (total, finished) ≡ head r = cc in
     (r, refl, ap (λ (p : ℕ × ℕ). p.0) both, ap (λ (p : ℕ × ℕ). nat_lt 0 p.1) both ∙ set r.finished)
+
+pub none_found : (o : Option Run) → None ≡ option_map head o → o ≡ None
+none_found None h = refl
+none_found (Some r) h = absurd cc

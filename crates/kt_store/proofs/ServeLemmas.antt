@@ -114,19 +114,12 @@ module _ {S : Type 0} (g : Ghosts S) (old mid new : Held S) (kept : KeepsRuns g 
 -- a run is begun after a look
 module _ {S : Type 0} (g : Ghosts S) (old mid new : Held S) (kept : KeepsRuns g old mid) (only : OnlyReads g old mid) (total moment : ℕ)
     (room : (runs : List Run) → StandsFor (state g old) runs → HasCleanDisk (state g mid) → length runs < last_run) (may_change : MayChange g mid new (λ runs. length runs < last_run) (λ runs. runs ++ new_run runs total moment ∷ [])) where
-  pub begin_done : (number : ℕ) → Changes g mid new (λ runs. length runs < last_run) (λ runs. runs ++ new_run runs total moment ∷ [])
-      → ((runs : List Run) → StandsFor (state g old) runs → HasCleanDisk (state g new) → number ≡ suc (length runs)) → Serves (results g) (Began total moment (Ok number)) old new
-  begin_done number changes is =
-      serves g (Began total moment (Ok number)) old new (done g old mid new kept only _ _ room may_change changes) (old_clean g old mid new kept only _ _ room may_change) (λ runs has clean. (is runs has clean, room runs has (mid_clean g old mid new kept only _ _ room may_change runs has clean))) (λ runs may has. lasting g old mid new kept only _ _ room may_change changes runs has)
-
-  pub begin_failed : (fault : StoreFault) → IsStoreFault fault → KeepsRuns g mid new → Serves (results g) (Began total moment (Err fault)) old new
-  begin_failed fault failed more =
-      serves g (Began total moment (Err fault)) old new (λ runs has. more runs (kept runs has)) (old_clean g old mid new kept only _ _ room may_change) (λ runs has clean. inl failed) (written g old mid new kept only _ _ room may_change)
-
   pub begin_called : (r : Result ℕ StoreFault) → OnOk r (Changes g mid new (λ runs. length runs < last_run) (λ runs. runs ++ new_run runs total moment ∷ []))
       → ((runs : List Run) → StandsFor (state g old) runs → HasCleanDisk (state g new) → IfOk r (λ n. n ≡ suc (length runs))) → IfErr r IsStoreFault → OnErr r (KeepsRuns g mid new) → Serves (results g) (Began total moment r) old new
-  begin_called (Ok number) changes is failed more = begin_done number changes is
-  begin_called (Err fault) changes is failed more = begin_failed fault failed more
+  begin_called (Ok number) changes is failed more =
+      serves g (Began total moment (Ok number)) old new (done g old mid new kept only _ _ room may_change changes) (old_clean g old mid new kept only _ _ room may_change) (λ runs has clean. (is runs has clean, room runs has (mid_clean g old mid new kept only _ _ room may_change runs has clean))) (λ runs may has. lasting g old mid new kept only _ _ room may_change changes runs has)
+  begin_called (Err fault) changes is failed more =
+      serves g (Began total moment (Err fault)) old new (λ runs has. more runs (kept runs has)) (old_clean g old mid new kept only _ _ room may_change) (λ runs has clean. inl failed) (written g old mid new kept only _ _ room may_change)
 
 -- an entry is put after a look
 module _ {S : Type 0} (g : Ghosts S) (old mid new : Held S) (kept : KeepsRuns g old mid) (only : OnlyReads g old mid) (number : ℕ) (e : Entry) (Fits : List Run → Type 0)
@@ -134,17 +127,11 @@ module _ {S : Type 0} (g : Ghosts S) (old mid new : Held S) (kept : KeepsRuns g 
   may : (runs : List Run) → StandsFor (state g old) runs → HasCleanDisk (state g mid) → Fits runs
   may runs has clean = (fits runs has clean).1
 
-  pub put_done : Changes g mid new Fits (with_entry number e) → Serves (results g) (Put number e (Ok tt)) old new
-  put_done changes =
-      serves g (Put number e (Ok tt)) old new (done g old mid new kept only _ _ may may_change changes) (old_clean g old mid new kept only _ _ may may_change) (λ runs has clean. (fits runs has (mid_clean g old mid new kept only _ _ may may_change runs has clean)).0) (λ runs others has. lasting g old mid new kept only _ _ may may_change changes runs has)
-
-  pub put_failed : (fault : StoreFault) → IsStoreFault fault → KeepsRuns g mid new → Serves (results g) (Put number e (Err fault)) old new
-  put_failed fault failed more =
-      serves g (Put number e (Err fault)) old new (λ runs has. more runs (kept runs has)) (old_clean g old mid new kept only _ _ may may_change) (λ runs has clean. inl failed) (written g old mid new kept only _ _ may may_change)
-
   pub put_called : (r : Result (Unit {0}) StoreFault) → OnOk r (Changes g mid new Fits (with_entry number e)) → IfErr r IsStoreFault → OnErr r (KeepsRuns g mid new) → Serves (results g) (Put number e r) old new
-  put_called (Ok done) ok failed more = put_done ok
-  put_called (Err fault) ok failed more = put_failed fault failed more
+  put_called (Ok unit) ok failed more =
+      serves g (Put number e (Ok unit)) old new (done g old mid new kept only _ _ may may_change ok) (old_clean g old mid new kept only _ _ may may_change) (λ runs has clean. (fits runs has (mid_clean g old mid new kept only _ _ may may_change runs has clean)).0) (λ runs others has. lasting g old mid new kept only _ _ may may_change ok runs has)
+  put_called (Err fault) ok failed more =
+      serves g (Put number e (Err fault)) old new (λ runs has. more runs (kept runs has)) (old_clean g old mid new kept only _ _ may may_change) (λ runs has clean. inl failed) (written g old mid new kept only _ _ may may_change)
 
 -- a run is finished after a look
 module _ {S : Type 0} (g : Ghosts S) (old mid new : Held S) (kept : KeepsRuns g old mid) (only : OnlyReads g old mid) (number : ℕ) (Fits : List Run → Type 0)
@@ -152,14 +139,8 @@ module _ {S : Type 0} (g : Ghosts S) (old mid new : Held S) (kept : KeepsRuns g 
   can : (runs : List Run) → StandsFor (state g old) runs → HasCleanDisk (state g mid) → Fits runs
   can runs has clean = (fits runs has clean).1
 
-  pub finish_done : Changes g mid new Fits (finish number) → Serves (results g) (Finished number (Ok tt)) old new
-  finish_done changes =
-      serves g (Finished number (Ok tt)) old new (done g old mid new kept only _ _ can may_change changes) (old_clean g old mid new kept only _ _ can may_change) (λ runs has clean. (fits runs has (mid_clean g old mid new kept only _ _ can may_change runs has clean)).0) (λ runs others has. lasting g old mid new kept only _ _ can may_change changes runs has)
-
-  pub finish_failed : (fault : StoreFault) → IsStoreFault fault → KeepsRuns g mid new → Serves (results g) (Finished number (Err fault)) old new
-  finish_failed fault failed more =
-      serves g (Finished number (Err fault)) old new (λ runs has. more runs (kept runs has)) (old_clean g old mid new kept only _ _ can may_change) (λ runs has clean. inl failed) (written g old mid new kept only _ _ can may_change)
-
   pub finish_called : (r : Result (Unit {0}) StoreFault) → OnOk r (Changes g mid new Fits (finish number)) → IfErr r IsStoreFault → OnErr r (KeepsRuns g mid new) → Serves (results g) (Finished number r) old new
-  finish_called (Ok done) ok failed more = finish_done ok
-  finish_called (Err fault) ok failed more = finish_failed fault failed more
+  finish_called (Ok unit) ok failed more =
+      serves g (Finished number (Ok unit)) old new (done g old mid new kept only _ _ can may_change ok) (old_clean g old mid new kept only _ _ can may_change) (λ runs has clean. (fits runs has (mid_clean g old mid new kept only _ _ can may_change runs has clean)).0) (λ runs others has. lasting g old mid new kept only _ _ can may_change ok runs has)
+  finish_called (Err fault) ok failed more =
+      serves g (Finished number (Err fault)) old new (λ runs has. more runs (kept runs has)) (old_clean g old mid new kept only _ _ can may_change) (λ runs has clean. inl failed) (written g old mid new kept only _ _ can may_change)

@@ -205,12 +205,15 @@ const NOT_OPENED: StoreFault = StoreFault::Store(FailedStatement(Cause::Reported
 fn unopened(error: &OpenError) -> StoreFault
     ensures { IsStoreFault result }
 {
-    match error {
-        OpenError::OutOfMemory => StoreFault::NoMemory(Shortage(Refusal)),
-        OpenError::Io(error) if error.kind() == ErrorKind::OutOfMemory => {
-            StoreFault::NoMemory(Shortage(Refusal))
-        }
-        _ => NOT_OPENED,
+    let is_short = match error {
+        OpenError::OutOfMemory => true,
+        OpenError::Io(error) => error.kind() == ErrorKind::OutOfMemory,
+        OpenError::Busy | OpenError::HotJournal => false,
+    };
+    if is_short {
+        StoreFault::NoMemory(Shortage(Refusal))
+    } else {
+        NOT_OPENED
     }
 }
 

@@ -6,6 +6,7 @@ use Rattle.kt_store.proofs.CursorLemmas.{cs, cs3, places_of_run, places_of_pairs
 use Rattle.kt_store.proofs.EntriesLemmas.{sound_of, up_of}
 use Rattle.kt_store.proofs.Outlined.{still_sound, still_up, same_columns, none_shown, all_shown}
 use Rattle.kt_store.proofs.SeenLemmas.{seen_entries, seen_pairs, still_has}
+use Rattle.kt_store.proofs.AloneLemmas.{looks_then}
 use Rattle.kt_store.proofs.seeks.all_entries.Goals as goal
 
 pub returns-then-not-pairs-clause-all : goal.returns-then-not-pairs-clause-all
@@ -30,3 +31,9 @@ returns-clause-all g c runs has clean =
     let shown = seen_pairs n es _ (c.in_ok-shown.ensures.all clean cs3 (flat_map (pair_rows n) es) (λ shaped up. places_of_pairs runs _ later shaped up n)) in
     IfOk-weaker c.entries_in-2.result _ _ (λ found e. e ∙ map-map without_outputs (with_pairs pairs) es) (c.entries_in-2.ensures.entries (map (with_pairs pairs) es) (still_sound pairs es (sound_of runs n keeps.3.valid)) (still_up pairs es (up_of runs n keeps.3.valid))
     (c.deref-2.ensures.value ∙ rows ∙ same_columns pairs es) (c.deref-3.ensures.value ∙ rw c.if-not-pairs.false (shown ∙ all_shown es)))
+
+pub returns-in_err-shown-clause-looks : goal.returns-in_err-shown-clause-looks
+returns-in_err-shown-clause-looks g c = looks_then g.S.Store _ _ _ c.rows_in.ensures.looks c.rows_in-2.ensures.looks
+
+pub returns-clause-looks : goal.returns-clause-looks
+returns-clause-looks g c = looks_then g.S.Store _ _ _ c.rows_in.ensures.looks c.rows_in-2.ensures.looks
