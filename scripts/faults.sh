@@ -280,8 +280,6 @@ kt_child/src/host/outputs.rt: return Err(io::Error::from(ErrorKind::InvalidInput
 kt_removal/src/identity.rt: return Err(io::Error::from(ErrorKind::NotADirectory));
 kt_cli/src/host/host_machine.rt: return Err(ReadFault::Failed);
 kt_cli/src/host/host_world.rt: None => Err(ReadFault::Failed),
-# An opening that was refused memory.
-kt_store/src/store_fault/statements.rt: OpenError::Io(error) if error.kind() == ErrorKind::OutOfMemory => {
 # A child that was not made, or not started.
 kt_child/src/host/children.rt: None => Err(OsFault::Failed),
 kt_child/src/host/children.rt: None => Err(OsFault::Failed),
