@@ -1,4 +1,4 @@
-ghost use Rattle.std.specs.Prelude.{◌≡◌, ◌⊎◌, ◌<◌, IfOk, IfErr};
+ghost use Rattle.std.specs.Prelude.{◌≡◌, ◌⊎◌, ◌<◌, Ok, IfOk, IfErr};
 ghost use Rattle.kt_store.specs.Common.{state, IsStoreFault, IsOf, Takes, Refuses};
 
 use crate::attach::settle;
@@ -54,6 +54,24 @@ impl<S: Alter> Results<S> {
         match settle(&mut conn) {
             Ok(()) => Ok(Results { conn, alloc }),
             Err(error) => Err((error, conn)),
+        }
+    }
+
+    /// Takes the tables of a database, if it was opened.
+    fn opened(
+        alloc: Global,
+        connection: Result<Connection<S>, StoreFault>,
+    ) -> Result<Results<S>, StoreFault>
+    where
+        S: Drop,
+        ensures taken { IfOk result (λ r. (c : _) × (connection ≡ Ok c)
+            × ((was : _) → IsOf was (state S.Store c) → Takes was (state S.Store c) (state S.Store r))) }
+        ensures due { IfErr connection IsStoreFault
+            → IfErr result (λ e. IsStoreFault e ⊎ (e ≡ StoreFault.UnknownSchema)) }
+    {
+        match Results::attach(alloc, connection?) {
+            Ok(results) => Ok(results),
+            Err((fault, _connection)) => Err(fault),
         }
     }
 
@@ -128,11 +146,7 @@ impl<S: Start> Results<FileStore<FileFrom<S>>> {
         ensures due { IfErr result (λ e. IsStoreFault e ⊎ (e ≡ StoreFault.UnknownSchema)) }
     {
         prepare(rt, file);
-        let connection = open_file(rt, file, start)?;
-        match Results::attach(rt.alloc(), connection) {
-            Ok(results) => Ok(results),
-            Err((fault, _connection)) => Err(fault),
-        }
+        Results::opened(rt.alloc(), open_file(rt, file, start))
     }
 
     /// Closes the results. Afterwards the file alone has them all; after an error they stand in it and in its log.
@@ -140,6 +154,7 @@ impl<S: Start> Results<FileStore<FileFrom<S>>> {
         ensures closed { OnOk result (IsClosed self) }
         ensures failed { IfErr result IsStoreFault }
     {
-        close_file(self.detach())
+        let Results { conn, alloc: _ } = self;
+        close_file(conn)
     }
 }

@@ -218,7 +218,7 @@ fn unopened(error: &OpenError) -> StoreFault
 }
 
 /// What a call returned that gives back what it took if it fails.
-fn done<T: Drop, L: Drop>(returned: Result<T, (SqlError, L)>) -> Result<T, StoreFault>
+fn done<T, L: Drop>(returned: Result<T, (SqlError, L)>) -> Result<T, StoreFault>
     ensures ok { IfOk result (λ it. returned ≡ Ok it) }
     ensures failed { IfErr result IsStoreFault }
 {
