@@ -1,4 +1,4 @@
-ghost use Rattle.std.specs.Prelude.{◌≡◌, IfOk, false};
+ghost use Rattle.std.specs.Prelude.{◌≡◌, Ok, IfOk, false};
 ghost use Rattle.kt_words.specs.Common.{App, Rule, app_of, new_app, rule_of, option_rule, with_rule, with_subcommand, bare_app, config_rule, variable_rule, kyuafile_rule, work_rule, results_rule, filters_rule, case_rule, run_rule, kinds_rule, verbose_rule, list_app, test_app, debug_app, report_app, junit_app, kyua_app};
 ghost use Rattle.clap.specs.declared.builder.command.Command.TheViews.{out-Command as fields_of};
 
@@ -131,6 +131,16 @@ fn verbose_word<'a>(alloc: Global) -> Arg<'a>
 /// What is said of a command line so far, unless memory ran out.
 type Line<'a> = Result<clap::Command<'a>, NoMemory>;
 
+/// Two values that were made.
+fn both<A: Drop, B: Drop>(
+    first: Result<A, NoMemory>,
+    second: Result<B, NoMemory>,
+) -> Result<(A, B), NoMemory>
+    ensures { IfOk result (λ both. (first ≡ Ok both.0) × (second ≡ Ok both.1)) }
+{
+    Ok((first?, second?))
+}
+
 /// A command line with one more option, which is its own alone.
 fn with_option<'a>(line: Line<'a>, option: Arg<'a>) -> Line<'a>
     requires { option.global ≡ false }
@@ -139,7 +149,8 @@ fn with_option<'a>(line: Line<'a>, option: Arg<'a>) -> Line<'a>
     ensures own { IfOk line.entry (λ c. (fields_of c).has_globals ≡ false)
         → IfOk result (λ c. (fields_of c).has_globals ≡ false) }
 {
-    Ok(line?.arg(option)?)
+    let (line, option) = both(line, Ok(option))?;
+    Ok(line.arg(option)?)
 }
 
 /// A command line with one more command, whose options are its own alone.
@@ -150,7 +161,8 @@ fn with_command<'a>(line: Line<'a>, command: Line<'a>) -> Line<'a>
     ensures own { IfOk line.entry (λ c. (fields_of c).has_globals ≡ false)
         → IfOk result (λ c. (fields_of c).has_globals ≡ false) }
 {
-    Ok(line?.subcommand(command?)?)
+    let (line, command) = both(line, command)?;
+    Ok(line.subcommand(command)?)
 }
 
 /// A command, whose help ends with where the options stand that it doesn't name itself.
