@@ -17,11 +17,6 @@ pub if_both : {T E : Type 0} (P Q R : T → Type 0) (r : Result T E) → ((x : T
 if_both P Q R (Ok x) f p q = f x p q
 if_both P Q R (Err e) f p q = tt
 
--- what a second result says of what the first one holds, by what is known of that
-pub if_through : {A B E F : Type 0} (P : A → Type 0) (T : A → B → Type 0) (first : Result A E) (second : Result B F) → IfOk first P → IfOk second (λ b. (a : A) × (first ≡ Ok a) × T a b) → IfOk second (λ b. (a : A) × P a × T a b)
-if_through P T first (Ok b) known (a, is, said) = (a, subst (λ it. IfOk it P) is known, said)
-if_through P T first (Err e) known said = tt
-
 pub err_both : {T E Q : Type 0} (P R : E → Type 0) (r : Result T E) → ((e : E) → P e → Q → R e) → IfErr r P → OnErr r Q → IfErr r R
 err_both P R (Ok x) f p q = tt
 err_both P R (Err e) f p q = f e p q
@@ -53,3 +48,7 @@ pub starved : (fault : StoreFault) → IsNoMemory fault → IsStoreFault fault
 starved (NoMemory refusal) h = tt
 starved (Store statement) h = absurd h
 starved _ h = absurd h
+
+pub starved_err : {T : Type 0} (r : Result T StoreFault) → IsErrAnd r IsNoMemory → IfErr r IsStoreFault
+starved_err (Ok x) h = absurd h
+starved_err (Err fault) h = starved fault h

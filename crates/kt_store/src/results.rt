@@ -1,4 +1,4 @@
-ghost use Rattle.std.specs.Prelude.{◌≡◌, ◌⊎◌, ◌<◌, Ok, IfOk, IfErr};
+ghost use Rattle.std.specs.Prelude.{◌≡◌, ◌⊎◌, ◌<◌, IfOk, IfErr};
 ghost use Rattle.kt_store.specs.Common.{state, IsStoreFault, IsOf, Takes, Refuses};
 
 use crate::attach::settle;
@@ -54,24 +54,6 @@ impl<S: Alter> Results<S> {
         match settle(&mut conn) {
             Ok(()) => Ok(Results { conn, alloc }),
             Err(error) => Err((error, conn)),
-        }
-    }
-
-    /// Takes the tables of a database, if it was opened.
-    fn opened(
-        alloc: Global,
-        connection: Result<Connection<S>, StoreFault>,
-    ) -> Result<Results<S>, StoreFault>
-    where
-        S: Drop,
-        ensures taken { IfOk result (λ r. (c : _) × (connection ≡ Ok c)
-            × ((was : _) → IsOf was (state S.Store c) → Takes was (state S.Store c) (state S.Store r))) }
-        ensures due { IfErr connection IsStoreFault
-            → IfErr result (λ e. IsStoreFault e ⊎ (e ≡ StoreFault.UnknownSchema)) }
-    {
-        match Results::attach(alloc, connection?) {
-            Ok(results) => Ok(results),
-            Err((fault, _connection)) => Err(fault),
         }
     }
 
@@ -135,6 +117,18 @@ impl<S: Alter> ResultStore for Results<S> {
     }
 }
 
+/// The same as `Results::attach`, but a connection that is refused is dropped.
+fn attached<S: Alter + Drop>(alloc: Global, conn: Connection<S>) -> Result<Results<S>, StoreFault>
+    ensures taken { IfOk result (λ r. (was : _) → IsOf was (state S.Store conn)
+        → Takes was (state S.Store conn) (state S.Store r)) }
+    ensures due { IfErr result (λ e. IsStoreFault e ⊎ (e ≡ StoreFault.UnknownSchema)) }
+{
+    match Results::attach(alloc, conn) {
+        Ok(results) => Ok(results),
+        Err((fault, _conn)) => Err(fault),
+    }
+}
+
 impl<S: Start> Results<FileStore<FileFrom<S>>> {
     ghost use Rattle.std.specs.Prelude.{◌≡◌, ◌⊎◌, IfOk, OnOk, IfErr};
     ghost use Rattle.kt_store.specs.Common.{image_at, IsStoreFault, AreOver, IsClosed};
@@ -146,7 +140,8 @@ impl<S: Start> Results<FileStore<FileFrom<S>>> {
         ensures due { IfErr result (λ e. IsStoreFault e ⊎ (e ≡ StoreFault.UnknownSchema)) }
     {
         prepare(rt, file);
-        Results::opened(rt.alloc(), open_file(rt, file, start))
+        let connection = open_file(rt, file, start)?;
+        attached(rt.alloc(), connection)
     }
 
     /// Closes the results. Afterwards the file alone has them all; after an error they stand in it and in its log.

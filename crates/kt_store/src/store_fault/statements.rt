@@ -257,8 +257,7 @@ pub(crate) fn close_file<S: Start>(
     ensures closed { OnOk result (IsClosed connection) }
     ensures failed { IfErr result IsStoreFault }
 {
-    let files = done(connection.close_files())?;
-    drop(files);
+    done(connection.close_files())?;
     Ok(())
 }
 

@@ -1,6 +1,7 @@
 use Rattle.std.proofs.Common.{rules, pos, ◌≡◌, ◌∙◌, ◌<◌, ◌+◌, suc, [], ◌∷◌, ◌++◌, map, take, drop, get_or, length, sym, ap, subst, arith}
-use Rattle.kt_store.proofs.Common.{length-map, map-append, take_all, Entry, column, Int, without_outputs, entry_columns, pair_columns, pairs_shown}
+use Rattle.kt_store.proofs.Common.{length-map, map-append, take_all, Entry, column, Int, IsNoMemory, without_outputs, entry_columns, pair_columns, pairs_shown}
 use Rattle.kt_store.proofs.EntriesLemmas.{one_sound}
+use Rattle.kt_store.proofs.FaultLemmas.{if_same, starved_err}
 use Rattle.kt_store.proofs.MergeLemmas.{Later, at, entry_position}
 use Rattle.kt_store.proofs.WideLemmas.{one_wide}
 use Rattle.kt_store.proofs.outlines.entries_in.Goals as goal
@@ -40,8 +41,7 @@ returns-in_err-small_in-clause-read c es sound up small are pairs =
     let i = c.loop-row.row-index in
     let low : i < length es = omega (arith, c.loop-row-test.true, ap length are, length-map es entry_columns) in
     let fits = one_sound (λ (e : Entry). e.position < 4294967296) entry_columns (λ (e : Entry). e) es i c.row-item.result small low (subst (λ l. c.row-item.result ≡ get_or l i c.row-item.result) are c.row-item.is) in
-    let told = c.in_err-small_in.ensures.read fits.0.position fits.1 (ap (λ l. column l 0) fits.2) in
-    search rules
+    if_same IsNoMemory c.from_residual.result c.in_err-small_in.field-0.0 c.from_residual.ensures.1 (c.in_err-small_in.ensures.read fits.0.position fits.1 (ap (λ l. column l 0) fits.2))
 
 pub returns-in_err-meta-clause-read : goal.returns-in_err-meta-clause-read
 returns-in_err-meta-clause-read c es sound up small are pairs =
@@ -52,8 +52,7 @@ returns-in_err-meta-clause-read c es sound up small are pairs =
     let rest : c.loop-row.rest.now ≡ map (pair_columns c.in_ok-small_in.field-0) it.entry.meta ++ pairs_shown (drop (suc i) es) =
     (c.loop-row.invariant.0 es sound up are pairs).1 ∙ ap pairs_shown it.behind ∙ ap (λ p. map (pair_columns p) it.entry.meta ++ pairs_shown (drop (suc i) es)) (sym position) in
     let later : Later c.in_ok-small_in.field-0 (drop (suc i) es) = subst (λ p. Later p (drop (suc i) es)) (sym position) it.later in
-    let told = c.in_err-meta.ensures.read it.entry.meta (drop (suc i) es) it.sound.meta later rest in
-    search rules
+    if_same IsNoMemory c.from_residual-in_err-meta.result c.in_err-meta.field-0.0 c.from_residual-in_err-meta.ensures.1 (c.in_err-meta.ensures.read it.entry.meta (drop (suc i) es) it.sound.meta later rest)
 
 pub returns-in_err-entry-clause-read : goal.returns-in_err-entry-clause-read
 returns-in_err-entry-clause-read c es sound up small are pairs =
@@ -61,5 +60,7 @@ returns-in_err-entry-clause-read c es sound up small are pairs =
     let low : i < length es = omega (arith, c.loop-row-test.true, ap length are, length-map es entry_columns) in
     let it = at es i c.row-item.result sound up low (subst (λ l. c.row-item.result ≡ get_or l i c.row-item.result) are c.row-item.is) in
     let fits = one_sound (λ (e : Entry). e.position < 4294967296) entry_columns (λ (e : Entry). e) es i c.row-item.result small low (subst (λ l. c.row-item.result ≡ get_or l i c.row-item.result) are c.row-item.is) in
-    let told = c.in_err-entry.ensures.read it.entry it.sound (let q : Int (pos fits.0.position) ≡ Int (pos it.entry.position) = ap (λ l. column l 0) (sym fits.2 ∙ it.row) in let same : fits.0.position ≡ it.entry.position = cc in omega (arith, same, fits.1)) it.row in
-    search rules
+    if_same IsNoMemory c.from_residual-in_err-entry.result c.in_err-entry.field-0.0 c.from_residual-in_err-entry.ensures.1 (c.in_err-entry.ensures.read it.entry it.sound (let q : Int (pos fits.0.position) ≡ Int (pos it.entry.position) = ap (λ l. column l 0) (sym fits.2 ∙ it.row) in let same : fits.0.position ≡ it.entry.position = cc in omega (arith, same, fits.1)) it.row)
+
+pub returns-in_err-add-clause-failed : goal.returns-in_err-add-clause-failed
+returns-in_err-add-clause-failed c = starved_err c.from_residual-in_err-add.result c.from_residual-in_err-add.ensures.1

@@ -1,6 +1,8 @@
 use Rattle.std.proofs.Common.{◌∙◌, ◌++◌, ◌∷◌, [], w64, SFits, rules, ap, arith, unsigned_abs}
-use Rattle.kt_store.proofs.Common.{to_z-of_z, state, survives_weaker, Keeps, new_run}
+use Rattle.kt_store.proofs.Common.{to_z-of_z, state, survives_weaker, Keeps, Tables, new_run}
 use Rattle.kt_store.proofs.BeginLemmas.{told_begin, crash_begin, leaves_commit}
+use Rattle.kt_store.proofs.FaultLemmas.{on_err}
+use Rattle.kt_store.proofs.StepLemmas.{rests_hold}
 use Rattle.kt_store.proofs.run_rows.add_run.Goals as goal
 
 pub returns-in_err-tell-clause-crash : goal.returns-in_err-tell-clause-crash
@@ -31,3 +33,6 @@ returns-clause-crash g c runs has room =
     survives_weaker (state g.S.Store c.args.conn.now) (state g.S.Store c.tell.new.conn) _ (Keeps (runs ++ new_run runs c.args.total c.args.moment ∷ []))
     (crash_begin g.S.Store c.args.conn.now c.tell.new.conn runs c.args.total c.args.moment has room (omega (arith, c.ranges.total.fits)) (λ k. omega (arith, k, c.tell.ensures.survives.clean)))
     (rw (c.int.ensures, c.int-2.ensures, c.from.ensures) at c.tell.ensures.survives)
+
+pub returns-in_err-tell-clause-kept : goal.returns-in_err-tell-clause-kept
+returns-in_err-tell-clause-kept g c = on_err c.from_residual.result (λ runs has. rests_hold (λ db. Tables db runs) (state g.S.Store c.args.conn.now) (state g.S.Store c.tell.new.conn) has (λ k. omega (arith, k, c.tell.ensures.survives.clean)) c.in_err-tell.ensures.rests)
