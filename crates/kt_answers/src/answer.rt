@@ -1,4 +1,4 @@
-use kt_base::{NoMemory, Text, Variable};
+use kt_base::{NoMemory, Text, Variable, Variables};
 use std::alloc::Global;
 use std::fmt::{Debug, Display};
 
@@ -60,6 +60,15 @@ impl Answer {
     pub fn pair(&mut self, before: &str, pair: &Variable, sign: &str) {
         let (name, value) = (pair.name.as_str(), pair.value.as_str());
         write!(self, "{before}{name}{sign}{value}");
+    }
+
+    /// Appends pairs, with a separator between two of them.
+    pub fn pairs(&mut self, pairs: &Variables, separator: &str, sign: &str) {
+        let mut before = "";
+        for pair in pairs.as_slice() {
+            self.pair(before, pair, sign);
+            before = separator;
+        }
     }
 
     /// Appends a text of the crates.

@@ -2,12 +2,12 @@
 
 use crate::answer::Answer;
 use crate::escapes::unescaped;
-use crate::numbers::append_numbered;
+use crate::numbers::with_numbered;
 use crate::properties::{push_props, set_known};
-use crate::row::{Result, Row, RowFault, append, asked, due};
+use crate::row::{Result, Row, RowFault, append, asked, both, due, halves};
 use crate::verdicts::{ending_of, push_reason, refused_of};
 use kt_atflist::{CaseDef, ListBytes, Listing, cases, parse_list};
-use kt_base::{Bytes, Interface, Items, Outcome, Verdict};
+use kt_base::{Bytes, Interface, Items, Verdict};
 use kt_metadata::Props;
 use std::alloc::Global;
 
@@ -21,10 +21,16 @@ fn after_header(alloc: Global, blocks: &str) -> Result<Vec<u8>> {
     Ok(text)
 }
 
+/// What comes of asking a program that prints this text, and ends so.
+fn ended(ending: &str, text: Result<Vec<u8>>) -> Result<Listing> {
+    let (text, ending) = both(text, ending_of(ending))?;
+    Ok(Listing::Ended(ending, ListBytes::Read(Bytes::from_vec(text))))
+}
+
 /// What comes of asking for a list: `refused WHY`, or `ENDING` and `blocks TEXT`, `list TEXT`, `unreadable` or `too-long`.
 fn listing_of(alloc: Global, text: &str) -> Result<Listing> {
     if let Some(cause) = text.strip_prefix("refused ") {
-        return Ok(Listing::Refused(refused_of(cause)?));
+        return refused_of(cause).map(Listing::Refused);
     }
     if let Some(ending) = text.strip_suffix(" unreadable") {
         return Ok(Listing::Ended(ending_of(ending)?, ListBytes::Unreadable));
@@ -32,63 +38,68 @@ fn listing_of(alloc: Global, text: &str) -> Result<Listing> {
     if let Some(ending) = text.strip_suffix(" too-long") {
         return Ok(Listing::Ended(ending_of(ending)?, ListBytes::TooLong));
     }
-    let blocks = text.split_once(" blocks ");
-    let (ending, list) = match blocks.or(text.split_once(" list ")) {
-        Some((ending, list)) if blocks.is_none() => (ending, unescaped(alloc, list)?),
-        Some((ending, list)) => (ending, after_header(alloc, list)?),
-        None => return Err(RowFault::Misspelled("an ending stands before a list")),
-    };
-    Ok(Listing::Ended(ending_of(ending)?, ListBytes::Read(Bytes::from_vec(list))))
+    if let Some((ending, blocks)) = text.split_once(" blocks ") {
+        return ended(ending, after_header(alloc, blocks));
+    }
+    let (ending, list) = halves(text, " list ", "an ending stands before a list")?;
+    ended(ending, unescaped(alloc, list))
 }
 
-/// Appends cases in the form of a row, each with the properties that differ from the defaults and its fault; or their
-/// number if the row says `count`.
+/// Appends a case, with the properties that differ from the defaults and its fault.
+fn push_case(out: &mut Answer, case: CaseDef) -> Result<()> {
+    let CaseDef { name, props, fault } = case;
+    out.line(name.as_str());
+    push_props(out, &props)?;
+    if let Some(reason) = fault {
+        out.push(": ");
+        return push_reason(out, &Verdict::broken(reason));
+    }
+    Ok(())
+}
+
+/// Appends cases, or their number if the row says `count`.
 fn push_cases(out: &mut Answer, row: &Row<'_>, found: Items<CaseDef>) -> Result<()> {
     if row.text("count").is_some() {
         write!(out, "{} cases", found.len());
         return Ok(());
     }
     for case in found.into_vec() {
-        let CaseDef { name, props, fault } = case;
-        out.line(name.as_str());
-        push_props(out, &props)?;
-        if let Some(reason) = fault {
-            out.push(": ");
-            push_reason(out, &Verdict::broken(reason))?;
-        }
+        push_case(out, case)?;
     }
     Ok(())
 }
 
 /// The text of a list: `list TEXT`, or after a header `blocks TEXT` and then `numbered COUNT TEXT`.
 fn list_text(alloc: Global, row: &Row<'_>) -> Result<Vec<u8>> {
-    if let Some(text) = row.bytes(alloc, "list")? {
-        return Ok(text);
+    if let Some(text) = row.text("list") {
+        return unescaped(alloc, text);
     }
     let blocks = due(row.text("blocks"), "no list")?;
-    let mut text = after_header(alloc, blocks)?;
-    append_numbered(alloc, &mut text, row)?;
-    Ok(text)
+    with_numbered(alloc, after_header(alloc, blocks), row)
+}
+
+fn interface_of(word: &str) -> Result<Interface> {
+    match word {
+        "atf" => Ok(Interface::Atf),
+        "tap" => Ok(Interface::Tap),
+        "plain" => Ok(Interface::Plain),
+        _ => Err(RowFault::Misspelled("no such interface")),
+    }
 }
 
 /// The cases of a program: `program INTERFACE`, `set NAME=VALUE` for its properties, and what came of its listing, which is
 /// unreadable if no line says it.
 fn program_cases(alloc: Global, row: &Row<'_>, word: &str) -> Result<Items<CaseDef>> {
     let mut props = Props::new(alloc);
-    let mut listing = Listing::Ended(Outcome::Exited(0), ListBytes::Unreadable);
+    let mut lists = "exited 0 unreadable";
     for line in row.entries.as_slice() {
         match line.word {
             "set" => set_known(alloc, &mut props, line.text)?,
-            "lists" => listing = listing_of(alloc, line.text)?,
+            "lists" => lists = line.text,
             _ => {}
         }
     }
-    let interface = match word {
-        "atf" => Interface::Atf,
-        "tap" => Interface::Tap,
-        "plain" => Interface::Plain,
-        _ => return Err(RowFault::Misspelled("no such interface")),
-    };
+    let (listing, interface) = both(listing_of(alloc, lists), interface_of(word))?;
     asked(cases(alloc, interface, &props, &Some(listing)))
 }
 

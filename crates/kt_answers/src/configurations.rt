@@ -1,38 +1,28 @@
 use crate::answer::Answer;
-use crate::escapes::text_of;
-use crate::numbers::append_numbered;
+use crate::escapes::{text_of, unescaped};
+use crate::numbers::with_numbered;
 use crate::retried;
 use crate::row::{Line, Result, Row, RowFault, both, halves, pair_of};
 use kt_base::Text;
-use kt_config::{Config, ConfigFault};
+use kt_config::{Config, ConfigFault, SuiteVariables};
 
 /// Appends the variables of a suite in their order, `a=1 b=2`, or how many they are.
 fn push_suite(out: &mut Answer, config: &Config, word: &str, suite: &str) -> Result<()> {
-    let Some(variables) = config.suite_vars(&text_of(out.alloc, suite)?) else {
-        out.push("none");
-        return Ok(());
-    };
-    let variables = variables.copy()?;
-    if word == "count" {
-        write!(out, "{}", variables.len());
-        return Ok(());
-    }
-    let mut separator = "";
-    for pair in variables.as_slice() {
-        out.pair(separator, pair, "=");
-        separator = " ";
+    let suite = config.suite_vars(&text_of(out.alloc, suite)?);
+    match &suite.map(SuiteVariables::copy).transpose()? {
+        None => out.push("none"),
+        Some(variables) if word == "count" => write!(out, "{}", variables.len()),
+        Some(variables) => out.pairs(variables, " ", "="),
     }
     Ok(())
 }
 
 /// The value of a variable of a suite, or what there is none of.
 fn value_of<'a>(config: &'a Config, suite: &Text, name: &Text) -> &'a str {
-    let Some(variables) = config.suite_vars(suite) else {
-        return "no suite";
-    };
-    match variables.get(name) {
-        Some(value) if variables.is_defined(name) => value.as_str(),
-        _ => "no variable",
+    match config.suite_vars(suite) {
+        None => "no suite",
+        Some(variables) if !variables.is_defined(name) => "no variable",
+        Some(variables) => variables.get(name).map_or("no variable", Text::as_str),
     }
 }
 
@@ -69,24 +59,26 @@ fn push_told(out: &mut Answer, config: &mut Config, line: &Line<'_>) -> Result<(
     Ok(())
 }
 
-/// The answers to the lines of a row of a new configuration, or that of `file TEXT` with the statements of `numbered` after
-/// it; or why the file is refused.
-pub fn answer(out: &mut Answer, row: &Row<'_>) -> Result<()> {
-    let mut config = Config::new(out.alloc);
-    if let Some(mut file) = row.bytes(out.alloc, "file")? {
-        append_numbered(out.alloc, &mut file, row)?;
-        match Config::read(out.alloc, &file) {
-            Ok(read) => config = read,
-            Err(fault) => {
-                write!(out, "{fault}");
-                return Ok(());
-            }
-        }
-    }
+/// Appends the answers to the lines of a row.
+fn push_answers(out: &mut Answer, mut config: Config, row: &Row<'_>) -> Result<()> {
     for line in row.entries.as_slice() {
         if !matches!(line.word, "file" | "numbered") {
             push_told(out, &mut config, line)?;
         }
+    }
+    Ok(())
+}
+
+/// The answers to the lines of a row of a new configuration, or that of `file TEXT` with the statements of `numbered` after
+/// it; or why the file is refused.
+pub fn answer(out: &mut Answer, row: &Row<'_>) -> Result<()> {
+    let Some(file) = row.text("file") else {
+        return push_answers(out, Config::new(out.alloc), row);
+    };
+    let file = with_numbered(out.alloc, unescaped(out.alloc, file), row)?;
+    match Config::read(out.alloc, &file) {
+        Ok(config) => return push_answers(out, config, row),
+        Err(fault) => write!(out, "{fault}"),
     }
     Ok(())
 }

@@ -11,10 +11,7 @@ use std::alloc::Global;
 
 /// The bytes after a word among these lines; none if the word isn't there.
 fn bytes_in(alloc: Global, lines: &[Line<'_>], word: &str) -> Result<Bytes> {
-    match text_in(lines, word) {
-        None => Ok(Bytes::new(alloc)),
-        Some(raw) => unescaped(alloc, raw).map(Bytes::from_vec),
-    }
+    unescaped(alloc, text_in(lines, word).unwrap_or("")).map(Bytes::from_vec)
 }
 
 fn output_in(alloc: Global, lines: &[Line<'_>], out: &str, err: &str) -> Result<Output> {
@@ -55,15 +52,15 @@ fn verdict_of(alloc: Global, text: &str) -> Result<Verdict> {
 fn entry_of(alloc: Global, content: &[Line<'_>], verdict: &str, position: u32) -> Result<Entry> {
     let program = lossy_of(alloc, text_in(content, "program").unwrap_or("a"));
     let case_name = lossy_of(alloc, text_in(content, "case").unwrap_or("main"));
-    let times = both(
-        number_in(content, "started", 0),
-        number_in(content, "took", 0),
-    );
+    let started = number_in(content, "started", 0);
+    let times = both(started, number_in(content, "took", 0));
     let body = output_in(alloc, content, "out", "err");
     let cleanup = output_in(alloc, content, "cleanup-out", "cleanup-err");
     let said = both(verdict_of(alloc, verdict), pairs_of(alloc, content, "meta"));
-    let ((program, case_name), (started, millis)) = both(both(program, case_name), times)?;
-    let ((body, cleanup), (verdict, meta)) = both(both(body, cleanup), said)?;
+    let named = both(both(program, case_name), times);
+    let (named, said) = both(named, both(both(body, cleanup), said))?;
+    let ((program, case_name), (started, millis)) = named;
+    let ((body, cleanup), (verdict, meta)) = said;
     Ok(Entry {
         position,
         program,
@@ -78,15 +75,10 @@ fn entry_of(alloc: Global, content: &[Line<'_>], verdict: &str, position: u32) -
 }
 
 /// An entry that a store takes: its times lie within the years up to 9999.
-pub fn storable_entry(
-    alloc: Global,
-    content: &[Line<'_>],
-    verdict: &str,
-    position: u32,
-) -> Result<Entry>
+pub fn storable_entry(alloc: Global, lines: &[Line<'_>], verdict: &str, at: u32) -> Result<Entry>
     ensures { IfOk result (λ e. (e.started ≤ 253402300799999) × (e.millis ≤ 253402300799999)) }
 {
-    let mut entry = entry_of(alloc, content, verdict, position)?;
+    let mut entry = entry_of(alloc, lines, verdict, at)?;
     entry.started = entry.started.min(LATEST_MOMENT);
     entry.millis = entry.millis.min(LATEST_MOMENT);
     Ok(entry)
@@ -112,22 +104,30 @@ fn count_of(entries: &Items<Entry>) -> Result<u32> {
     due(u32::try_from(entries.len()).ok(), "too many entries")
 }
 
-/// The run of a row: `run NUMBER`, `at MILLISECONDS`, `unfinished`, and its entries, `entry VERDICT` each, as
-/// often as `times N` below it says.
-pub fn run_of(alloc: Global, row: &Row<'_>) -> Result<Run> {
-    let lines = row.entries.as_slice();
-    let (number, started) = both(row.number("run", 1), row.number("at", 0))?;
+/// Appends an entry as often as `times N` among its lines says.
+fn add(alloc: Global, entries: &mut Items<Entry>, lines: &[Line<'_>], verdict: &str) -> Result<()> {
+    for _ in 0..number_in(lines, "times", 1)? {
+        let position = count_of(entries)?;
+        entries.push(entry_of(alloc, lines, verdict, position)?)?;
+    }
+    Ok(())
+}
+
+/// The entries among lines: `entry VERDICT` each.
+fn entries_in(alloc: Global, lines: &[Line<'_>]) -> Result<Items<Entry>> {
     let mut entries = Items::new(alloc);
     for (place, line) in lines.iter().enumerate() {
-        if line.word != "entry" {
-            continue;
-        }
-        let content = content_at(lines, place);
-        for _ in 0..number_in(content, "times", 1)? {
-            let position = count_of(&entries)?;
-            entries.push(entry_of(alloc, content, line.text, position)?)?;
+        if line.word == "entry" {
+            add(alloc, &mut entries, content_at(lines, place), line.text)?;
         }
     }
+    Ok(entries)
+}
+
+/// The run of a row: `run NUMBER`, `at MILLISECONDS`, `unfinished`, and its entries.
+pub fn run_of(alloc: Global, row: &Row<'_>) -> Result<Run> {
+    let (number, started) = both(row.number("run", 1), row.number("at", 0))?;
+    let entries = entries_in(alloc, row.entries.as_slice())?;
     Ok(Run {
         number,
         started,

@@ -22,9 +22,8 @@ fn item_of(alloc: Global, raw: &str) -> Result<Item> {
 
 /// A filter that is accepted.
 fn filter_of(alloc: Global, raw: &str) -> Result<Filter> {
-    let filter = Filter::parse(alloc, &text_of(alloc, raw)?);
-    let refused = "a filter that is refused is asked for by `read`";
-    due(filter.ok(), refused)
+    let filter = Filter::parse(alloc, &text_of(alloc, raw)?).ok();
+    due(filter, "a filter that is refused is asked for by `read`")
 }
 
 /// Appends what a text says as a filter, `d/b, case main`, or why it is refused.
@@ -68,6 +67,20 @@ impl Example {
         match word {
             "filter" | "filters" => push_made(&mut self.filters, filter_of(alloc, raw)),
             _ => push_made(&mut self.items, item_of(alloc, raw)),
+        }
+    }
+
+    /// Takes a line that says something, or appends the answer to one that asks.
+    fn take(&mut self, out: &mut Answer, line: &Line<'_>) -> Result<()> {
+        match line.word {
+            "filter" | "item" => self.add(out.alloc, line.word, line.text),
+            "filters" | "items" => {
+                for text in numbered(out.alloc, line.text)?.as_slice() {
+                    self.add(out.alloc, line.word, text.as_str())?;
+                }
+                Ok(())
+            }
+            _ => self.push_told(out, line),
         }
     }
 
@@ -126,15 +139,7 @@ pub fn answer(out: &mut Answer, row: &Row<'_>) -> Result<()> {
         filters: Vec::new(out.alloc),
     };
     for line in row.entries.as_slice() {
-        match line.word {
-            "filter" | "item" => example.add(out.alloc, line.word, line.text)?,
-            "filters" | "items" => {
-                for text in numbered(out.alloc, line.text)?.as_slice() {
-                    example.add(out.alloc, line.word, text.as_str())?;
-                }
-            }
-            _ => example.push_told(out, line)?,
-        }
+        example.take(out, line)?;
     }
     Ok(())
 }

@@ -43,16 +43,23 @@ pub fn numbered(alloc: Global, raw: &str) -> Result<Vec<String>> {
     Ok(texts)
 }
 
-/// Appends the texts of a row's lines `numbered COUNT TEXT`.
-pub fn append_numbered(alloc: Global, bytes: &mut Vec<u8>, row: &Row<'_>) -> Result<()> {
-    for entry in row.entries.as_slice() {
-        if entry.word == "numbered" {
-            for text in numbered(alloc, entry.text)?.as_slice() {
-                append(alloc, bytes, text.as_str())?;
-            }
-        }
+/// Appends the texts of `COUNT TEXT`.
+fn append_numbered(alloc: Global, bytes: &mut Vec<u8>, raw: &str) -> Result<()> {
+    for text in numbered(alloc, raw)?.as_slice() {
+        append(alloc, bytes, text.as_str())?;
     }
     Ok(())
+}
+
+/// Bytes, and after them the texts of a row's lines `numbered COUNT TEXT`.
+pub fn with_numbered(alloc: Global, bytes: Result<Vec<u8>>, row: &Row<'_>) -> Result<Vec<u8>> {
+    let mut bytes = bytes?;
+    for line in row.entries.as_slice() {
+        if line.word == "numbered" {
+            append_numbered(alloc, &mut bytes, line.text)?;
+        }
+    }
+    Ok(bytes)
 }
 
 /// A number from 1 to another one, 1 where the row has none.

@@ -2,7 +2,7 @@ use crate::answer::Answer;
 use crate::escapes::text_of;
 use crate::numbers::{numbered, set_number};
 use crate::retried;
-use crate::row::{Line, Result, Row, RowFault, asked, due, pair_of};
+use crate::row::{Line, Result, Row, RowFault, asked, both, due, pair_of};
 use crate::verdicts::push_reason;
 use kt_base::{Text, Variables, Verdict};
 use kt_config::{Config, ConfigFault};
@@ -35,6 +35,14 @@ pub fn set_known(alloc: Global, props: &mut Props, raw: &str) -> Result<()> {
     due(set, "there is no such property or value")
 }
 
+/// Sets the properties of `COUNT NAME=VALUE`.
+fn set_numbered(alloc: Global, props: &mut Props, raw: &str) -> Result<()> {
+    for text in numbered(alloc, raw)?.as_slice() {
+        set_known(alloc, props, text.as_str())?;
+    }
+    Ok(())
+}
+
 /// The value of a name among pairs.
 fn value_in<'a>(pairs: &'a Variables, name: &str) -> Option<&'a str> {
     let mut pairs = pairs.as_slice().iter();
@@ -59,13 +67,15 @@ fn set_variable(alloc: Global, config: &mut Config, raw: &str) -> Result<()> {
     due(set, "there is no such variable")
 }
 
-/// Appends the pairs that are listed, as a report has them, a line each.
-fn push_listed(out: &mut Answer, pairs: &Variables) {
-    let mut separator = "";
-    for pair in pairs.as_slice() {
-        out.pair(separator, pair, " = ");
-        separator = "\n";
+/// Appends what a word asks of the pairs that are listed.
+fn push_of_listing(out: &mut Answer, word: &str, name: &str, pairs: &Variables) -> Result<()> {
+    match word {
+        "show" => out.push(value_in(pairs, name).unwrap_or("-")),
+        "count" => write!(out, "{}", pairs.len()),
+        "listing" => out.pairs(pairs, "\n", " = "),
+        _ => return Err(RowFault::Misspelled("there is no such word")),
     }
+    Ok(())
 }
 
 impl Example {
@@ -88,48 +98,40 @@ impl Example {
     fn take(&mut self, out: &mut Answer, line: &Line<'_>) -> Result<()> {
         let (alloc, text) = (out.alloc, line.text);
         match line.word {
-            "set" => set_property(out, &mut self.program, text),
-            "case" => set_property(out, &mut self.case, text),
-            "numbered" => {
-                for text in numbered(alloc, text)?.as_slice() {
-                    set_known(alloc, &mut self.program, text.as_str())?;
-                }
-                Ok(())
-            }
-            "config" => set_variable(alloc, &mut self.config, text),
-            "file" => self.note(alloc, Need::File, text),
-            "program" => self.note(alloc, Need::Program, text),
-            "memory" => set_number(&mut self.host.memory, text),
-            "disk" => set_number(&mut self.host.disk, text),
-            "root" => {
-                self.host.root = true;
-                Ok(())
-            }
-            _ => self.push_asked(out, line),
+            "set" => return set_property(out, &mut self.program, text),
+            "case" => return set_property(out, &mut self.case, text),
+            "numbered" => return set_numbered(alloc, &mut self.program, text),
+            "config" => return set_variable(alloc, &mut self.config, text),
+            "file" => return self.note(alloc, Need::File, text),
+            "program" => return self.note(alloc, Need::Program, text),
+            "memory" => return set_number(&mut self.host.memory, text),
+            "disk" => return set_number(&mut self.host.disk, text),
+            "root" => self.host.root = true,
+            _ => return self.push_asked(out, line),
         }
+        Ok(())
     }
 
-    /// Appends what a line asks of a name, or of the properties together.
+    /// Appends what a line asks.
     fn push_asked(&self, out: &mut Answer, line: &Line<'_>) -> Result<()> {
         out.separate("\n");
-        let name = text_of(out.alloc, line.text)?;
-        let props = Props::overlay(&self.program, &self.case)?;
-        let pairs = props.listing()?;
-        match line.word {
+        let props = asked(Props::overlay(&self.program, &self.case));
+        let (name, props) = both(text_of(out.alloc, line.text), props)?;
+        self.push_told(out, line.word, &name, &props)
+    }
+
+    /// Appends what a word asks of a name, or of the properties together.
+    fn push_told(&self, out: &mut Answer, word: &str, name: &Text, props: &Props) -> Result<()> {
+        match word {
             "key" => {
-                let property = property_of_key(out.alloc, &name)?;
+                let property = property_of_key(out.alloc, name)?;
                 out.push(property.as_ref().map_or("unknown", Text::as_str));
             }
-            "kyuafile" => {
-                let may = is_kyuafile_property(&name);
-                out.push(if may { "yes" } else { "no" });
-            }
-            "get" => out.push(props.get(&name).map_or("-", Text::as_str)),
-            "show" => out.push(value_in(&pairs, name.as_str()).unwrap_or("-")),
-            "unmet" => return self.push_unmet(out, &props),
-            "count" => write!(out, "{}", pairs.len()),
-            "listing" => push_listed(out, &pairs),
-            _ => return Err(RowFault::Misspelled("there is no such word")),
+            "kyuafile" if is_kyuafile_property(name) => out.push("yes"),
+            "kyuafile" => out.push("no"),
+            "get" => out.push(props.get(name).map_or("-", Text::as_str)),
+            "unmet" => return self.push_unmet(out, props),
+            _ => return push_of_listing(out, word, name.as_str(), &props.listing()?),
         }
         Ok(())
     }

@@ -16,8 +16,7 @@ fn push_moment(out: &mut Answer, report: &str) {
 /// Prints the text report, with the sections of `kinds WORDS` or of all kinds; `verbose` shows what the cases declared.
 fn print_text(alloc: Global, row: &Row<'_>, run: &Run, page: &mut ScriptedWriter) -> Result<()> {
     let all = "failed broken expected_failure skipped passed";
-    let words = row.text("kinds").unwrap_or(all);
-    let kinds = kinds_of(alloc, words)?;
+    let kinds = kinds_of(alloc, row.text("kinds").unwrap_or(all))?;
     let _ = kt_report::text(run, &kinds, row.text("verbose").is_some(), page);
     Ok(())
 }
@@ -31,29 +30,39 @@ fn print_junit(out: &mut Answer, run: &Run, page: &mut ScriptedWriter) {
     }
 }
 
-/// A report of the run in the row: `report line`, `report text`, `report junit`, `report moment` or `report fault`, whose
-/// first write fails.
-pub fn answer(out: &mut Answer, row: &Row<'_>) -> Result<()> {
-    let run = run_of(out.alloc, row)?;
-    let mut page = ScriptedWriter::new(out.alloc);
-    let report = row.text("report").unwrap_or("");
-    match report {
-        "line" => {
+/// Prints a report, and appends why it ends early.
+fn print(out: &mut Answer, row: &Row<'_>, run: &Run, page: &mut ScriptedWriter) -> Result<()> {
+    match row.text("report") {
+        Some("line") => {
             for entry in run.entries.as_slice() {
-                let _ = kt_report::line(entry, &mut page);
+                let _ = kt_report::line(entry, page);
             }
         }
-        "text" | "moment" => print_text(out.alloc, row, &run, &mut page)?,
-        "junit" | "fault" => {
-            page.failing = u64::from(report == "fault");
-            print_junit(out, &run, &mut page);
+        Some("text" | "moment") => return print_text(out.alloc, row, run, page),
+        Some("junit") => print_junit(out, run, page),
+        Some("fault") => {
+            page.failing = 1;
+            print_junit(out, run, page);
         }
         _ => return Err(RowFault::Misspelled("no such report")),
     }
+    Ok(())
+}
+
+/// Appends a report of a run.
+fn push_report(out: &mut Answer, row: &Row<'_>, run: &Run) -> Result<()> {
+    let mut page = ScriptedWriter::new(out.alloc);
+    print(out, row, run, &mut page)?;
     let text = page.text(out.alloc)?;
-    match report {
-        "moment" => push_moment(out, text.as_str()),
+    match row.text("report") {
+        Some("moment") => push_moment(out, text.as_str()),
         _ => out.push(text.as_str()),
     }
     Ok(())
+}
+
+/// A report of the run in the row: `report line`, `report text`, `report junit`, `report moment` or `report fault`, whose
+/// first write fails.
+pub fn answer(out: &mut Answer, row: &Row<'_>) -> Result<()> {
+    push_report(out, row, &run_of(out.alloc, row)?)
 }

@@ -11,18 +11,10 @@ use std::alloc::Global;
 const LONG: usize = 1_000;
 
 /// A reader of bytes that come in pieces.
+#[derive(Drop)]
 enum Reader {
     Claim(ClaimReader),
     Tap(TapReader),
-}
-
-impl Drop for Reader {
-    fn drop(self) {
-        match self {
-            Reader::Claim(_reader) => {}
-            Reader::Tap(_reader) => {}
-        }
-    }
 }
 
 impl Reader {
@@ -52,17 +44,23 @@ impl Reader {
     }
 
     /// Appends what was read, in the form of a row.
-    fn push_read(self, out: &mut Answer) -> Result<()> {
+    fn push_read(self, out: &mut Answer) {
         match self {
-            Reader::Claim(reader) => push_claim(out, &reader.finish()?),
-            Reader::Tap(reader) => push_tap(out, &reader.finish()?),
+            Reader::Claim(reader) => push_claim(out, reader.finish()),
+            Reader::Tap(reader) => push_tap(out, reader.finish()),
         }
-        Ok(())
     }
 }
 
-/// Appends a claim: its name, its number if it has one, and its reason.
-fn push_claim(out: &mut Answer, claim: &Claim) {
+fn push_claim(out: &mut Answer, claim: Result<Claim, NoMemory>) {
+    match claim {
+        Ok(claim) => push_parts(out, &claim),
+        Err(refusal) => out.fail(refusal),
+    }
+}
+
+/// Appends the parts of a claim: its name, its number if it has one, and its reason.
+fn push_parts(out: &mut Answer, claim: &Claim) {
     out.name(claim);
     match claim {
         Claim::Missing | Claim::Unreadable | Claim::Passed => {}
@@ -81,65 +79,79 @@ fn push_claim(out: &mut Answer, claim: &Claim) {
 }
 
 /// Appends the result of a stream.
-fn push_tap(out: &mut Answer, tap: &Tap) {
+fn push_tap(out: &mut Answer, tap: Result<Tap, NoMemory>) {
     match tap {
-        Tap::Invalid(fault) => write!(out, "invalid: {fault:?}"),
-        Tap::BailedOut => out.push("bailed out"),
-        Tap::SkipAll(reason) => write!(out, "skipped: {}", reason.as_str()),
-        Tap::Counted(bad, all) => write!(out, "{bad} of {all} failed"),
+        Ok(Tap::Invalid(fault)) => write!(out, "invalid: {fault:?}"),
+        Ok(Tap::BailedOut) => out.push("bailed out"),
+        Ok(Tap::SkipAll(reason)) => write!(out, "skipped: {}", reason.as_str()),
+        Ok(Tap::Counted(bad, all)) => write!(out, "{bad} of {all} failed"),
+        Err(refusal) => out.fail(refusal),
     }
 }
 
-/// What is read of bytes in pieces of this length after a first one.
-fn pieces_text(
-    alloc: Global,
-    word: &str,
-    bytes: &[u8],
-    first: usize,
-    length: usize,
-) -> Result<String> {
-    let mut reader = Reader::new(alloc, word);
-    reader.take_pieces(bytes, first, length)?;
+/// What is read of whole bytes.
+fn whole_text(alloc: Global, word: &str, bytes: &[u8]) -> Result<String> {
     let mut out = Answer::new(alloc);
-    reader.push_read(&mut out)?;
+    match word {
+        "tap" => push_tap(&mut out, read_tap(alloc, bytes)),
+        _ => push_claim(&mut out, read_claim(alloc, bytes)),
+    }
     asked(out.end())
 }
 
-/// Appends what is read of whole bytes, if it is the same byte by byte and, for short ones, in any two pieces.
-fn push_agreed(out: &mut Answer, word: &str, bytes: &[u8]) -> Result<()> {
-    let mut whole = Answer::new(out.alloc);
-    match word {
-        "tap" => push_tap(&mut whole, &read_tap(out.alloc, bytes)?),
-        _ => push_claim(&mut whole, &read_claim(out.alloc, bytes)?),
+/// What is read of bytes in pieces of this length after a first one.
+fn cut_text(alloc: Global, word: &str, bytes: &[u8], first: usize, rest: usize) -> Result<String> {
+    let mut reader = Reader::new(alloc, word);
+    reader.take_pieces(bytes, first, rest)?;
+    let mut out = Answer::new(alloc);
+    reader.push_read(&mut out);
+    asked(out.end())
+}
+
+/// Appends what is read of two pieces if it isn't this text, and says whether it is.
+fn push_cut(out: &mut Answer, word: &str, bytes: &[u8], cut: usize, whole: &str) -> Result<bool> {
+    let other = cut_text(out.alloc, word, bytes, cut, bytes.len())?;
+    let agrees = other.as_str() == whole;
+    if !agrees {
+        write!(out, "cut at {cut}: {other}");
     }
-    let whole = whole.end()?;
+    Ok(agrees)
+}
+
+/// Appends what is read byte by byte, if this text is read of any two pieces too, for short bytes.
+fn push_agreed(out: &mut Answer, word: &str, bytes: &[u8], whole: &str) -> Result<()> {
     let cuts = if bytes.len() > LONG { 1 } else { bytes.len() };
     for cut in 0..cuts {
-        let other = pieces_text(out.alloc, word, bytes, cut, bytes.len())?;
-        if other.as_str() != whole.as_str() {
-            write!(out, "cut at {cut}: {other}");
+        if !push_cut(out, word, bytes, cut, whole)? {
             return Ok(());
         }
     }
-    let other = pieces_text(out.alloc, word, bytes, 0, 1)?;
-    if other.as_str() != whole.as_str() {
+    let other = cut_text(out.alloc, word, bytes, 0, 1)?;
+    if other.as_str() != whole {
         out.push("byte by byte: ");
     }
     out.push(other.as_str());
     Ok(())
 }
 
-/// The claim of a result file, `file TEXT`, or the result of a TAP stream, `tap TEXT`; or what is read of its pieces,
-/// `piece TEXT` each.
-pub fn answer(out: &mut Answer, row: &Row<'_>, word: &str) -> Result<()> {
-    if let Some(bytes) = row.bytes(out.alloc, word)? {
-        return push_agreed(out, word, &bytes);
-    }
+/// Appends what is read of the pieces of a row.
+fn push_pieces(out: &mut Answer, row: &Row<'_>, word: &str) -> Result<()> {
     let mut reader = Reader::new(out.alloc, word);
     for line in row.entries.as_slice() {
         if line.word == "piece" {
             asked(reader.take(&unescaped(out.alloc, line.text)?))?;
         }
     }
-    reader.push_read(out)
+    reader.push_read(out);
+    Ok(())
+}
+
+/// The claim of a result file, `file TEXT`, or the result of a TAP stream, `tap TEXT`; or what is read of its pieces,
+/// `piece TEXT` each.
+pub fn answer(out: &mut Answer, row: &Row<'_>, word: &str) -> Result<()> {
+    let Some(bytes) = row.bytes(out.alloc, word)? else {
+        return push_pieces(out, row, word);
+    };
+    let whole = whole_text(out.alloc, word, &bytes)?;
+    push_agreed(out, word, &bytes, whole.as_str())
 }
