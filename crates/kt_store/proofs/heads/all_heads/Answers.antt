@@ -4,11 +4,8 @@ use Rattle.kt_store.proofs.SqlFacts.{runs_select_is}
 use Rattle.kt_store.proofs.HeadLemmas.{tells_heads}
 use Rattle.kt_store.proofs.heads.all_heads.Goals as goal
 
-pub query-requires-clause-plain : goal.query-requires-clause-plain
-query-requires-clause-plain g c = runs_select_is.2
-
-pub query-requires-clause-width : goal.query-requires-clause-width
-query-requires-clause-width g c = runs_select_is.3
+pub query-requires : goal.query-requires
+query-requires g c = record { plain = runs_select_is.2; width = runs_select_is.3 }
 
 pub returns-clause-all : goal.returns-clause-all
 returns-clause-all g c runs has clean =

@@ -11,11 +11,8 @@ number_in-requires g c = omega (arith, first_wide 2 c.in_ok-rows.rows.items c.in
 pub number_in-requires-2 : goal.number_in-requires-2
 number_in-requires-2 g c = omega (arith, first_wide 2 c.in_ok-rows.rows.items c.in-Some.row.now c.in_ok-rows.ensures.wide (ap (λ l. slice_get l 0) (sym c.deref.ensures.value) ∙ sym c.first.ensures.value ∙ ap option_copied c.in-Some.is))
 
-pub query-requires-clause-plain : goal.query-requires-clause-plain
-query-requires-clause-plain g c = run_is.2
-
-pub query-requires-clause-width : goal.query-requires-clause-width
-query-requires-clause-width g c = run_is.3
+pub query-requires : goal.query-requires
+query-requires g c = record { plain = run_is.2; width = run_is.3 }
 
 pub returns-in_default-clause-valid : goal.returns-in_default-clause-valid
 returns-in_default-clause-valid g c runs has clean = (c.in_ok-rows.ensures.shown runs has clean).stored.tables.valid

@@ -3,11 +3,8 @@ use Rattle.kt_store.proofs.SqlFacts.{there_is}
 use Rattle.kt_store.proofs.ThereLemmas.{tells_there}
 use Rattle.kt_store.proofs.lookup.there.Goals as goal
 
-pub query-requires-clause-plain : goal.query-requires-clause-plain
-query-requires-clause-plain g c = there_is.2
-
-pub query-requires-clause-width : goal.query-requires-clause-width
-query-requires-clause-width g c = there_is.3
+pub query-requires : goal.query-requires
+query-requires g c = record { plain = there_is.2; width = there_is.3 }
 
 pub returns-clause-found : goal.returns-clause-found
 returns-clause-found g c runs has clean =

@@ -6,11 +6,8 @@ use Rattle.kt_store.proofs.PairsLemmas.{tells_pairs}
 use Rattle.kt_store.proofs.Outlined.{all_shown, none_shown}
 use Rattle.kt_store.proofs.outlines.all_pairs.Goals as goal
 
-pub query-requires-clause-plain : goal.query-requires-clause-plain
-query-requires-clause-plain g c = pairs_select_is.2
-
-pub query-requires-clause-width : goal.query-requires-clause-width
-query-requires-clause-width g c = pairs_select_is.3
+pub query-requires : goal.query-requires
+query-requires g c = record { plain = pairs_select_is.2; width = pairs_select_is.3 }
 
 pub returns-clause-all : goal.returns-clause-all
 returns-clause-all g c runs has clean = IfOk-weaker c.query.result _ _ (λ rows are.

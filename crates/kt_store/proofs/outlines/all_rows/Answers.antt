@@ -4,11 +4,8 @@ use Rattle.kt_store.proofs.SqlFacts.{outline_select_is}
 use Rattle.kt_store.proofs.EntriesLemmas.{tells_entries}
 use Rattle.kt_store.proofs.outlines.all_rows.Goals as goal
 
-pub query-requires-clause-plain : goal.query-requires-clause-plain
-query-requires-clause-plain g c = outline_select_is.2
-
-pub query-requires-clause-width : goal.query-requires-clause-width
-query-requires-clause-width g c = outline_select_is.3
+pub query-requires : goal.query-requires
+query-requires g c = record { plain = outline_select_is.2; width = outline_select_is.3 }
 
 pub returns-clause-all : goal.returns-clause-all
 returns-clause-all g c runs has clean = IfOk-weaker c.query.result _ _ (λ rows are.

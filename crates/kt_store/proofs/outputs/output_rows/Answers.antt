@@ -4,11 +4,8 @@ use Rattle.kt_store.proofs.SqlFacts.{outputs_select_is}
 use Rattle.kt_store.proofs.OutputsLemmas.{tells_outputs}
 use Rattle.kt_store.proofs.outputs.output_rows.Goals as goal
 
-pub query-requires-clause-plain : goal.query-requires-clause-plain
-query-requires-clause-plain g c = outputs_select_is.2
-
-pub query-requires-clause-width : goal.query-requires-clause-width
-query-requires-clause-width g c = outputs_select_is.3
+pub query-requires : goal.query-requires
+query-requires g c = record { plain = outputs_select_is.2; width = outputs_select_is.3 }
 
 pub returns-clause-all : goal.returns-clause-all
 returns-clause-all g c runs has clean = IfOk-weaker c.query.result _ _ (λ rows are.

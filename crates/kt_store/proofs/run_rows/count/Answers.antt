@@ -10,11 +10,8 @@ use Rattle.kt_store.proofs.run_rows.count.Goals as goal
 pub number_in-requires : goal.number_in-requires
 number_in-requires g c = omega (arith, first_wide 1 c.in_ok-rows.rows.items c.in-Some.row.now c.in_ok-rows.ensures.wide (ap (λ l. slice_get l 0) (sym c.deref.ensures.value) ∙ sym c.first.ensures.value ∙ ap option_copied c.in-Some.is))
 
-pub query-requires-clause-plain : goal.query-requires-clause-plain
-query-requires-clause-plain g c = count_is.2
-
-pub query-requires-clause-width : goal.query-requires-clause-width
-query-requires-clause-width g c = count_is.3
+pub query-requires : goal.query-requires
+query-requires g c = record { plain = count_is.2; width = count_is.3 }
 
 pub returns-clause-found : goal.returns-clause-found
 returns-clause-found g c runs has clean =

@@ -4,11 +4,8 @@ use Rattle.kt_store.proofs.SqlFacts.{full_is}
 use Rattle.kt_store.proofs.FullLemmas.{tells_full, has_room, has_none}
 use Rattle.kt_store.proofs.run_rows.is_full.Goals as goal
 
-pub query-requires-clause-plain : goal.query-requires-clause-plain
-query-requires-clause-plain g c = full_is.2
-
-pub query-requires-clause-width : goal.query-requires-clause-width
-query-requires-clause-width g c = full_is.3
+pub query-requires : goal.query-requires
+query-requires g c = record { plain = full_is.2; width = full_is.3 }
 
 pub returns-clause-full : goal.returns-clause-full
 returns-clause-full g c runs has clean =
