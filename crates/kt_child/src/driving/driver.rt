@@ -82,8 +82,9 @@ impl<O: Os + Drop> Launcher for Driver<O> {
 }
 
 impl<O: Os + Drop> Driver<O> {
-    ghost use Rattle.std.specs.Prelude.{◌≡◌, Bool, List, MatchResult, Ok, Err};
-    ghost use Rattle.kt_child.specs.Common.{Chain, Call, RemoveTree, FindsRoot, idle_state};
+    ghost use Rattle.std.specs.Prelude.{◌≡◌, Bool, ℕ, List, MatchResult, Ok, Err};
+    ghost use Rattle.kt_child.specs.Common.{Chain, Call, RemoveTree, FindsRoot, idle_state, MayStart, pending_after_start, running_after_start, HasMoment, IsFit, count_in, Begun, case_of, limit_of, spawned, state_after_start, is_among, shown_in, spawning_of, StartsBy};
+    ghost use Rattle.kt_base.specs.declared.child.Role.{Role as Part};
 
     /// Makes a root directory in `base`. `source` is the absolute directory of the root Kyuafile. Errors return `os`.
     pub fn new(
@@ -119,35 +120,6 @@ impl<O: Os + Drop> Driver<O> {
         let _ = os.remove_tree(&self.root);
         os
     }
-}
-
-/// A root directory by its number.
-pub(crate) fn root_path(alloc: Global, base: &Text, number: u64) -> Result<Text, NoMemory>
-    ensures { IfOk result (λ path. path ≡ root_of base.now number) }
-{
-    numbered_path(alloc, base, "/kyua.", number)
-}
-
-/// Makes the root directory of a driver: the first of `kyua.0` to `kyua.999` below `base` that can be made (this
-/// profile). One that exists, such as that of a runner that was killed, is never used again.
-fn find_root<O: Os>(alloc: Global, os: &mut O, base: &Text) -> Result<Text, DriverFault>
-    ensures { (calls : List Call) × Chain O.leads os.old calls os.new
-        × FindsRoot base.now calls result }
-{
-    for number in 0..1000 {
-        let root = root_path(alloc, base, number)?;
-        match os.make_dir(&root) {
-            Ok(()) => return Ok(root),
-            Err(_fault) => {}
-        }
-    }
-    Err(DriverFault::NoWorkDirectory)
-}
-
-impl<O: Os + Drop> Driver<O> {
-    ghost use Rattle.std.specs.Prelude.{◌≡◌, ℕ, List};
-    ghost use Rattle.kt_child.specs.Common.{MayStart, pending_after_start, running_after_start, HasMoment, IsFit, Chain, Call, count_in, Begun, case_of, limit_of, spawned, state_after_start, is_among, shown_in, spawning_of, StartsBy};
-    ghost use Rattle.kt_base.specs.declared.child.Role.{Role as Part};
 
     /// Starts a child of a job's case, by the number and the paths of its body's start.
     fn begin(&mut self, job: &Job, role: Role, attempt: u64, paths: Paths) -> StartAnswer
@@ -183,7 +155,11 @@ impl<O: Os + Drop> Driver<O> {
         };
         match spawning(self.alloc, &self.source, purpose, &case) {
             Err(refusal) => refuse(&mut self.os, role, &case.paths.dir, refusal),
-            Ok(plan) => self.running.start(&mut self.os, case, &plan),
+            Ok(plan) => {
+                let answer = self.running.start(&mut self.os, case, &plan);
+                drop(plan);
+                answer
+            }
         }
     }
 
@@ -226,4 +202,27 @@ impl<O: Os + Drop> Driver<O> {
         let owed = self.running.take_owed(job.position);
         self.begin(job, Role::Cleanup, owed.attempt, owed.paths)
     }
+}
+
+/// A root directory by its number.
+pub(crate) fn root_path(alloc: Global, base: &Text, number: u64) -> Result<Text, NoMemory>
+    ensures { IfOk result (λ path. path ≡ root_of base.now number) }
+{
+    numbered_path(alloc, base, "/kyua.", number)
+}
+
+/// Makes the root directory of a driver: the first of `kyua.0` to `kyua.999` below `base` that can be made (this
+/// profile). One that exists, such as that of a runner that was killed, is never used again.
+fn find_root<O: Os>(alloc: Global, os: &mut O, base: &Text) -> Result<Text, DriverFault>
+    ensures { (calls : List Call) × Chain O.leads os.old calls os.new
+        × FindsRoot base.now calls result }
+{
+    for number in 0..1000 {
+        let root = root_path(alloc, base, number)?;
+        match os.make_dir(&root) {
+            Ok(()) => return Ok(root),
+            Err(_fault) => {}
+        }
+    }
+    Err(DriverFault::NoWorkDirectory)
 }

@@ -89,15 +89,14 @@ impl<O: Os + Drop> Driver<O> {
         let Some(attempt) = take_number(&mut self.next) else {
             return Listing::Refused(Refused::Directory);
         };
-        let planned = plan_list(
+        match plan_list(
             self.alloc,
             &self.source,
             &self.root,
             attempt,
             &program.path,
             variables,
-        );
-        match planned {
+        ) {
             Err(refusal) => Listing::Refused(memory_refusal(refusal)),
             Ok((case, plan)) => run_list(&mut self.os, &plan, case),
         }

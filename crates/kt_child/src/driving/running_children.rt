@@ -18,8 +18,7 @@ use kt_sched::{Ended, StartAnswer};
 use std::alloc::Global;
 use std::marker::Model;
 
-/// The running children in the order of their start, and the cases whose cleanup is owed. Room for a case's cleanup is
-/// taken with its body's start.
+/// The running children in the order of their start, and the cases whose cleanup is owed, with room for those to come.
 #[derive(Drop)]
 pub(crate) struct RunningChildren {
     children: Vec<Watched>,

@@ -1,5 +1,5 @@
 ghost use Rattle.std.specs.Prelude.{◌≡◌, ◌≤◌, List, IfOk};
-ghost use Rattle.kt_child.specs.Common.{Chain, Call, HasMoment, SetUp, SetUpIn, SetUpNew, Started, TakesNumber, Tried, child_asks, furnish_asks, spawned, cause_of, fresh, IsFit, IsOnBy, limit_of, spawning_for, want_of};
+ghost use Rattle.kt_child.specs.Common.{Chain, Call, HasMoment, SetUp, SetUpIn, SetUpNew, Started, TakesNumber, Tried, child_asks, furnish_asks, spawned, cause_of, fresh, IsFit, IsOnBy, limit_of, spawning_for, want_of, words_of, program_directory};
 
 use crate::ending::ends::{output_paths, remove_if};
 use crate::planning::words::{absolute_path, program_directory};
@@ -7,7 +7,7 @@ use crate::planning::{Case, Purpose, Spawning};
 use crate::polling::{Watch, Watched};
 use crate::system::moments::moment;
 use crate::{Os, OsFault, Want, argv_plan, env_plan};
-use kt_base::{NoMemory, Refused, Role, Text};
+use kt_base::{Items, NoMemory, Refused, Role, Text};
 use kt_sched::{Job, StartAnswer};
 use std::alloc::Global;
 
@@ -37,6 +37,38 @@ pub(crate) fn want_and_limit(job: &Job, role: Role) -> (Want, u64)
     }
 }
 
+/// Two texts, copied.
+fn copies(first: &Text, second: &Text) -> Result<(Text, Text), NoMemory>
+    ensures first { IfOk result (λ two. two.0 ≡ first.now) }
+    ensures second { IfOk result (λ two. two.1 ≡ second.now) }
+{
+    let first = first.copy()?;
+    Ok((first, second.copy()?))
+}
+
+/// The words of a case's child, by the absolute path of its program.
+fn words_for(
+    alloc: Global,
+    program: &Text,
+    purpose: Purpose<'_>,
+    case: &Case,
+) -> Result<Items<Text>, NoMemory>
+    ensures { IfOk result (λ words. words ≡ words_of case.now.interface purpose.entry.want
+        case.now.paths.result (program_directory program.now) purpose.entry.variables.now
+        purpose.entry.case_name.now) }
+{
+    let directory = program_directory(alloc, program)?;
+    argv_plan(
+        alloc,
+        case.interface,
+        purpose.want,
+        &case.paths,
+        &directory,
+        purpose.variables,
+        purpose.case_name,
+    )
+}
+
 /// What the child of a case is started with. `source` is the absolute directory of the root Kyuafile.
 pub(crate) fn spawning(
     alloc: Global,
@@ -57,22 +89,10 @@ pub(crate) fn spawning(
 {
     let paths = &case.paths;
     let program = absolute_path(source, purpose.program)?;
-    let directory = program_directory(alloc, &program)?;
-    let words = argv_plan(
-        alloc,
-        case.interface,
-        purpose.want,
-        paths,
-        &directory,
-        purpose.variables,
-        purpose.case_name,
-    )?;
-    drop(directory);
-    let dir = paths.dir.copy()?;
-    let work = paths.work.copy()?;
+    let words = words_for(alloc, &program, purpose, case)?;
+    let (dir, work) = copies(&paths.dir, &paths.work)?;
     let (out, err) = output_paths(case.role, paths);
-    let out = out.copy()?;
-    let err = err.copy()?;
+    let (out, err) = copies(out, err)?;
     let env = env_plan(alloc, case.interface, purpose.variables, &paths.work)?;
     Ok(Spawning {
         child: case.child(),

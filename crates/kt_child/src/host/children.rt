@@ -80,11 +80,8 @@ pub(crate) fn launch<P: OpenProcess + Drop, R: Processes<Started = P> + Clock + 
 }
 
 /// Whether some child is heard late.
-pub(crate) fn is_any_late<P: OpenProcess + Drop, C: Clock>(
-    children: &Children<P>,
-    clock: &C,
-) -> bool {
-    let Ok(now) = Instant::now(clock) else {
+pub(crate) fn is_any_late<P: OpenProcess + Drop, C: Clock>(children: &Children<P>, rt: &C) -> bool {
+    let Ok(now) = Instant::now(rt) else {
         return false;
     };
     for held in children.values() {
@@ -145,8 +142,7 @@ fn has_new_end<P: OpenProcess + Drop>(children: &mut Children<P>) -> bool
     false
 }
 
-/// Rests until a child has ended, at the latest after a pause, and returns whether one has. The first pause after an end
-/// looks more often at its beginning.
+/// Rests for a pause, or until a child has ended, and returns whether one has. The first pause after an end looks often.
 pub(crate) fn await_end<P: OpenProcess + Drop, R: Files + Clock + AllocGlobal>(
     children: &mut Children<P>,
     removals: &mut Option<Removals>,

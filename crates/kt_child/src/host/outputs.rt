@@ -28,12 +28,9 @@ fn give_rights<R: Files>(rt: &R, path: &str) -> io::Result<()> {
 }
 
 /// Makes a directory for its owner alone, who gets its rights back where the umask is narrow.
-pub(crate) fn create_directory<R: Files>(rt: &R, path: &str, narrow: bool) -> io::Result<()> {
-    DirBuilder::new().mode(DIRECTORY_MODE).create(rt, path)?;
-    if narrow {
-        return give_rights(rt, path);
-    }
-    Ok(())
+pub(crate) fn create_directory<R: Files>(rt: &R, dir: &str, narrow: bool) -> io::Result<()> {
+    DirBuilder::new().mode(DIRECTORY_MODE).create(rt, dir)?;
+    if narrow { give_rights(rt, dir) } else { Ok(()) }
 }
 
 /// Makes a first directory, and returns whether the umask is narrow: whether it takes a right from the owner.

@@ -88,10 +88,7 @@ impl Pace {
             ((instant_nanos now - instant_nanos start) / 1000000)) }
     {
         match self.started {
-            Some(started) => {
-                let millis = now.duration_since(started).as_millis();
-                is_late(self.limit, self.told, millis)
-            }
+            Some(from) => is_late(self.limit, self.told, now.duration_since(from).as_millis()),
             None => false,
         }
     }
@@ -110,10 +107,7 @@ impl Pace {
             ((instant_nanos now - instant_nanos start) / 1000000)) }
     {
         match self.started {
-            Some(started) => {
-                let millis = now.duration_since(started).as_millis();
-                is_too_early(self.limit, self.told, millis)
-            }
+            Some(from) => is_too_early(self.limit, self.told, now.duration_since(from).as_millis()),
             None => false,
         }
     }

@@ -30,16 +30,11 @@ fn push_removed(alloc: Global, names: &mut Items<Text>) -> Result<(), NoMemory>
 }
 
 /// Appends a variable.
-fn push_variable(
-    alloc: Global,
-    set: &mut Variables,
-    name: &str,
-    value: &str,
-) -> Result<(), NoMemory>
-    ensures { OnOk result (set.new ≡ set.old ++ variable (chars name.now) (chars value.now) ∷ []) }
+fn push_variable(alloc: Global, set: &mut Variables, name: &str, text: &str) -> Result<(), NoMemory>
+    ensures { OnOk result (set.new ≡ set.old ++ variable (chars name.now) (chars text.now) ∷ []) }
 {
     let name = Text::from_str(alloc, name)?;
-    let value = Text::from_str(alloc, value)?;
+    let value = Text::from_str(alloc, text)?;
     set.push(Variable { name, value })
 }
 
@@ -53,11 +48,7 @@ fn for_test(alloc: Global, variable: &Variable) -> Result<Variable, NoMemory>
 }
 
 /// Appends each variable of the suite in that form.
-fn push_test_variables(
-    alloc: Global,
-    set: &mut Variables,
-    variables: &Variables,
-) -> Result<(), NoMemory>
+fn push_for_test(alloc: Global, set: &mut Variables, variables: &Variables) -> Result<(), NoMemory>
     ensures { OnOk result (set.new ≡ set.old ++ map test_variable variables.now) }
 {
     for variable in variables.as_slice() {
@@ -94,7 +85,7 @@ fn push_own(
             "__RUNNING_INSIDE_ATF_RUN",
             "internal-yes-value",
         ),
-        Interface::Tap | Interface::Plain => push_test_variables(alloc, set, variables),
+        Interface::Tap | Interface::Plain => push_for_test(alloc, set, variables),
     }
 }
 

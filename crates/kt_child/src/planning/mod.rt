@@ -30,8 +30,7 @@ pub(crate) struct Purpose<'a> {
     pub limit: u64,
 }
 
-/// What is kept of a case while a child of it runs, or while its cleanup is owed; the paths are its body's. A list has one,
-/// too.
+/// What is kept of a case, or of a list, while a child of it runs or its cleanup is owed; the paths are its body's.
 #[derive(Drop)]
 pub(crate) struct Case {
     /// The place in the plan, counted from 0, or 0 for a list.

@@ -45,15 +45,10 @@ pub(crate) fn push_text(alloc: Global, texts: &mut Items<Text>, text: &str) -> R
 }
 
 /// Appends two texts, joined, to a list of texts.
-fn push_joined(
-    alloc: Global,
-    texts: &mut Items<Text>,
-    first: &str,
-    second: &str,
-) -> Result<(), NoMemory>
-    ensures { OnOk result (texts.new ≡ texts.old ++ (chars first.now ++ chars second.now) ∷ []) }
+fn push_both(alloc: Global, texts: &mut Items<Text>, head: &str, tail: &str) -> Result<(), NoMemory>
+    ensures { OnOk result (texts.new ≡ texts.old ++ (chars head.now ++ chars tail.now) ∷ []) }
 {
-    let text = joined(alloc, first, second)?;
+    let text = joined(alloc, head, tail)?;
     texts.push(text)
 }
 
@@ -102,8 +97,8 @@ fn body_words(
         source.now variables.now case_name.now) }
 {
     let mut words = Items::new(alloc);
-    push_joined(alloc, &mut words, "-r", result_file.as_str())?;
-    push_joined(alloc, &mut words, "-s", source.as_str())?;
+    push_both(alloc, &mut words, "-r", result_file.as_str())?;
+    push_both(alloc, &mut words, "-s", source.as_str())?;
     push_variable_words(alloc, &mut words, variables)?;
     push_text(alloc, &mut words, case_name.as_str())?;
     Ok(words)
@@ -119,14 +114,13 @@ fn cleanup_words(
         ++ map variable_word variables.now ++ (case_name.now ++ codes ":cleanup") ∷ []) }
 {
     let mut words = Items::new(alloc);
-    push_joined(alloc, &mut words, "-s", source.as_str())?;
+    push_both(alloc, &mut words, "-s", source.as_str())?;
     push_variable_words(alloc, &mut words, variables)?;
-    push_joined(alloc, &mut words, case_name.as_str(), ":cleanup")?;
+    push_both(alloc, &mut words, case_name.as_str(), ":cleanup")?;
     Ok(words)
 }
 
-/// The arguments of a program, after its path: those of atf-test-program(1) for an ATF program, none
-/// for others. `source` is the absolute directory of the program.
+/// A program's arguments: those of atf-test-program(1) for an ATF program, else none. `source` is its absolute directory.
 pub fn argv_plan(
     alloc: Global,
     interface: Interface,

@@ -4,4 +4,4 @@ use Rattle.kt_child.proofs.planning.workdir.workdir_plan.Goals as goal
 
 pub returns : goal.returns
 unfolding chars
-returns c = rw (c.in_ok-attempt_path.ensures, c.in_ok-path_below.ensures, c.in_ok-path_below-2.ensures, c.in_ok-path_below-3.ensures, c.in_ok-path_below-4.ensures, c.in_ok-path_below-5.ensures, c.in_ok-path_below-6.ensures) refl
+returns c = rw (c.in_ok-dir.ensures, c.in_ok-work.ensures, c.in_ok-result.ensures, c.in_ok-out.ensures.first, c.in_ok-out.ensures.second, c.in_ok-cleanup_out.ensures.first, c.in_ok-cleanup_out.ensures.second) refl

@@ -1,6 +1,6 @@
 use Rattle.kt_child.proofs.Common.{test_variable}
 use Rattle.kt_child.proofs.Mapped.{mapped_more}
-use Rattle.kt_child.proofs.planning.environment.push_test_variables.Goals as goal
+use Rattle.kt_child.proofs.planning.environment.push_for_test.Goals as goal
 
 pub loop-variable-preserved : goal.loop-variable-preserved
 loop-variable-preserved c =
