@@ -88,7 +88,7 @@ pub(crate) fn spawning(
     ensures on { IfOk result (λ plan. IsOnBy plan.limit fresh) }
 {
     let paths = &case.paths;
-    let program = absolute_path(source, purpose.program)?;
+    let program = absolute_path(alloc, source, purpose.program)?;
     let words = words_for(alloc, &program, purpose, case)?;
     let (dir, work) = copies(&paths.dir, &paths.work)?;
     let (out, err) = output_paths(case.role, paths);

@@ -84,8 +84,8 @@ pub(crate) fn is_any_late<P: OpenProcess + Drop, C: Clock>(children: &Children<P
     let Ok(now) = Instant::now(rt) else {
         return false;
     };
-    for held in children.values() {
-        if held.is_late_at(now) {
+    for place in 0..children.len() {
+        if children[place].is_late_at(now) {
             return true;
         }
     }

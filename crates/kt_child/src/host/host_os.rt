@@ -73,13 +73,12 @@ impl<R: Processes + AllocGlobal + Drop> HostOs<R> {
     pub fn new(rt: R) -> HostOs<R>
         ensures { (c : Name) → stand_in result.children.entries c ≡ None }
     {
-        let children = Children::new(rt.alloc());
         HostOs {
+            children: Children::new(rt.alloc()),
             rt,
             removals: None,
             narrow: false,
             limit: 0,
-            children,
             last: None,
             quiet: 0,
             late: None,
@@ -174,9 +173,10 @@ impl<R: Processes + Files<File = File> + Clock + AllocGlobal + Clone + Drop> Os 
 
     fn poll(&mut self, child: Child) -> Result<Polled, OsFault> {
         let late = self.is_late();
-        match children::poll(&mut self.children, child, late, &self.rt)? {
-            None => Ok(Polled::Running),
-            Some(status) => {
+        match children::poll(&mut self.children, child, late, &self.rt) {
+            Err(fault) => Err(fault),
+            Ok(None) => Ok(Polled::Running),
+            Ok(Some(status)) => {
                 self.late = None;
                 self.last = children::take_out(&mut self.children, child);
                 self.quiet = 0;

@@ -65,8 +65,7 @@ fn push_common(alloc: Global, set: &mut Variables, work: &Text) -> Result<(), No
 {
     push_variable(alloc, set, "TZ", "UTC")?;
     push_variable(alloc, set, "HOME", work.as_str())?;
-    push_variable(alloc, set, "TMPDIR", work.as_str())?;
-    Ok(())
+    push_variable(alloc, set, "TMPDIR", work.as_str())
 }
 
 /// Appends the variables that a child of an interface gets in addition.

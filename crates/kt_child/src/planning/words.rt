@@ -7,11 +7,10 @@ use kt_suite::parent_path;
 use std::alloc::Global;
 
 /// The absolute path of a program, by the absolute directory of the root Kyuafile.
-pub(crate) fn absolute_path(source: &Text, program: &Text) -> Result<Text, NoMemory>
+pub(crate) fn absolute_path(alloc: Global, source: &Text, program: &Text) -> Result<Text, NoMemory>
     ensures { IfOk result (λ path. path ≡ program_path source.now program.now) }
 {
-    let mut path = source.copy()?;
-    path.push_str("/")?;
+    let mut path = joined(alloc, source.as_str(), "/")?;
     path.push_str(program.as_str())?;
     Ok(path)
 }

@@ -4,4 +4,4 @@ use Rattle.kt_child.proofs.planning.words.absolute_path.Goals as goal
 
 pub returns : goal.returns
 unfolding chars
-returns c = rw (c.in_ok-push_str-2.ensures.ok, c.in_ok-push_str.ensures.ok, c.in_ok-path.ensures, c.as_str.ensures.characters) refl
+returns c = rw (c.in_ok-push_str.ensures.ok, c.in_ok-path.ensures, c.as_str.ensures.characters, c.as_str-2.ensures.characters) refl
