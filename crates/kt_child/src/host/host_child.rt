@@ -159,11 +159,11 @@ impl<P: OpenProcess + Drop> HostChild<P> {
             return Ok(None);
         }
         self.keep_pace(clock)?;
-        let answer = self.status();
-        if matches!(answer, Ok(None)) {
+        let status = self.status()?;
+        if status.is_none() {
             self.pace.tell();
         }
-        answer
+        Ok(status)
     }
 
     /// Kills it. Its 500 answers from then on have the pace of a limit of their own.

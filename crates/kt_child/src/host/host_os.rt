@@ -191,12 +191,13 @@ impl<R: Processes + Files<File = File> + Clock + AllocGlobal + Clone + Drop> Os 
 
     fn pause(&mut self) -> Result<(), OsFault> {
         let late = self.late == Some(true);
-        if late || self.quiet % TURNS_OF_A_LOOK == 0 {
-            self.late = None;
-        }
         // The late ones are heard again at once.
         if late {
+            self.late = None;
             return Ok(());
+        }
+        if self.quiet % TURNS_OF_A_LOOK == 0 {
+            self.late = None;
         }
         let quiet = self.quiet.saturating_add(1);
         if is_quiet(self.quiet) {
