@@ -141,7 +141,8 @@ impl<P: OpenProcess + Drop> HostChild<P> {
         late && !self.seen && self.process.is_some() && self.pace.is_free()
     }
 
-    /// How it ended, if it has, once the answer `running`, which is counted, is due; `late` allows that answer unlooked.
+    /// How it ended, if it has, once the answer `running` is due. That answer is counted. While some child is heard late, it may
+    /// be given without a look.
     pub(crate) fn poll<C: Clock>(
         &mut self,
         late: bool,
