@@ -86,11 +86,11 @@ fn stop_status(stop: &Stop) -> u8
 }
 
 /// Ends a command that was stopped by a fault.
-pub fn stopped<O: Write>(fault: &Stop, out: &mut O) -> Exit
+pub fn stopped<O: Write>(fault: Stop, out: &mut O) -> Exit
     ensures { Printed (O.contents out.old) (O.contents out.new) result.status
-        (utf8 (stop_line fault.now)) (stop_exit fault.now) }
+        (utf8 (stop_line fault)) (stop_exit fault) }
 {
-    ended(write_stop(fault, out), stop_status(fault))
+    ended(write_stop(&fault, out), stop_status(&fault))
 }
 
 /// Prints why there is no driver.

@@ -81,6 +81,6 @@ pub fn debug<W: World, O: Write>(
 {
     match select_cases(alloc, true, options, world) {
         Ok(picked) => debug_picked(alloc, options, &picked, world, out),
-        Err(fault) => stopped(&fault, out),
+        Err(fault) => stopped(fault, out),
     }
 }

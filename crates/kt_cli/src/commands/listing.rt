@@ -63,6 +63,6 @@ pub fn list<W: World, O: Write>(
             let written = write_listing(cases, options.filters.as_slice(), unmatched, out);
             ended(written, status_of(0, unmatched))
         }
-        Err(fault) => stopped(&fault, out),
+        Err(fault) => stopped(fault, out),
     }
 }

@@ -182,6 +182,6 @@ pub fn test<W: World, R: ResultStore, O: Write>(
 {
     match select_cases(alloc, false, options, world) {
         Ok(picked) => test_picked(alloc, options, &picked, world, results, out),
-        Err(fault) => stopped(&fault, out),
+        Err(fault) => stopped(fault, out),
     }
 }

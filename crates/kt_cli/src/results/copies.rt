@@ -1,5 +1,5 @@
-ghost use Rattle.std.specs.Prelude.{◌≡◌, map, IfOk};
-ghost use Rattle.kt_cli.specs.Common.{with_outputs, outlined, outputs_of};
+ghost use Rattle.std.specs.Prelude.{◌≡◌, map, true, IfOk};
+ghost use Rattle.kt_cli.specs.Common.{outlined, outputs_of};
 
 use kt_base::{Entry, NoMemory, Output, Text, Variables, Verdict};
 use kt_store::{CaseOutputs, no_output};
@@ -32,9 +32,9 @@ pub fn copy_of_outputs(entry: &Entry) -> Result<CaseOutputs, NoMemory>
     })
 }
 
-/// A copy of an entry with these outputs. Its reason is kept as its text.
-fn copy_with(alloc: Global, entry: &Entry, body: Output, cleanup: Output) -> Result<Entry, NoMemory>
-    ensures { IfOk result (λ copy. copy ≡ with_outputs entry.now body cleanup) }
+/// A copy of an entry without its outputs. Its reason is kept as its text.
+fn copy_without(alloc: Global, entry: &Entry) -> Result<Entry, NoMemory>
+    ensures { IfOk result (λ copy. copy ≡ outlined true entry.now) }
 {
     Ok(Entry {
         position: entry.position,
@@ -43,9 +43,9 @@ fn copy_with(alloc: Global, entry: &Entry, body: Output, cleanup: Output) -> Res
         verdict: copy_of_verdict(alloc, &entry.verdict)?,
         started: entry.started,
         millis: entry.millis,
-        body,
-        cleanup,
         meta: entry.meta.copy()?,
+        body: no_output(alloc),
+        cleanup: no_output(alloc),
     })
 }
 
@@ -53,25 +53,30 @@ fn copy_with(alloc: Global, entry: &Entry, body: Output, cleanup: Output) -> Res
 pub fn copy_of_entry(alloc: Global, entry: &Entry) -> Result<Entry, NoMemory>
     ensures { IfOk result (λ copy. copy ≡ entry.now) }
 {
-    let outputs = copy_of_outputs(entry)?;
-    copy_with(alloc, entry, outputs.body, outputs.cleanup)
+    let mut copy = copy_without(alloc, entry)?;
+    copy.body = copy_of_output(&entry.body)?;
+    copy.cleanup = copy_of_output(&entry.cleanup)?;
+    Ok(copy)
+}
+
+/// A copy of an entry without its outputs, with its pairs if they are asked for.
+fn outlined(alloc: Global, entry: &Entry, pairs: bool) -> Result<Entry, NoMemory>
+    ensures { IfOk result (λ copy. copy ≡ outlined pairs entry.now) }
+{
+    let mut copy = copy_without(alloc, entry)?;
+    if !pairs {
+        copy.meta = Variables::new(alloc);
+    }
+    Ok(copy)
 }
 
 /// Copies of entries without their outputs, with their pairs if they are asked for.
-pub fn copies_for_outline(
-    alloc: Global,
-    entries: &[Entry],
-    pairs: bool,
-) -> Result<Vec<Entry>, NoMemory>
+pub fn outlined_all(alloc: Global, entries: &[Entry], pairs: bool) -> Result<Vec<Entry>, NoMemory>
     ensures { IfOk result (λ copies. copies.items ≡ map (outlined pairs) entries.now) }
 {
     let mut copies = Vec::new(alloc);
     for entry in entries {
-        let mut copy = copy_with(alloc, entry, no_output(alloc), no_output(alloc))?;
-        if !pairs {
-            copy.meta = Variables::new(alloc);
-        }
-        copies.push(copy)?;
+        copies.push(outlined(alloc, entry, pairs)?)?;
     }
     Ok(copies)
 }

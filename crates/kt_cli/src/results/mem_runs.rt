@@ -1,4 +1,4 @@
-use crate::results::copies::{copies_for_outline, copy_of_entry, copy_of_outputs};
+use crate::results::copies::{copy_of_entry, copy_of_outputs, outlined_all};
 use kt_base::{Entry, Items, NoMemory, Run};
 use kt_store::{CaseOutputs, Keeping, ResultStore, RunHead, StoreFault};
 use std::alloc::Global;
@@ -101,7 +101,7 @@ impl MemRuns {
             (Outline number pairs (seen_as (λ found. found.items) result)) self.now }
     {
         let place = self.place(number)?;
-        match copies_for_outline(self.alloc, self.runs[place].entries.as_slice(), pairs) {
+        match outlined_all(self.alloc, self.runs[place].entries.as_slice(), pairs) {
             Ok(entries) => Ok(entries),
             Err(refusal) => Err(short(refusal)),
         }

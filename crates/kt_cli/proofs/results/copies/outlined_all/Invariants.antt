@@ -1,6 +1,6 @@
 use Rattle.std.proofs.Common.{map, ◌≡◌, ◌++◌, drop}
 use Rattle.kt_cli.proofs.Common.{outlined}
-use Rattle.kt_cli.proofs.results.copies.copies_for_outline.Given as goal
+use Rattle.kt_cli.proofs.results.copies.outlined_all.Given as goal
 
 -- the copies of the rest go behind those so far
 abbrev pub invariant-loop-entry : goal.invariant-loop-entry
