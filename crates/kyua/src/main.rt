@@ -63,11 +63,8 @@ impl<S: Past> Platform for Host<'_, S> {
 
     fn close(&mut self, results: Self::Results) -> Result<(), StoreFault> {
         match results {
-            FileResults::Whole(results) => {
-                // The log is copied into the file, so that the file alone has every run.
-                results.close()?;
-                Ok(())
-            }
+            // The log is copied into the file, so that the file alone has every run.
+            FileResults::Whole(results) => results.close(),
             FileResults::Alone(_store, _alloc) => Ok(()),
         }
     }
