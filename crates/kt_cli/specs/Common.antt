@@ -10,7 +10,6 @@ pub use Rattle.kt_base.specs.Shows.{Shows}
 pub use Rattle.kt_base.specs.Utf8.{utf8}
 pub use Rattle.kt_base.specs.declared.entry.Run.{Run}
 pub use Rattle.kt_child.specs.Driving.ChildrenState.{ChildrenState, is_among, shown_in}
-pub use Rattle.kt_report.specs.Cases.{with_outputs}
 pub use Rattle.kt_sched.specs.Children.{IsIdle}
 pub use Rattle.kt_sched.specs.Plan.{IsPlan, IsWidth}
 pub use Rattle.kt_store.specs.Ask.{IsStoreFault}
