@@ -142,7 +142,8 @@ fn has_new_end<P: OpenProcess + Drop>(children: &mut Children<P>) -> bool
     false
 }
 
-/// Rests for a pause, or until a child has ended, and returns whether one has. The first pause after an end looks often.
+/// Rests until a child has ended, at the latest after a pause, and returns whether one has. The first pause after an end
+/// looks more often at its beginning.
 pub(crate) fn await_end<P: OpenProcess + Drop, R: Files + Clock + AllocGlobal>(
     children: &mut Children<P>,
     removals: &mut Option<Removals>,
