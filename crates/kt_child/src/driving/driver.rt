@@ -155,11 +155,7 @@ impl<O: Os + Drop> Driver<O> {
         };
         match spawning(self.alloc, &self.source, purpose, &case) {
             Err(refusal) => refuse(&mut self.os, role, &case.paths.dir, refusal),
-            Ok(plan) => {
-                let answer = self.running.start(&mut self.os, case, &plan);
-                drop(plan);
-                answer
-            }
+            Ok(plan) => self.running.start(&mut self.os, case, &plan),
         }
     }
 

@@ -15,16 +15,16 @@ planned source job c want limit e f = ap (λ (w : Want). started source job c w 
 pub returns-in-Ok-clause-begun : goal.returns-in-Ok-clause-begun
 returns-in-Ok-clause-begun g c =
     let case = case_of c.args.job.now c.args.role c.args.attempt c.args.paths in
-    let B : Spawning → Type 0 = λ s. (calls : List Call) × Chain g.O.Os.leads c.args.self.now.os calls c.start-answer.new.os × Begun s calls c.start-answer.result in
-    subst B (c.in-Ok.ensures.plan ∙ planned c.args.self.now.source c.args.job.now case _ _ c.want_and_limit-want.ensures.want c.want_and_limit-want.ensures.limit) c.start-answer.ensures.begun
+    let B : Spawning → Type 0 = λ s. (calls : List Call) × Chain g.O.Os.leads c.args.self.now.os calls c.start.new.os × Begun s calls c.start.result in
+    subst B (c.in-Ok.ensures.plan ∙ planned c.args.self.now.source c.args.job.now case _ _ c.want_and_limit-want.ensures.want c.want_and_limit-want.ensures.limit) c.start.ensures.begun
 
 pub returns-in-Ok-clause-state : goal.returns-in-Ok-clause-state
 returns-in-Ok-clause-state g c =
     let case = case_of c.args.job.now c.args.role c.args.attempt c.args.paths in
-    c.start-answer.ensures.state ∙ ap (λ (s : Spawning). state_after_start c.args.self.now.running (spawned s.limit case) c.start-answer.result)
+    c.start.ensures.state ∙ ap (λ (s : Spawning). state_after_start c.args.self.now.running (spawned s.limit case) c.start.result)
     (c.in-Ok.ensures.plan ∙ planned c.args.self.now.source c.args.job.now case _ _ c.want_and_limit-want.ensures.want c.want_and_limit-want.ensures.limit)
 
 pub returns-in-Ok-clause-running : goal.returns-in-Ok-clause-running
 returns-in-Ok-clause-running g c k r =
     ap (λ (s : ChildrenState). shown_in s k r) (returns-in-Ok-clause-state g c)
-    ∙ shown_started c.args.self.now.running c.args.job.now c.args.role c.args.attempt c.args.paths c.start-answer.result c.requires.free k r
+    ∙ shown_started c.args.self.now.running c.args.job.now c.args.role c.args.attempt c.args.paths c.start.result c.requires.free k r
