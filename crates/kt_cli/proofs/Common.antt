@@ -47,7 +47,7 @@ pub use Rattle.kt_store.specs.declared.store_fault.StoreFault.{StoreFault}
 pub use Rattle.kt_store.specs.declared.store_fault.StoreFault.TheVariants.{BadPosition, Incomplete, NoRun, RepeatedPosition}
 pub use Rattle.kt_words.specs.Commands.{cases_of, needs_case, number_of, results_of}
 pub use Rattle.kt_words.specs.declared.command.Command.{Command}
-pub use Rattle.kt_words.specs.declared.command.ReportOptions.{ReportOptions}
+pub use Rattle.kt_words.specs.declared.options.ReportOptions.{ReportOptions}
 unfoldable pub use lib.Utf8.{encode}
 pub use Rattle.kt_cli.specs.CaseLines.{case_line}
 pub use Rattle.kt_cli.specs.Debugging.{all_debug_bytes, debug_bytes, debug_exit}

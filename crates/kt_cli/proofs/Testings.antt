@@ -6,7 +6,7 @@ use Rattle.kt_base.specs.declared.child.Role.{Role}
 use Rattle.kt_metadata.specs.declared.host.Host.{Host}
 use Rattle.kt_suite.specs.Answers.{Answered}
 use Rattle.kt_suite.specs.Selecting.{most_items}
-use Rattle.kt_plan.specs.declared.options.CaseOptions.{CaseOptions}
+use Rattle.kt_words.specs.declared.options.CaseOptions.{CaseOptions}
 use Rattle.kt_plan.specs.declared.cases.Picked.{Picked}
 use Rattle.kt_plan.specs.declared.stop.Stop.{Stop}
 use Rattle.kt_plan.specs.Selecting.{Selects, SelectsFirst, SelectsOrShort}

@@ -10,11 +10,11 @@ use Rattle.kt_store.specs.StoreCalls.{StoreCall}
 use Rattle.kt_store.specs.declared.result_store.Keeping as keeping
 use Rattle.kt_base.specs.Chains.{Chain}
 use Rattle.kt_plan.specs.declared.cases.Candidate.{Candidate}
-use Rattle.kt_plan.specs.declared.options.CaseOptions.{CaseOptions}
+use Rattle.kt_words.specs.declared.options.CaseOptions.{CaseOptions}
 use Rattle.kt_plan.specs.declared.cases.Chosen.{Chosen}
 use Rattle.kt_words.specs.declared.command.Command.{Command}
 use Rattle.kt_words.specs.declared.command.Command.TheVariants as command
-use Rattle.kt_words.specs.declared.command.ReportOptions.{ReportOptions}
+use Rattle.kt_words.specs.declared.options.ReportOptions.{ReportOptions}
 use Rattle.kt_plan.specs.declared.cases.Picked.{Picked}
 use Rattle.kt_plan.specs.declared.stop.Stop.{Stop}
 use Rattle.kt_words.specs.Commands.{cases_of, needs_case}

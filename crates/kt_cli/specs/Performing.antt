@@ -15,7 +15,7 @@ use Rattle.kt_child.specs.declared.driving.driver.DriverFault.{DriverFault}
 use Rattle.kt_child.specs.declared.driving.driver.DriverFault.TheVariants.{NoWorkDirectory}
 use Rattle.kt_child.specs.declared.system.os.Os as system
 use Rattle.kt_suite.specs.Paths.{directory_of}
-use Rattle.kt_plan.specs.declared.options.CaseOptions.{CaseOptions}
+use Rattle.kt_words.specs.declared.options.CaseOptions.{CaseOptions}
 use Rattle.kt_store.specs.declared.result_store.Keeping as keeping
 use Rattle.kt_store.specs.declared.store_fault.StoreFault.{StoreFault}
 use Rattle.kt_words.specs.Commands.{cases_of, results_of}

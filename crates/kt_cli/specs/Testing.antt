@@ -4,7 +4,7 @@ use Rattle.kt_base.specs.declared.entry.Entry.{Entry}
 use Rattle.kt_base.specs.Utf8.{utf8}
 use Rattle.kt_sched.specs.declared.job.Job.{Job}
 use Rattle.kt_sched.specs.Trace.{Trace, NoEvent}
-use Rattle.kt_plan.specs.declared.options.CaseOptions.{CaseOptions}
+use Rattle.kt_words.specs.declared.options.CaseOptions.{CaseOptions}
 use Rattle.kt_plan.specs.declared.cases.Picked.{Picked}
 use Rattle.kt_store.specs.StoreCalls.{StoreCall, Began, Put, Finished}
 use Rattle.kt_store.specs.declared.store_fault.StoreFault.{StoreFault}

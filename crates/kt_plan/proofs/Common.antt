@@ -45,6 +45,6 @@ pub use Rattle.kt_plan.specs.Stops.{IsShort, RanOut}
 pub use Rattle.kt_plan.specs.Told.{Finds, HasDisk, HasMemory, IsRoot, Lists, ReadConfig, Told}
 pub use Rattle.kt_plan.specs.declared.cases.Chosen.{Chosen}
 pub use Rattle.kt_plan.specs.declared.cases.Candidate.{Candidate}
-pub use Rattle.kt_plan.specs.declared.options.CaseOptions.{CaseOptions}
+pub use Rattle.kt_words.specs.declared.options.CaseOptions.{CaseOptions}
 pub use Rattle.kt_plan.specs.declared.options.Settings.{Settings}
 pub use Rattle.kt_plan.specs.declared.stop.Stop.{Stop}

@@ -15,7 +15,7 @@ use Rattle.kt_suite.specs.declared.tree.ReadFault.{ReadFault}
 use Rattle.kt_suite.specs.declared.tree.ReadFault.TheVariants.{Missing, Failed}
 use Rattle.kt_suite.specs.Disjoint.{overlap_fault, IsDisjoint}
 use Rattle.kt_suite.specs.Filters.{Meaning as FilterMeaning, filter_meaning}
-use Rattle.kt_plan.specs.declared.options.CaseOptions.{CaseOptions}
+use Rattle.kt_words.specs.declared.options.CaseOptions.{CaseOptions}
 use Rattle.kt_plan.specs.declared.options.Settings.{Settings}
 use Rattle.kt_plan.specs.declared.stop.Stop.{Stop}
 use Rattle.kt_plan.specs.declared.stop.Stop.TheVariants as stop

@@ -1,7 +1,7 @@
 -- What the options of a command select.
 use Rattle.std.specs.Prelude.{Bool, List, ◌++◌, ◌⊎◌, Result, Ok, Err}
 use Rattle.kt_suite.specs.Answers.{Asked}
-use Rattle.kt_plan.specs.declared.options.CaseOptions.{CaseOptions}
+use Rattle.kt_words.specs.declared.options.CaseOptions.{CaseOptions}
 use Rattle.kt_plan.specs.declared.cases.Chosen.{Chosen}
 use Rattle.kt_plan.specs.declared.cases.Picked.{Picked}
 use Rattle.kt_plan.specs.declared.options.Settings.{Settings}

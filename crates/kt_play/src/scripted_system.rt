@@ -1,6 +1,7 @@
 ghost use Rattle.kt_child.specs.Ending.Reads.{IsReadWithin};
 
-use crate::{Life, PartFault, Scene};
+use crate::Scene;
+use crate::scene::{Life, PartFault};
 use kt_answers::Answer;
 use kt_base::{Bytes, Items, NoMemory, Role, Text};
 use kt_child::{Child, EnvPlan, FileRead, Os, OsFault, Polled};

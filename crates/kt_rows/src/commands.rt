@@ -3,14 +3,13 @@
 use crate::disk_tests;
 use crate::played::Played;
 use crate::printing::push_pieces;
-use crate::scenes::{failure, scene_of, shortage};
-use crate::store_calls::{push_call, push_runs};
-use crate::systems::push_calls;
-use kt_answers::{Answer, Result, Row, RowFault, content_at, halves, lossy_of, number};
+use crate::refusing_store::RefusingStore;
+use crate::scripted_platform::ScriptedPlatform;
+use kt_answers::{Answer, Line, Result, Row, RowFault, content_at, halves, lossy_of, number};
 use kt_base::Text;
 use kt_child::DriverFault;
 use kt_cli::{MemRuns, source_of};
-use kt_play::{RefusingStore, Scene, ScriptedPlatform};
+use kt_play::{Refusals, Scene, failure, push_call, push_calls, push_runs, scene_of, shortage};
 use kt_store::StoreFault;
 use std::alloc::Global;
 
@@ -36,20 +35,11 @@ fn driver_fault(alloc: Global, fault: &str) -> Result<DriverFault> {
     }
 }
 
-/// The results of a row, in memory, into which its lines `begin`, `put` and `finish` have put some: `refused CALLS`, or
-/// `refused-memory CALLS`, of `N` or `N M`, counted from 1.
+/// The results of a row, in memory, into which its lines `begin`, `put` and `finish` have put some.
 fn results_of(alloc: Global, row: &Row<'_>) -> Result<RefusingStore> {
-    let (calls, shortage) = match row.text("refused-memory") {
-        Some(calls) => (calls, Some(shortage(alloc)?)),
-        None => (row.text("refused").unwrap_or("0"), None),
-    };
-    let (first, last) = calls.split_once(' ').unwrap_or((calls, calls));
     let mut results = RefusingStore {
         runs: MemRuns::new(alloc),
-        calls: 0,
-        refused: (number(first)?, number(last)?),
-        failed: failure(alloc)?,
-        shortage,
+        refusals: Refusals::of(alloc, row)?,
     };
     let mut unread = Answer::new(alloc);
     let lines = row.entries.as_slice();
@@ -62,19 +52,25 @@ fn results_of(alloc: Global, row: &Row<'_>) -> Result<RefusingStore> {
     Ok(results)
 }
 
-/// The platform of a row: `open FAULT`, `close FAULT` and `surroundings FAULT` name its calls that fail, `path VALUE` and
-/// `user VALUE` set `PATH` and `USER`.
+/// Takes a line of a row that says something of the platform.
+fn take(platform: &mut ScriptedPlatform<RefusingStore>, line: &Line<'_>) -> Result<()> {
+    let alloc = platform.calls.alloc;
+    match line.word {
+        "open" => platform.not_opened = Some(store_fault(alloc, line.text)?),
+        "close" => platform.not_closed = Some(store_fault(alloc, line.text)?),
+        "surroundings" => platform.not_found = Some(driver_fault(alloc, line.text)?),
+        "path" => platform.path = Some(lossy_of(alloc, line.text)?),
+        "user" => platform.user = Some(lossy_of(alloc, line.text)?),
+        _ => {}
+    }
+    Ok(())
+}
+
+/// The platform of a row.
 fn platform_of(alloc: Global, row: &Row<'_>) -> Result<ScriptedPlatform<RefusingStore>> {
     let mut platform = ScriptedPlatform::new(alloc, results_of(alloc, row)?);
     for line in row.entries.as_slice() {
-        match line.word {
-            "open" => platform.not_opened = Some(store_fault(alloc, line.text)?),
-            "close" => platform.not_closed = Some(store_fault(alloc, line.text)?),
-            "surroundings" => platform.not_found = Some(driver_fault(alloc, line.text)?),
-            "path" => platform.path = Some(lossy_of(alloc, line.text)?),
-            "user" => platform.user = Some(lossy_of(alloc, line.text)?),
-            _ => {}
-        }
+        take(&mut platform, line)?;
     }
     Ok(platform)
 }
@@ -179,8 +175,8 @@ fn push_source(out: &mut Answer, text: &str) -> Result<()> {
     Ok(())
 }
 
-/// What command lines write, how they end, and what they leave. Rows that begin with `piece` or `source` are of pieces
-/// that are given to a writer of lines and of the directories of Kyuafiles; those with `disk` are of a disk that fails.
+/// What command lines write, how they end, and what they leave; or what a writer of lines does with pieces, or where a
+/// Kyuafile lies.
 pub fn answer(out: &mut Answer, row: &Row<'_>) -> Result<()> {
     if let Some(disk) = row.text("disk") {
         return disk_tests::answer(out, row, disk);

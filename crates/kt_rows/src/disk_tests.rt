@@ -2,9 +2,9 @@
 
 use crate::disks::{filled, fused, is_cut, left_by, open};
 use crate::played::Played;
-use crate::scenes::scene_of;
+use crate::scripted_platform::ScriptedPlatform;
 use kt_answers::{Answer, Result, Row, RowFault, due};
-use kt_play::{Scene, ScriptedPlatform};
+use kt_play::{Scene, scene_of};
 use kt_store::{ResultStore, Results, StoreFault};
 use sqlite::{Alter, Connection};
 use sqlite_disk::{Crash, Files, Memory};
@@ -223,11 +223,24 @@ impl Trial<'_> {
         }
         Ok(())
     }
+
+    /// Appends what comes of a disk that is sound, or that fails at each call in turn.
+    fn push(self, out: &mut Answer, is_sound: bool) -> Result<()> {
+        let whole = self.whole()?;
+        if !is_sound {
+            return self.push_stops(out, &whole);
+        }
+        let (page, status) = (whole.tested.page.as_str(), whole.tested.status);
+        write!(out, "{page}exit {status}");
+        for line in whole.left.as_slice() {
+            out.line(line.as_str());
+        }
+        Ok(())
+    }
 }
 
 /// Commands, the last of them `test`, over a store whose disk fails at each call in turn until none is refused: where it
-/// was stopped, each place once. `disk log` or `disk database`, `frames N`, and `old` for a store of schema 1; `disk
-/// sound` fails at no call: what was printed, the last exit, and what a crash leaves of the store, a line each.
+/// was stopped, each place once. Of a `sound` one: what was printed, the last exit, and what a crash leaves of the store.
 pub fn answer(out: &mut Answer, row: &Row<'_>, disk: &str) -> Result<()> {
     let scene = scene_of(out.alloc, row)?;
     let trial = Trial {
@@ -237,14 +250,5 @@ pub fn answer(out: &mut Answer, row: &Row<'_>, disk: &str) -> Result<()> {
         is_old: row.text("old").is_some(),
         frames: row.number("frames", 1000)? as usize,
     };
-    let whole = trial.whole()?;
-    if disk != "sound" {
-        return trial.push_stops(out, &whole);
-    }
-    let Tested { page, status, .. } = &whole.tested;
-    write!(out, "{page}exit {status}");
-    for line in whole.left.as_slice() {
-        out.line(line.as_str());
-    }
-    Ok(())
+    trial.push(out, disk == "sound")
 }

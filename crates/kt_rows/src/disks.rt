@@ -2,9 +2,9 @@
 
 ghost use Rattle.std.specs.Prelude.{◌≡◌, false, IfSome};
 
-use crate::store_calls::state_text;
 use kt_answers::{Answer, Result, RowFault, asked, push_entries, push_made};
 use kt_base::Entry;
+use kt_play::state_text;
 use kt_store::{ResultStore, Results, RunHead, entries};
 use sqlite::{Alter, Connection, FileStore, Options};
 use sqlite_disk::{Crash, Disk, Files, Fuse};

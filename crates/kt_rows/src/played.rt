@@ -1,11 +1,12 @@
 //! Command lines, each carried out as a process of its own carries it out, over a scripted platform, machine and system.
 
 use crate::printing::push_page;
-use crate::scenes::shortage;
+use crate::scripted_machine::ScriptedMachine;
+use crate::scripted_platform::ScriptedPlatform;
 use crate::words::read_line;
 use kt_answers::{Answer, Line, Result, ScriptedWriter, due};
 use kt_cli::{LineOutput, Outside, carry_out};
-use kt_play::{Scene, ScriptedMachine, ScriptedPlatform, ScriptedSystem};
+use kt_play::{Scene, ScriptedSystem, shortage};
 use kt_store::ResultStore;
 use kt_words::{Command, CommandFault};
 use std::alloc::Global;

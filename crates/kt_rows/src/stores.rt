@@ -1,8 +1,8 @@
 use crate::played::Played;
-use crate::store_calls::push_call;
+use crate::scripted_platform::ScriptedPlatform;
 use kt_answers::{Answer, Line, Result, Row, RowFault, content_at, is_content};
 use kt_cli::MemRuns;
-use kt_play::{Scene, ScriptedPlatform};
+use kt_play::{Scene, push_call};
 use kt_store::{ResultStore, Results};
 use sqlite::{Alter, Connection};
 

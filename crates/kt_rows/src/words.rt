@@ -1,7 +1,6 @@
 use kt_answers::{Answer, Result, Row, asked, due, halves, number, push_made, text_of};
 use kt_base::Text;
-use kt_plan::CaseOptions;
-use kt_words::{Command, CommandFault, ReportOptions, read_command};
+use kt_words::{CaseOptions, Command, CommandFault, ReportOptions, read_command};
 use std::alloc::Global;
 use std::slice;
 

@@ -3,12 +3,12 @@ use Rattle.std.specs.Prelude.{◌≡◌, ◌≢◌, ⊤, ℕ, Bool, false, List,
 use Rattle.std.specs.Str.{chars}
 use Rattle.clap.specs.Words.{Row, Text, all_of, fault_of, first_of, matches_of, subcommand_of}
 use Rattle.kt_base.specs.declared.verdict.Kind.{Kind}
-use Rattle.kt_plan.specs.declared.options.CaseOptions.{CaseOptions}
+use Rattle.kt_words.specs.declared.options.CaseOptions.{CaseOptions}
 use Rattle.kt_words.specs.declared.command.Command.{Command}
 use Rattle.kt_words.specs.declared.command.Command.TheVariants as command
 use Rattle.kt_words.specs.declared.command_fault.CommandFault.{CommandFault}
 use Rattle.kt_words.specs.declared.command_fault.CommandFault.TheVariants as fault
-use Rattle.kt_words.specs.declared.command.ReportOptions.{ReportOptions}
+use Rattle.kt_words.specs.declared.options.ReportOptions.{ReportOptions}
 use Rattle.kt_words.specs.Words.{comma_words, default_kinds, kinds_named, run_named}
 use Rattle.kt_words.specs.Grammar.{kyua_app}
 

@@ -2,7 +2,7 @@
 use Rattle.std.specs.Prelude.{ℕ, Bool, List, [], ◌≡◌, ◌⊎◌, Option, Ok}
 use Rattle.kt_suite.specs.Answers.{Answered, Asked}
 use Rattle.kt_plan.specs.declared.cases.Picked.{Picked}
-use Rattle.kt_plan.specs.declared.options.CaseOptions.{CaseOptions}
+use Rattle.kt_words.specs.declared.options.CaseOptions.{CaseOptions}
 use Rattle.kt_sched.specs.Trace.{NoEvent}
 use Rattle.kt_words.specs.declared.command.Command.{Command}
 use Rattle.kt_cli.specs.Pages.{Printed}

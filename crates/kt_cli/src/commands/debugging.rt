@@ -7,8 +7,9 @@ use crate::commands::recorder::Printer;
 use crate::messages::{stopped, write_memory, write_run_fault, write_warnings};
 use crate::output::exit::{FAILED, ended, status_of};
 use kt_base::{Items, OutputFault};
-use kt_plan::{CaseOptions, Picked, World, prepare, select_cases};
+use kt_plan::{Picked, World, prepare, select_cases};
 use kt_sched::{Job, Launcher, RunFault, Totals, run_cases};
+use kt_words::CaseOptions;
 use std::alloc::Global;
 use std::io::Write;
 

@@ -6,7 +6,8 @@ use crate::Exit;
 use crate::messages::{stopped, write_warnings};
 use crate::output::exit::{ended, status_of};
 use kt_base::{OutputFault, Text, emit_all};
-use kt_plan::{Candidate, CaseOptions, World, select_cases};
+use kt_plan::{Candidate, World, select_cases};
+use kt_words::CaseOptions;
 use std::alloc::Global;
 use std::io::Write;
 

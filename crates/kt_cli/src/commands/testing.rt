@@ -7,9 +7,10 @@ use crate::commands::recorder::{Recorder, sink_fault};
 use crate::messages::{stopped, write_memory, write_refusal, write_run_fault, write_warnings};
 use crate::output::exit::{FAILED, ended, status_of};
 use kt_base::{Decimal, Items, OutputFault, Text, emit_all};
-use kt_plan::{CaseOptions, Picked, World, prepare, select_cases};
+use kt_plan::{Picked, World, prepare, select_cases};
 use kt_sched::{Job, Launcher, RunFault, Totals, run_cases};
 use kt_store::ResultStore;
+use kt_words::CaseOptions;
 use std::alloc::Global;
 use std::io::Write;
 

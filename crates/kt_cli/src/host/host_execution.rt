@@ -4,10 +4,9 @@ ghost use Rattle.kt_cli.specs.Common.{chars, IsIdle, is_among, shown_in, IsMade,
 use crate::{Exit, HostWorld, Machine, Outside, Surroundings, execute};
 use kt_base::{NoMemory, Text, is_absolute};
 use kt_child::{Driver, DriverFault, Os};
-use kt_plan::CaseOptions;
 use kt_store::ResultStore;
 use kt_suite::{parent_path, split_path};
-use kt_words::Command;
+use kt_words::{CaseOptions, Command};
 use std::alloc::Global;
 use std::io::Write;
 

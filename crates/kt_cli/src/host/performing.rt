@@ -10,9 +10,8 @@ use crate::{
 };
 use kt_base::Text;
 use kt_child::Os;
-use kt_plan::CaseOptions;
 use kt_store::ResultStore;
-use kt_words::{Command, CommandFault};
+use kt_words::{CaseOptions, Command, CommandFault};
 use std::io::Write;
 
 /// Does a command over test cases, with what is found around the process.

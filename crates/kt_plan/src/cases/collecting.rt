@@ -6,9 +6,10 @@ ghost use Rattle.kt_plan.specs.declared.stop.Stop.TheVariants as stop;
 use crate::cases::choosing::choose;
 use crate::cases::offering::offered;
 use crate::options::configuring::settle;
-use crate::{CaseOptions, Chosen, Picked, Settings, Stop, World};
+use crate::{Chosen, Picked, Settings, Stop, World};
 use kt_base::{Items, NoMemory, Text};
 use kt_suite::{Program, SuiteCause, SuiteFault, Tree, load, split_path};
+use kt_words::CaseOptions;
 use std::alloc::Global;
 
 fn out_of_memory(alloc: Global, refusal: NoMemory) -> SuiteFault

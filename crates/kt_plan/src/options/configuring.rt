@@ -2,10 +2,11 @@ ghost use Rattle.std.specs.Prelude.{◌≡◌, Some, IfOk};
 ghost use Rattle.kt_plan.specs.Common.{IsIdle, Answered, unread_stop, Configured, GivesMore, config_or_stop, OrShort, SettlesOrShort, GivesOne, words_meaning, Configures, IsConfiguration, ReadsConfig, or_stop_at, word_meaning, definition_named, variables_for};
 
 use crate::options::case_filters::read_filters;
-use crate::{CaseOptions, Settings, Stop, World};
+use crate::{Settings, Stop, World};
 use kt_base::{NoMemory, Text, Variables};
 use kt_config::{Config, ConfigFault};
 use kt_suite::ReadFault;
+use kt_words::CaseOptions;
 use std::alloc::Global;
 
 /// The variables of a suite, none if it has none.

@@ -1,13 +1,15 @@
 //! The scripted machine, system and store of a row.
 
+use crate::scene::{Holding, Life, PartFault};
+use crate::{Scene, ask_too_much};
 use kt_answers::{
     HEADER, Line, Result, Row, RowFault, append, asked, both, count, due, ending_of, halves,
     numbers_of, push_made, text_of,
 };
 use kt_base::{NoMemory, Outcome, Text};
 use kt_child::Polled;
-use kt_play::{Holding, Life, PartFault, Scene, ask_too_much, failed_statement};
-use kt_store::FailedStatement;
+use kt_store::{FailedStatement, Results, StoreFault};
+use sqlite::Connection;
 use std::alloc::Global;
 
 /// A refusal of memory.
@@ -15,9 +17,15 @@ pub fn shortage(alloc: Global) -> Result<NoMemory> {
     due(ask_too_much(alloc).err(), "this machine has all memory")
 }
 
-/// A statement of a store that failed.
+/// A statement of a store that failed: its tables are looked for where another table stands.
 pub fn failure(alloc: Global) -> Result<FailedStatement> {
-    due(failed_statement(alloc), "no statement failed")
+    let mut conn = Connection::open_in_memory(alloc)?;
+    let _ = conn.execute("CREATE TABLE other (id INTEGER)", &[]);
+    match Results::attach(alloc, conn) {
+        Err((StoreFault::Store(failed), _conn)) => Ok(failed),
+        Err((_fault, _conn)) => Err(RowFault::Misspelled("no statement failed")),
+        Ok(_results) => Err(RowFault::Misspelled("no statement failed")),
+    }
 }
 
 /// A life: an ending, or `running x99, ` and an ending.
@@ -68,21 +76,27 @@ pub fn failing_of(text: &str) -> Result<(u32, u32)> {
 
 /// Takes a line that says something of the machine or the system.
 fn take(scene: &mut Scene, line: &Line<'_>) -> Result<()> {
-    let (alloc, text) = (scene.alloc, line.text);
+    let text = line.text;
     let (path, rest) = text.split_once(' ').unwrap_or((text, ""));
     match line.word {
-        "life" => return push_made(&mut scene.lives, life_of(text)),
-        "holds" | "config" => return take_file(scene, path, "", rest),
-        "lists" => return take_file(scene, path, HEADER, rest),
-        "Kyuafile" => return take_file(scene, "Kyuafile", "", text),
-        "file" => return take_file(scene, text, "", ""),
-        "|" => return take_line(scene, text),
-        "program" | "locked" | "dear" | "found-file" | "found-program" => {
-            return take_path(scene, line);
-        }
+        "life" => push_made(&mut scene.lives, life_of(text)),
+        "holds" | "config" => take_file(scene, path, "", rest),
+        "lists" => take_file(scene, path, HEADER, rest),
+        "Kyuafile" => take_file(scene, "Kyuafile", "", text),
+        "file" => take_file(scene, text, "", ""),
+        "|" => take_line(scene, text),
+        "program" | "locked" | "dear" | "found-file" | "found-program" => take_path(scene, line),
+        word => take_calls(scene, word, text),
+    }
+}
+
+/// Takes a line that says what calls answer, and which fail.
+fn take_calls(scene: &mut Scene, word: &str, text: &str) -> Result<()> {
+    let alloc = scene.alloc;
+    match word {
         "clock" | "moments" => {
             scene.moments = numbers_of(alloc, text)?;
-            scene.step = u64::from(line.word == "clock");
+            scene.step = u64::from(word == "clock");
         }
         "now" => scene.clock = numbers_of(alloc, text)?,
         "fails" => scene.failing = failing_of(text)?,
@@ -98,10 +112,7 @@ fn take(scene: &mut Scene, line: &Line<'_>) -> Result<()> {
     Ok(())
 }
 
-/// The scene of a row: `life LIFE`, `holds PATH TEXT`, `config PATH TEXT`, `lists PATH BLOCKS`, `Kyuafile TEXT`, `file
-/// PATH` with lines of `|` below, `program PATH`, `locked PATH`, `dear PATH`, `found-file PATH` and `found-program PATH`
-/// each; `others TEXT` for every other file; of the machine `now MOMENTS`; of the system `clock N` or `moments NUMBERS`,
-/// `fails CALLS` or, for memory, `refuses CALLS`, `odd WHAT`.
+/// The scene of a row, by what its lines say of a machine and a system (docs/formats/rows.md).
 pub fn scene_of(alloc: Global, row: &Row<'_>) -> Result<Scene> {
     let mut scene = Scene::new(alloc);
     scene.others = row.bytes(alloc, "others")?;

@@ -2,7 +2,12 @@
 
 ghost use Rattle.kt_sched.specs.Plan.{IsPlan, IsWidth};
 
-use crate::scenes::{failing_of, scene_of};
+use crate::endless_reader::EndlessReader;
+use crate::folds::push_folded;
+use crate::memory_sink::MemorySink;
+use crate::plans::plan_of;
+use crate::scene_reading::{failing_of, scene_of};
+use crate::{Scene, ScriptedSystem};
 use kt_answers::{
     Answer, Result, Row, RowFault, both, number, number_to, pairs_of, push_entries, push_verdict,
     unescaped,
@@ -11,7 +16,6 @@ use kt_atflist::{ListBytes, Listing};
 use kt_base::{Entry, Interface, Items, Kind, Text, Variables};
 use kt_child::{Driver, DriverFault, FileRead, Os, read_front, read_start, run_driver};
 use kt_metadata::Props;
-use kt_play::{EndlessReader, MemorySink, Scene, ScriptedSystem, plan_of, push_folded};
 use kt_sched::{Job, MAX_TIMEOUT, MAX_WIDTH, RunFault, SinkFault};
 use kt_suite::Program;
 use std::alloc::Global;
@@ -135,12 +139,12 @@ fn drive<O: Os + Drop>(
     }
 }
 
-/// Runs the plan of a row over a scripted system: `plan LETTERS`, perhaps `program PATH`, `limit SECONDS` and `variable
-/// NAME=VALUE` each; `width N`, `failing PUT`, `base PATH` and `source PATH`.
+/// Runs the plan of a row over a scripted system.
 fn run_plan<'a>(row: &Row<'_>, scene: &'a Scene) -> Result<Driven<ScriptedSystem<'a>>> {
     let alloc = scene.alloc;
     let width = number_to(row.text("width"), MAX_WIDTH)?;
     let limit = number_to(row.text("limit"), MAX_TIMEOUT)?;
+    let failing = row.number("failing", 0)? as usize;
     let variables = pairs_of(alloc, row.entries.as_slice(), "variable");
     let letters = unescaped(alloc, row.text("plan").unwrap_or(""));
     let (letters, variables) = both(letters, variables)?;
@@ -149,7 +153,7 @@ fn run_plan<'a>(row: &Row<'_>, scene: &'a Scene) -> Result<Driven<ScriptedSystem
     let (base, source) = texts_of(alloc, base, source)?;
     let program = row.text("program").unwrap_or("d/p");
     let plan = plan_of(alloc, program, &letters, limit, &variables)?;
-    let sink = MemorySink::new(alloc, row.number("failing", 0)? as usize);
+    let sink = MemorySink::new(alloc, failing);
     let os = ScriptedSystem::new(scene);
     Ok(drive(alloc, os, plan, width, &base, source, sink))
 }
@@ -222,15 +226,19 @@ fn program_of(alloc: Global) -> Result<Program> {
     })
 }
 
-/// The words of the calls that ask for a list, `base PATH` and `variable NAME=VALUE` each, and what came of it; with
-/// `show spawns` what was started, too.
-fn list(out: &mut Answer, row: &Row<'_>, scene: &Scene) -> Result<()> {
-    let alloc = out.alloc;
-    let (base, source) = texts_of(alloc, row.text("base").unwrap_or(""), "/t")?;
+/// Asks for the list of a program, by `base PATH` and `variable NAME=VALUE` each.
+fn listed<'a>(row: &Row<'_>, scene: &'a Scene) -> Result<(ScriptedSystem<'a>, Option<Listing>)> {
+    let alloc = scene.alloc;
     let variables = pairs_of(alloc, row.entries.as_slice(), "variable");
     let (program, variables) = both(program_of(alloc), variables)?;
+    let (base, source) = texts_of(alloc, row.text("base").unwrap_or(""), "/t")?;
     let os = ScriptedSystem::new(scene);
-    let (os, listing) = asked_for_list(alloc, os, &base, source, &program, &variables);
+    Ok(asked_for_list(alloc, os, &base, source, &program, &variables))
+}
+
+/// The words of the calls that ask for a list, and what came of it; with `show spawns` what was started, too.
+fn list(out: &mut Answer, row: &Row<'_>, scene: &Scene) -> Result<()> {
+    let (os, listing) = listed(row, scene)?;
     push_calls(out, "words", os.log.so_far()?)?;
     if row.text("show") == Some("spawns") {
         out.line(os.spawned.so_far()?.trim());
@@ -253,8 +261,7 @@ fn front(alloc: Global, file: &mut EndlessReader, limit: Option<u64>) -> Option<
     }
 }
 
-/// What is read of a file that never ends by a system up to `limit BYTES`, or by a machine: `piece BYTES` a read, and
-/// `reads N` before the first that fails, or is `interrupted`.
+/// What is read of a file that never ends: by a system up to `limit BYTES`, or by a machine.
 fn read(out: &mut Answer, row: &Row<'_>) -> Result<()> {
     let mut file = EndlessReader {
         piece: row.number("piece", 1)? as usize,

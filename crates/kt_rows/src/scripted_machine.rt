@@ -1,9 +1,9 @@
 ghost use Rattle.std.specs.Prelude.{◌≤◌, IfOk, length};
 ghost use Rattle.kt_cli.specs.Machines.{read_limit};
 
-use crate::{Scene, ask_too_much};
 use kt_base::{Bytes, LATEST_MOMENT};
 use kt_cli::Machine;
+use kt_play::{Scene, ask_too_much};
 use kt_suite::ReadFault;
 use std::alloc::Global;
 

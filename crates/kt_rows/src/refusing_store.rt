@@ -1,0 +1,61 @@
+use kt_base::Entry;
+use kt_cli::MemRuns;
+use kt_play::Refusals;
+use kt_store::{CaseOutputs, Keeping, ResultStore, RunHead, StoreFault};
+
+/// Runs in memory, some of whose calls are refused.
+#[derive(Drop)]
+pub struct RefusingStore {
+    pub runs: MemRuns,
+    pub refusals: Refusals,
+}
+
+impl Keeping for RefusingStore {
+    ghost use Rattle.std.specs.Prelude.{⊤};
+    ghost use Rattle.kt_cli.specs.MemoryRuns.{StandsInMemory};
+
+    // What each call answers is its own clause.
+    ghost answers = { λ _ _ _. Unit {0} };
+
+    ghost stands = { λ s runs. StandsInMemory s.runs runs };
+
+    ghost sound = { λ s. ⊤ };
+
+    ghost leaves = { λ s may. ⊤ };
+
+    ghost numbered = { λ s runs h. h.1 };
+
+    ghost ordered = { λ s runs h sound. h.2 };
+}
+
+impl ResultStore for RefusingStore {
+    fn begin(&mut self, total: u32, moment: u64) -> Result<u64, StoreFault> {
+        self.refusals.ask()?;
+        self.runs.begin(total, moment)
+    }
+
+    fn put(&mut self, run: u64, entry: &Entry) -> Result<(), StoreFault> {
+        self.refusals.ask()?;
+        self.runs.put(run, entry)
+    }
+
+    fn finish(&mut self, run: u64) -> Result<(), StoreFault> {
+        self.refusals.ask()?;
+        self.runs.finish(run)
+    }
+
+    fn runs(&mut self) -> Result<Vec<RunHead>, StoreFault> {
+        self.refusals.ask()?;
+        self.runs.runs()
+    }
+
+    fn outline(&mut self, run: u64, pairs: bool) -> Result<Vec<Entry>, StoreFault> {
+        self.refusals.ask()?;
+        self.runs.outline(run, pairs)
+    }
+
+    fn outputs(&mut self, run: u64, position: u32) -> Result<CaseOutputs, StoreFault> {
+        self.refusals.ask()?;
+        self.runs.outputs(run, position)
+    }
+}
