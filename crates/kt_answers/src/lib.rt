@@ -1,4 +1,4 @@
-//! The rows of a file, the text of an answer, and the answers to rows about what stands below the scheduler.
+//! The rows of a file, the text of an answer, and the answers to rows about what needs neither suites nor the scheduler.
 #![tactic(auto)]
 
 mod answer;
@@ -6,7 +6,6 @@ mod case_lists;
 mod configurations;
 mod entries;
 mod escapes;
-mod filters;
 mod numbers;
 mod properties;
 mod reports;
@@ -22,7 +21,7 @@ pub use answer::Answer;
 pub use case_lists::HEADER;
 pub use entries::{content_at, is_content, kind_of, push_entries, storable_entry};
 pub use escapes::{lossy_of, text_of, unescaped};
-pub use numbers::{count, number, number_to, numbers_of};
+pub use numbers::{count, number, number_to, numbered, numbers_of};
 pub use properties::push_props;
 pub use row::{
     Line, Result, Row, RowFault, append, asked, both, due, halves, number_in, pairs_of, push_made,
@@ -31,12 +30,11 @@ pub use row_file::read_rows;
 pub use scripted_writer::{ScriptedWriter, WriteFault};
 pub use verdicts::{ending_of, push_reason, push_verdict};
 
-/// Appends the answer to a row of a subject below the scheduler.
+/// Appends the answer to a row of a subject that needs neither suites nor the scheduler.
 pub fn push_answer(out: &mut Answer, subject: &str, row: &Row<'_>) -> Result<()> {
     match subject {
         "claims" => streams::answer(out, row, "file"),
         "configurations" => configurations::answer(out, row),
-        "filters" => filters::answer(out, row),
         "lists" => case_lists::answer(out, row),
         "properties" => properties::answer(out, row),
         "reports" => reports::answer(out, row),

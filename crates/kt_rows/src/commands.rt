@@ -8,8 +8,8 @@ use crate::scripted_platform::ScriptedPlatform;
 use kt_answers::{Answer, Line, Result, Row, RowFault, content_at, halves, lossy_of, number};
 use kt_base::Text;
 use kt_child::DriverFault;
-use kt_cli::{MemRuns, source_of};
-use kt_play::{Refusals, Scene, failure, push_call, push_calls, push_runs, scene_of, shortage};
+use kt_cli::source_of;
+use kt_play::{Scene, failure, push_call, push_calls, push_runs, scene_of, shortage};
 use kt_store::StoreFault;
 use std::alloc::Global;
 
@@ -37,10 +37,7 @@ fn driver_fault(alloc: Global, fault: &str) -> Result<DriverFault> {
 
 /// The results of a row, in memory, into which its lines `begin`, `put` and `finish` have put some.
 fn results_of(alloc: Global, row: &Row<'_>) -> Result<RefusingStore> {
-    let mut results = RefusingStore {
-        runs: MemRuns::new(alloc),
-        refusals: Refusals::of(alloc, row)?,
-    };
+    let mut results = RefusingStore::of(alloc, row)?;
     let mut unread = Answer::new(alloc);
     let lines = row.entries.as_slice();
     for (place, line) in lines.iter().enumerate() {

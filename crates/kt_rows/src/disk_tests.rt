@@ -1,13 +1,13 @@
 //! The command `test` over a store whose disk fails at a call, and what the store then holds.
 
-use crate::disks::{filled, fused, is_cut, left_by, open};
+use crate::disks::{Work, filled, fused, is_cut, left_by, work_over};
 use crate::played::Played;
 use crate::scripted_platform::ScriptedPlatform;
 use kt_answers::{Answer, Result, Row, RowFault, due};
 use kt_play::{Scene, scene_of};
 use kt_store::{ResultStore, Results, StoreFault};
 use sqlite::{Alter, Connection};
-use sqlite_disk::{Crash, Files, Memory};
+use sqlite_disk::{Files, Fuse, Memory};
 
 /// The most calls of the disk that fail in turn.
 const LIMIT: u64 = 400;
@@ -149,26 +149,13 @@ impl Trial<'_> {
         Ok((tested, played.into_results()?))
     }
 
-    /// Carries out the lines over a database, unless its tables are not taken, and hands its store back.
-    fn over<S: Alter + Drop>(self, conn: Connection<S>) -> Result<(Option<Tested>, S)> {
-        match Results::attach(self.scene.alloc, conn) {
-            Ok(results) => {
-                let (tested, results) = self.done_over(results)?;
-                Ok((Some(tested), results.detach().into_store()))
-            }
-            Err((StoreFault::Store(_), conn)) => Ok((None, conn.into_store())),
-            Err((StoreFault::NoMemory(_), _conn)) => Err(RowFault::Misspelled("out of memory")),
-            Err(_) => Err(RowFault::Misspelled("it was refused for another reason")),
-        }
-    }
-
     /// Does the commands over files that fail, and looks at what a crash leaves of them; nothing if they do not open.
-    fn tried<D: Crash + Drop>(self, files: Files<D>) -> Result<Option<Attempt>> {
-        let Some(conn) = open(self.scene.alloc, files, self.frames) else {
+    fn tried(self, files: Files<Fuse<Memory>>) -> Result<Option<Attempt>> {
+        let (alloc, frames) = (self.scene.alloc, self.frames);
+        let Some((tested, files)) = work_over(alloc, files, frames, self)? else {
             return Ok(None);
         };
-        let (tested, store) = self.over(conn)?;
-        let (schema, left) = left_by(self.scene.alloc, store.close(), self.frames)?;
+        let (schema, left) = left_by(alloc, files, frames)?;
         Ok(Some(Attempt {
             tested,
             schema,
@@ -176,20 +163,21 @@ impl Trial<'_> {
         }))
     }
 
-    /// The files that the commands begin with: empty ones, or those of an older store.
-    fn files(self) -> Result<Files<Memory>> {
+    /// The files that the commands begin with, which fail after this many calls: empty ones, or those of an older store.
+    fn files(self, calls: u64) -> Result<Files<Fuse<Memory>>> {
         let (log, db) = (Memory::new(self.scene.alloc), Memory::new(self.scene.alloc));
-        if !self.is_old {
-            return Ok(Files { log, db });
+        let mut files = Files { log, db };
+        if self.is_old {
+            let empty = fused(files, self.in_log, u64::MAX);
+            files = filled(self.scene.alloc, empty, self.frames)?;
         }
-        let filled = filled(self.scene.alloc, Files { log, db }, self.frames);
-        due(filled, "the old store is not made")
+        Ok(fused(files, self.in_log, calls))
     }
 
     /// The commands over a disk that fails at no call.
     fn whole(self) -> Result<Whole> {
-        let (_, before) = left_by(self.scene.alloc, self.files()?, self.frames)?;
-        let whole = due(self.tried(self.files()?)?, "there is no store")?;
+        let (_, before) = left_by(self.scene.alloc, self.files(u64::MAX)?, self.frames)?;
+        let whole = due(self.tried(self.files(u64::MAX)?)?, "there is no store")?;
         Ok(Whole {
             tested: due(whole.tested, "its tables are not taken")?,
             before,
@@ -203,7 +191,7 @@ impl Trial<'_> {
         out.push("stopped in");
         let mut last = String::new(self.scene.alloc);
         for calls in 0..LIMIT {
-            let Some(cut) = self.tried(fused(self.files()?, self.in_log, calls))? else {
+            let Some(cut) = self.tried(self.files(calls)?)? else {
                 continue;
             };
             let mut stop = Answer::new(self.scene.alloc);
@@ -236,6 +224,26 @@ impl Trial<'_> {
             out.line(line.as_str());
         }
         Ok(())
+    }
+}
+
+/// Carries out the lines over a database, unless its tables are not taken.
+impl Work for Trial<'_> {
+    type Made = Option<Tested>;
+
+    fn over<S: Alter + Drop>(self, conn: Connection<S>) -> Result<(Option<Tested>, S)> {
+        if !conn.is_autocommit() {
+            return Err(RowFault::Misspelled("a transaction is open"));
+        }
+        match Results::attach(self.scene.alloc, conn) {
+            Ok(results) => {
+                let (tested, results) = self.done_over(results)?;
+                Ok((Some(tested), results.detach().into_store()))
+            }
+            Err((StoreFault::Store(_), conn)) => Ok((None, conn.into_store())),
+            Err((StoreFault::NoMemory(_), _conn)) => Err(RowFault::Misspelled("out of memory")),
+            Err(_) => Err(RowFault::Misspelled("it was refused for another reason")),
+        }
     }
 }
 

@@ -1,49 +1,78 @@
-//! Files in memory that fail after some calls, and connections over them.
+//! Files in memory that fail after some calls, and what is done over a database in them.
 
-ghost use Rattle.std.specs.Prelude.{◌≡◌, false, IfSome};
-
-use kt_answers::{Answer, Result, RowFault, asked, push_entries, push_made};
+use kt_answers::{Answer, Result, RowFault, asked, both, due, push_entries, push_made};
 use kt_base::Entry;
 use kt_play::state_text;
 use kt_store::{ResultStore, Results, RunHead, entries};
-use sqlite::{Alter, Connection, FileStore, Options};
-use sqlite_disk::{Crash, Disk, Files, Fuse};
+use sqlite::{Alter, Connection, Options};
+use sqlite_disk::{Crash, Disk, Files, Fuse, Memory};
 use std::alloc::Global;
 
 /// What an earlier version made: the tables of schema 1, and a finished run with one entry.
 const SCHEMA_1: &str =
     "CREATE TABLE meta (name TEXT PRIMARY KEY, value INTEGER NOT NULL) STRICT; CREATE TABLE runs (id INTEGER PRIMARY KEY, started INTEGER NOT NULL, total INTEGER NOT NULL, finished INTEGER NOT NULL CHECK (finished IN (0, 1))) STRICT; CREATE TABLE entries (run INTEGER NOT NULL REFERENCES runs (id), position INTEGER NOT NULL, program TEXT NOT NULL, case_name TEXT NOT NULL, kind INTEGER NOT NULL CHECK (kind BETWEEN 0 AND 4), reason TEXT NOT NULL, started INTEGER NOT NULL, millis INTEGER NOT NULL, body_out BLOB NOT NULL, body_err BLOB NOT NULL, clean_out BLOB NOT NULL, clean_err BLOB NOT NULL, PRIMARY KEY (run, position)) STRICT; INSERT INTO meta (name, value) VALUES ('schema', 1); INSERT INTO runs (started, total, finished) VALUES (5, 1, 1); INSERT INTO entries VALUES (1, 0, 'a', 'main', 3, 'x<y', 1700000000123, 12, X'68690A', X'', X'', X'')";
 
-/// Opens files whose log is copied into the database file once it has this many frames.
-pub fn open<D: Disk + Drop>(
+/// What is done over a database.
+pub trait Work {
+    type Made;
+
+    /// Does it, and hands the store back.
+    fn over<S: Alter + Drop>(self, conn: Connection<S>) -> Result<(Self::Made, S)>;
+}
+
+/// Does a work over files whose log is copied into the database file once it has this many frames, and closes them; nothing
+/// if they do not open.
+pub fn work_over<D: Disk + Drop, W: Work + Drop>(
     alloc: Global,
     files: Files<D>,
     frames: usize,
-) -> Option<Connection<FileStore<D>>>
-    ensures { IfSome result (λ c. c.in_transaction ≡ false) }
-{
+    work: W,
+) -> Result<Option<(W::Made, Files<D>)>> {
     if !files.may_be_used() {
-        return None;
+        return Ok(None);
     }
     let mut options = Options::new(1);
     options.checkpoint_frames = frames;
     match Connection::open_files(alloc, files, options) {
-        Ok(conn) => Some(conn),
-        Err(_) => None,
+        Ok(conn) => {
+            let (made, store) = work.over(conn)?;
+            Ok(Some((made, store.close())))
+        }
+        Err(_) => Ok(None),
     }
 }
 
-/// An empty database, filled with a store of schema 1.
-fn filled_store<S: Alter + Drop>(conn: Connection<S>) -> Option<S> {
-    let mut conn = conn;
-    conn.execute_batch(SCHEMA_1).ok()?;
-    Some(conn.into_store())
+/// Makes a store of schema 1 in an empty database.
+#[derive(Clone, Copy)]
+struct OldStore;
+
+impl Work for OldStore {
+    type Made = ();
+
+    fn over<S: Alter + Drop>(self, mut conn: Connection<S>) -> Result<((), S)> {
+        match conn.execute_batch(SCHEMA_1) {
+            Ok(_) => Ok(((), conn.into_store())),
+            Err(_) => Err(RowFault::Misspelled("the old store is not made")),
+        }
+    }
+}
+
+/// A file in memory with these bytes.
+fn file_of(alloc: Global, bytes: &[u8]) -> Result<Memory> {
+    let mut file = Memory::new(alloc);
+    if file.write_at(0, bytes).is_err() || file.sync().is_err() {
+        return Err(RowFault::Misspelled("the old store is not made"));
+    }
+    Ok(file)
 }
 
 /// Empty files, filled with a store of schema 1.
-pub fn filled<D: Disk + Drop>(alloc: Global, files: Files<D>, frames: usize) -> Option<Files<D>> {
-    let store = filled_store(open(alloc, files, frames)?)?;
-    Some(store.close())
+pub fn filled(alloc: Global, files: Files<Fuse<Memory>>, frames: usize) -> Result<Files<Memory>> {
+    let made = work_over(alloc, files, frames, OldStore)?;
+    let ((), files) = due(made, "the old store is not made")?;
+    let (log, db) = (files.log.inner().bytes(), files.db.inner().bytes());
+    let (log, db) = both(file_of(alloc, log), file_of(alloc, db))?;
+    Ok(Files { log, db })
 }
 
 /// Files of which the log or the database file fails after this many calls.
@@ -103,16 +132,29 @@ fn asked_schema<S: Alter>(conn: &mut Connection<S>) -> Option<i64> {
     row.ok()?.get(0).ok()
 }
 
-/// The schema of the tables of a store that is opened again, 0 where there is none, and all that it holds. The schema is
-/// asked for twice, since memory may run out once.
-fn told_by<S: Alter + Drop>(alloc: Global, mut conn: Connection<S>) -> Result<(i64, Vec<String>)> {
-    let schema = asked_schema(&mut conn).or_else(|| asked_schema(&mut conn));
-    if !conn.is_autocommit() {
-        return Err(RowFault::Misspelled("a transaction is open"));
-    }
-    match Results::attach(alloc, conn) {
-        Ok(mut results) => told(alloc, &mut results).map(|told| (schema.unwrap_or(0), told)),
-        Err(_) => Err(RowFault::Misspelled("it can not be attached again")),
+/// Tells the schema of the tables of a store, 0 where there is none, and all that it holds. The schema is asked for twice,
+/// since memory may run out once.
+#[derive(Clone, Copy)]
+struct Telling {
+    alloc: Global,
+}
+
+impl Work for Telling {
+    type Made = (i64, Vec<String>);
+
+    fn over<S: Alter + Drop>(self, mut conn: Connection<S>) -> Result<(Self::Made, S)> {
+        let schema = asked_schema(&mut conn).or_else(|| asked_schema(&mut conn));
+        if !conn.is_autocommit() {
+            return Err(RowFault::Misspelled("a transaction is open"));
+        }
+        match Results::attach(self.alloc, conn) {
+            Ok(mut results) => {
+                let told = told(self.alloc, &mut results)?;
+                let store = results.detach().into_store();
+                Ok(((schema.unwrap_or(0), told), store))
+            }
+            Err(_) => Err(RowFault::Misspelled("it can not be attached again")),
+        }
     }
 }
 
@@ -124,10 +166,9 @@ pub fn left_by<D: Crash + Drop>(
 ) -> Result<(i64, Vec<String>)> {
     files.log.crash();
     files.db.crash();
-    match open(alloc, files, frames) {
-        Some(conn) => told_by(alloc, conn),
-        None => Err(RowFault::Misspelled("it does not open again")),
-    }
+    let left = work_over(alloc, files, frames, Telling { alloc })?;
+    let (left, _) = due(left, "it does not open again")?;
+    Ok(left)
 }
 
 /// Whether this is what was shown first, then this many lines of the next run, without its end.

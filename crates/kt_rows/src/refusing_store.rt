@@ -1,13 +1,25 @@
+use kt_answers::{Result as Asked, Row};
 use kt_base::Entry;
 use kt_cli::MemRuns;
 use kt_play::Refusals;
 use kt_store::{CaseOutputs, Keeping, ResultStore, RunHead, StoreFault};
+use std::alloc::Global;
 
 /// Runs in memory, some of whose calls are refused.
 #[derive(Drop)]
 pub struct RefusingStore {
-    pub runs: MemRuns,
-    pub refusals: Refusals,
+    runs: MemRuns,
+    refusals: Refusals,
+}
+
+impl RefusingStore {
+    /// No runs, and the calls that a row refuses.
+    pub fn of(alloc: Global, row: &Row<'_>) -> Asked<RefusingStore> {
+        Ok(RefusingStore {
+            runs: MemRuns::new(alloc),
+            refusals: Refusals::of(alloc, row)?,
+        })
+    }
 }
 
 impl Keeping for RefusingStore {

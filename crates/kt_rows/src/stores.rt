@@ -1,25 +1,23 @@
 use crate::played::Played;
+use crate::refusing_store::RefusingStore;
 use crate::scripted_platform::ScriptedPlatform;
 use kt_answers::{Answer, Line, Result, Row, RowFault, content_at, is_content};
-use kt_cli::MemRuns;
 use kt_play::{Scene, push_call};
 use kt_store::{ResultStore, Results};
 use sqlite::{Alter, Connection};
 
-/// Runs in a database whose tables were taken or not, or in memory.
+/// A database whose tables were taken or not.
 #[derive(Drop)]
 enum Store<S: Alter + Drop> {
     Open(Connection<S>),
     Attached(Results<S>),
-    Memory(MemRuns),
 }
 
 /// The connection of a database, without its tables.
-fn detached<S: Alter + Drop>(store: Store<S>) -> Result<Connection<S>> {
+fn detached<S: Alter + Drop>(store: Store<S>) -> Connection<S> {
     match store {
-        Store::Open(connection) => Ok(connection),
-        Store::Attached(results) => Ok(results.detach()),
-        Store::Memory(_) => Err(RowFault::Misspelled("there is no database")),
+        Store::Open(connection) => connection,
+        Store::Attached(results) => results.detach(),
     }
 }
 
@@ -66,20 +64,18 @@ fn step<S: Alter + Drop>(
 ) -> Result<Store<S>> {
     out.separate("\n");
     match line.word {
-        "attach" => attach(out, detached(store)?),
+        "attach" => attach(out, detached(store)),
         "sql" => {
-            let mut connection = detached(store)?;
+            let mut connection = detached(store);
             if connection.execute(line.text, &[]).is_err() {
                 return Err(RowFault::Misspelled("the statement fails"));
             }
             out.push("done");
             Ok(Store::Open(connection))
         }
-        "memory" => Ok(Store::Memory(MemRuns::new(out.alloc))),
         _ => match store {
             Store::Open(_) => Err(RowFault::Misspelled("no tables were taken")),
             Store::Attached(results) => Ok(Store::Attached(ask(out, results, line, content)?)),
-            Store::Memory(runs) => Ok(Store::Memory(ask(out, runs, line, content)?)),
         },
     }
 }
@@ -99,11 +95,22 @@ fn over<S: Alter + Drop>(
     Ok(())
 }
 
+/// The answers to the lines of a row over runs in memory.
+fn over_memory(out: &mut Answer, lines: &[Line<'_>], mut runs: RefusingStore) -> Result<()> {
+    for (place, line) in lines.iter().enumerate() {
+        if line.word != "memory" && !is_content(line) {
+            out.separate("\n");
+            runs = ask(out, runs, line, content_at(lines, place))?;
+        }
+    }
+    Ok(())
+}
+
 /// What calls on a store answer, one after the other: over a database in memory, or after `memory` over runs in memory.
 pub fn answer(out: &mut Answer, row: &Row<'_>) -> Result<()> {
-    over(
-        out,
-        row.entries.as_slice(),
-        Connection::open_in_memory(out.alloc)?,
-    )
+    let lines = row.entries.as_slice();
+    match row.first()?.word {
+        "memory" => over_memory(out, lines, RefusingStore::of(out.alloc, row)?),
+        _ => over(out, lines, Connection::open_in_memory(out.alloc)?),
+    }
 }

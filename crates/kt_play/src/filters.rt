@@ -1,7 +1,6 @@
-use crate::answer::Answer;
-use crate::escapes::text_of;
-use crate::numbers::numbered;
-use crate::row::{Line, Result, Row, RowFault, both, due, halves, push_made};
+use kt_answers::{
+    Answer, Line, Result, Row, RowFault, both, due, halves, numbered, push_made, text_of,
+};
 use kt_base::Text;
 use kt_suite::{Filter, FilterFault, Item, check_disjoint, select};
 use std::alloc::Global;
