@@ -1,6 +1,6 @@
 //! The command `test` over a store whose disk fails at a call, and what the store then holds.
 
-use crate::disks::{Work, filled, fused, is_cut, left_by, work_over};
+use crate::disks::{Work, empty_files, fused, is_cut, left_by, old_files, work_over};
 use crate::played::Played;
 use crate::scripted_platform::ScriptedPlatform;
 use kt_answers::{Answer, Result, Row, RowFault, due};
@@ -165,12 +165,10 @@ impl Trial<'_> {
 
     /// The files that the commands begin with, which fail after this many calls: empty ones, or those of an older store.
     fn files(self, calls: u64) -> Result<Files<Fuse<Memory>>> {
-        let (log, db) = (Memory::new(self.scene.alloc), Memory::new(self.scene.alloc));
-        let mut files = Files { log, db };
-        if self.is_old {
-            let empty = fused(files, self.in_log, u64::MAX);
-            files = filled(self.scene.alloc, empty, self.frames)?;
-        }
+        let files = match self.is_old {
+            true => old_files(self.scene.alloc, self.frames)?,
+            false => empty_files(self.scene.alloc),
+        };
         Ok(fused(files, self.in_log, calls))
     }
 

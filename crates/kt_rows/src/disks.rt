@@ -66,9 +66,18 @@ fn file_of(alloc: Global, bytes: &[u8]) -> Result<Memory> {
     Ok(file)
 }
 
-/// Empty files, filled with a store of schema 1.
-pub fn filled(alloc: Global, files: Files<Fuse<Memory>>, frames: usize) -> Result<Files<Memory>> {
-    let made = work_over(alloc, files, frames, OldStore)?;
+/// Empty files.
+pub fn empty_files(alloc: Global) -> Files<Memory> {
+    Files {
+        log: Memory::new(alloc),
+        db: Memory::new(alloc),
+    }
+}
+
+/// Files with a store of schema 1.
+pub fn old_files(alloc: Global, frames: usize) -> Result<Files<Memory>> {
+    let empty = fused(empty_files(alloc), true, u64::MAX);
+    let made = work_over(alloc, empty, frames, OldStore)?;
     let ((), files) = due(made, "the old store is not made")?;
     let (log, db) = (files.log.inner().bytes(), files.db.inner().bytes());
     let (log, db) = both(file_of(alloc, log), file_of(alloc, db))?;
@@ -76,7 +85,7 @@ pub fn filled(alloc: Global, files: Files<Fuse<Memory>>, frames: usize) -> Resul
 }
 
 /// Files of which the log or the database file fails after this many calls.
-pub fn fused<D: Disk>(files: Files<D>, in_log: bool, calls: u64) -> Files<Fuse<D>> {
+pub fn fused(files: Files<Memory>, in_log: bool, calls: u64) -> Files<Fuse<Memory>> {
     Files {
         log: Fuse::new(files.log, if in_log { calls } else { u64::MAX }),
         db: Fuse::new(files.db, if in_log { u64::MAX } else { calls }),

@@ -1,4 +1,4 @@
-use kt_answers::{Result as Asked, Row};
+use kt_answers::Row;
 use kt_base::Entry;
 use kt_cli::MemRuns;
 use kt_play::Refusals;
@@ -14,7 +14,7 @@ pub struct RefusingStore {
 
 impl RefusingStore {
     /// No runs, and the calls that a row refuses.
-    pub fn of(alloc: Global, row: &Row<'_>) -> Asked<RefusingStore> {
+    pub fn of(alloc: Global, row: &Row<'_>) -> kt_answers::Result<RefusingStore> {
         Ok(RefusingStore {
             runs: MemRuns::new(alloc),
             refusals: Refusals::of(alloc, row)?,

@@ -98,7 +98,7 @@ fn over<S: Alter + Drop>(
 /// The answers to the lines of a row over runs in memory.
 fn over_memory(out: &mut Answer, lines: &[Line<'_>], mut runs: RefusingStore) -> Result<()> {
     for (place, line) in lines.iter().enumerate() {
-        if line.word != "memory" && !is_content(line) {
+        if !is_content(line) {
             out.separate("\n");
             runs = ask(out, runs, line, content_at(lines, place))?;
         }
@@ -109,8 +109,10 @@ fn over_memory(out: &mut Answer, lines: &[Line<'_>], mut runs: RefusingStore) ->
 /// What calls on a store answer, one after the other: over a database in memory, or after `memory` over runs in memory.
 pub fn answer(out: &mut Answer, row: &Row<'_>) -> Result<()> {
     let lines = row.entries.as_slice();
-    match row.first()?.word {
-        "memory" => over_memory(out, lines, RefusingStore::of(out.alloc, row)?),
+    match lines.split_first() {
+        Some((first, calls)) if first.word == "memory" => {
+            over_memory(out, calls, RefusingStore::of(out.alloc, row)?)
+        }
         _ => over(out, lines, Connection::open_in_memory(out.alloc)?),
     }
 }
