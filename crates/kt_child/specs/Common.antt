@@ -19,7 +19,7 @@ pub use Rattle.kt_child.specs.Driving.DriverSteps.{DriverStarts, DriverWaits, St
 pub use Rattle.kt_child.specs.Driving.JobPlan.{case_of, limit_of, list_case, list_purpose, program_directory, program_path, spawning_for, spawning_of, want_of}
 pub use Rattle.kt_child.specs.Driving.Lists.{ListsBy, RanList, WatchedList}
 pub use Rattle.kt_child.specs.Driving.Numbers.{AttemptsDiffer, NumbersDiffer}
-pub use Rattle.kt_child.specs.Driving.Roots.{FindsRoot, root_of}
+pub use Rattle.kt_child.specs.Driving.Roots.{FindsRoot, driver_words, root_of}
 pub use Rattle.kt_child.specs.Driving.Runs.{EndsAreTold, RunsFrom}
 pub use Rattle.kt_child.specs.Driving.Starting.{SetUp, SetUpIn, SetUpNew, Started, Tried, cause_of, child_asks, furnish_asks, spawn_ask, spawned}
 pub use Rattle.kt_child.specs.Ending.Ends.{Leaves, Removes, err_of, is_over, out_of}

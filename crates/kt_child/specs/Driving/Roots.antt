@@ -23,3 +23,8 @@ FindsRoot base calls (Ok root) =
     × (calls ≡ failed ++ MakeDir (root_of base n) (Ok tt) ∷ []) × (root ≡ root_of base n)
 FindsRoot base calls (Err (NoMemory refusal)) = (n : ℕ) × (n < 1000) × FailedRoots base n calls
 FindsRoot base calls (Err NoWorkDirectory) = FailedRoots base 1000 calls
+
+-- the words of a fault, as its line has them
+abbrev pub driver_words : DriverFault → List ℕ
+driver_words (NoMemory refusal) = codes "out of memory"
+driver_words NoWorkDirectory = codes "no work directory"

@@ -12,27 +12,30 @@ use kt_base::{NoMemory, Refused, Role, Text};
 use kt_removal::numbered_path;
 use kt_sched::{Ended, Job, Launcher, StartAnswer};
 use std::alloc::Global;
-use std::error::Error;
-use std::fmt;
+use thiserror::Error;
 
-/// Why there is no driver. `Display` is the text of the fault line (this profile).
-#[derive(Clone, Copy, Debug)]
+/// Why there is no driver. `Display` prints the words of the fault's line.
+#[derive(Clone, Copy, Debug, Error)]
+#[error("{}", self.words())]
 pub enum DriverFault {
     NoMemory(NoMemory),
     /// None of the 1,000 root directories could be made.
     NoWorkDirectory,
 }
 
-impl fmt::Display for DriverFault {
-    fn fmt<W: fmt::Write>(&self, f: &mut fmt::Formatter<W>) -> fmt::Result {
-        f.write_str(match self {
+impl DriverFault {
+    ghost use Rattle.kt_child.specs.Common.{driver_words};
+
+    /// The words of the fault's line (this profile).
+    pub fn words(self) -> &'static str
+        ensures { result.now ≡ driver_words self }
+    {
+        match self {
             DriverFault::NoMemory(_) => "out of memory",
             DriverFault::NoWorkDirectory => "no work directory",
-        })
+        }
     }
 }
-
-impl Error for DriverFault {}
 
 impl From<NoMemory> for DriverFault {
     ghost from_gives = { λ refusal e. e ≡ fault.NoMemory refusal };

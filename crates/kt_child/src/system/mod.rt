@@ -7,13 +7,16 @@ ghost use Rattle.std.specs.Prelude.{◌≡◌};
 ghost use Rattle.kt_child.specs.declared.system.OsFault.TheVariants as fault;
 
 use kt_base::{Bytes, Items, NoMemory, Role, Text, Variables};
+use thiserror::Error;
 
-/// Why a call to the system failed.
-#[derive(Clone, Copy)]
+/// Why a call to the system failed. No line prints it.
+#[derive(Clone, Copy, Debug, Error)]
 pub enum OsFault {
     /// Any other cause. It makes no difference, so it isn't kept.
+    #[error("system call failed")]
     Failed,
     /// The call itself was refused memory.
+    #[error("out of memory")]
     Memory(NoMemory),
 }
 
