@@ -1,64 +1,75 @@
-ghost use Rattle.kt_removal.specs.Common.{IsCaseOf};
+ghost use Rattle.std.specs.Prelude.{◌≡◌, true};
+ghost use Rattle.kt_removal.specs.Common.{IsCaseOf, MayEmpty, is_name};
 
-use crate::entries;
+use crate::Removals;
+use crate::entries::entry_path;
 use kt_base::Text;
-use std::fs;
 use std::rt::Files;
 
 /// The files that every child has in the directory of its case (this profile).
-const FILES: [&[u8]; 2] = [b"out", b"err"];
+const OUT: &[u8] = b"out";
+
+const ERR: &[u8] = b"err";
 
 /// The file that the body of an ATF case leaves there.
-const RESULT: [&[u8]; 1] = [b"result"];
+const RESULT: &[u8] = b"result";
 
 /// The files that a cleanup has there.
-const CLEANUP_FILES: [&[u8]; 2] = [b"cleanup.out", b"cleanup.err"];
+const CLEANUP_OUT: &[u8] = b"cleanup.out";
+
+const CLEANUP_ERR: &[u8] = b"cleanup.err";
 
 /// The directory in which a child runs.
 const WORK: &[u8] = b"work";
 
-/// Removes the files of these names from a directory.
-fn remove_files<R: Files + AllocGlobal>(rt: &R, directory: &Text, names: &[&[u8]]) {
-    for name in names {
-        if let Ok(path) = entries::entry_path(rt.alloc(), directory, name) {
-            let _ = entries::remove_file(rt, path.as_slice());
+impl Removals {
+    /// Removes the file of this name from a directory.
+    fn remove_named<R: Files + AllocGlobal>(&self, rt: &R, directory: &Text, name: &[u8])
+        requires may { MayEmpty self.now directory.now }
+        requires name { is_name name.now ≡ true }
+    {
+        if let Ok(path) = entry_path(rt.alloc(), directory, name) {
+            let _ = self.remove_file(rt, path.as_slice());
         }
     }
-}
 
-/// Removes the directory of these entries' names if it is empty.
-fn is_work_removed<R: Files + AllocGlobal>(rt: &R, directory: &Text) -> bool {
-    match entries::entry_path(rt.alloc(), directory, WORK) {
-        Ok(path) => entries::remove_directory(rt, path.as_slice()).is_ok(),
-        Err(_refusal) => false,
+    /// Removes the directory of these entries' names if it is empty.
+    fn is_work_removed<R: Files + AllocGlobal>(&self, rt: &R, directory: &Text) -> bool
+        requires { MayEmpty self.now directory.now }
+    {
+        match entry_path(rt.alloc(), directory, WORK) {
+            Ok(path) => self.remove_empty(rt, path.as_slice()).is_ok(),
+            Err(_refusal) => false,
+        }
     }
-}
 
-/// Removes the files of these names from a directory, and then the directory if it is empty. Returns whether it is gone.
-fn is_removed_without<R: Files + AllocGlobal>(rt: &R, directory: &Text, names: &[&[u8]]) -> bool {
-    remove_files(rt, directory, names);
-    fs::remove_dir(rt, directory.as_str()).is_ok()
-}
-
-/// Removes the directory of a case that holds nothing but what the driver put there, without
-/// reading its names, and returns whether it is gone. A link in its place isn't followed, and
-/// what is mounted there stays.
-pub(crate) fn is_removed_by_names<R: Files + AllocGlobal>(
-    rt: &R,
-    _root: &Text,
-    directory: &Text,
-    device: u64,
-) -> bool
-    requires { IsCaseOf _root.now directory.now }
-{
-    if !entries::open_up(rt, directory.as_str(), device) {
-        return false;
+    /// Removes the directory of a case that holds nothing but what the driver put there, without
+    /// reading its names, and returns whether it is gone. A link in its place isn't followed, and
+    /// what is mounted there stays.
+    pub(crate) fn is_removed_by_names<R: Files + AllocGlobal>(
+        &self,
+        rt: &R,
+        directory: &Text,
+    ) -> bool
+        requires { IsCaseOf self.now.root directory.now }
+    {
+        if !self.open_up(rt, directory) {
+            return false;
+        }
+        self.remove_named(rt, directory, OUT);
+        self.remove_named(rt, directory, ERR);
+        if !self.is_work_removed(rt, directory) {
+            return false;
+        }
+        if self.is_gone(rt, directory) {
+            return true;
+        }
+        self.remove_named(rt, directory, RESULT);
+        if self.is_gone(rt, directory) {
+            return true;
+        }
+        self.remove_named(rt, directory, CLEANUP_OUT);
+        self.remove_named(rt, directory, CLEANUP_ERR);
+        self.is_gone(rt, directory)
     }
-    remove_files(rt, directory, &FILES);
-    if !is_work_removed(rt, directory) {
-        return false;
-    }
-    fs::remove_dir(rt, directory.as_str()).is_ok()
-        || is_removed_without(rt, directory, &RESULT)
-        || is_removed_without(rt, directory, &CLEANUP_FILES)
 }

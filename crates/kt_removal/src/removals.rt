@@ -1,11 +1,10 @@
 ghost use Rattle.std.specs.Prelude.{◌≡◌, ◌++◌, ◌∷◌, [], false, ◌==◌, IfOk, IfSome};
 ghost use Rattle.std.specs.List.{list_any};
-ghost use Rattle.kt_removal.specs.Common.{IsCaseOf, IsMoved, MayEmpty, at_close, moved_dir, steps_at_close, waiting};
+ghost use Rattle.kt_removal.specs.Common.{IsCaseOf, IsHeld, IsMoved, MayEmpty, MayRemove, Stays, at_close, is_name, moved_dir, steps_at_close, waiting};
 
 use crate::bounds::Bound;
 use crate::cases::is_case;
 use crate::identity::Identity;
-use crate::named::is_removed_by_names;
 use crate::{entries, numbered_path};
 use kt_base::{NoMemory, Text};
 use std::alloc::Global;
@@ -27,7 +26,7 @@ pub struct Removals {
     pub root: Text,
     /// A directory of the root.
     pub place: Text,
-    root_itself: Identity,
+    pub(crate) root_itself: Identity,
     place_itself: Identity,
     /// The next number.
     moved: u64,
@@ -53,11 +52,6 @@ fn split_name(names: &[u8]) -> Option<(&[u8], &[u8])>
 {
     let end = names.iter().position(|byte| *byte == 0)?;
     Some((&names[..end], &names[end + 1..]))
-}
-
-/// Removes an empty directory, or what a process put in the place of one.
-fn is_removed<R: Files>(rt: &R, path: &Text) -> bool {
-    fs::remove_dir(rt, path.as_str()).is_ok() || fs::remove_file(rt, path.as_str()).is_ok()
 }
 
 impl Removals {
@@ -123,18 +117,16 @@ impl Removals {
         moved_path(alloc, &self.place, self.done)
     }
 
-    /// Moves a directory to the next number.
-    fn move_to<R: Files>(&self, rt: &R, path: &[u8], to: &Text) -> bool
-        requires { to.now ≡ moved_dir self.now.place self.now.moved }
+    /// Removes an empty directory, or what a process put in the place of one.
+    fn is_removed<R: Files>(&self, rt: &R, path: &Text) -> bool
+        requires { IsHeld self.now path.now }
     {
-        self.has_place(rt) && entries::move_directory(rt, path, to).is_ok()
+        self.is_gone(rt, path) || self.remove_file(rt, path.as_bytes()).is_ok()
     }
 
     /// Passes over the next number, to which nothing was moved.
     fn leave_gap(&mut self)
-        ensures root { self.new.root ≡ self.old.root }
-        ensures place { self.new.place ≡ self.old.place }
-        ensures done { self.new.done ≡ self.old.done }
+        ensures stays { Stays self.old self.new }
         ensures gap { (self.new.moved ≡ self.old.moved)
             ⊎ (self.new.gaps.items ≡ self.old.gaps.items ++ self.old.moved ∷ []) }
     {
@@ -145,16 +137,15 @@ impl Removals {
 
     /// Moves a directory to the others, and returns whether it could.
     fn take<R: Files + AllocGlobal>(&mut self, rt: &R, path: &[u8]) -> bool
-        ensures root { self.new.root ≡ self.old.root }
-        ensures place { self.new.place ≡ self.old.place }
-        ensures done { self.new.done ≡ self.old.done }
+        requires { MayRemove self.old path.now }
+        ensures stays { Stays self.old self.new }
         ensures unmoved { result ≡ false → (self.new.moved ≡ self.old.moved)
             ⊎ (self.new.gaps.items ≡ self.old.gaps.items ++ self.old.moved ∷ []) }
     {
         let Ok(to) = self.next_path(rt.alloc()) else {
             return false;
         };
-        if self.move_to(rt, path, &to) {
+        if self.has_place(rt) && self.move_to(rt, path, &to).is_ok() {
             self.moved = self.moved.saturating_add(1);
             return true;
         }
@@ -164,15 +155,14 @@ impl Removals {
 
     /// Removes or moves an entry that isn't a file. What is mounted there is busy, and is left as it is.
     fn remove_directory<R: Files + AllocGlobal>(&mut self, rt: &R, path: &[u8])
-        ensures root { self.new.root ≡ self.old.root }
-        ensures place { self.new.place ≡ self.old.place }
-        ensures done { self.new.done ≡ self.old.done }
+        requires { MayRemove self.old path.now }
+        ensures stays { Stays self.old self.new }
     {
-        match entries::remove_directory(rt, path) {
+        match self.remove_empty(rt, path) {
             Ok(()) => self.progress = true,
             Err(error) => {
                 let full = error.kind() == ErrorKind::DirectoryNotEmpty;
-                if full && entries::open_up_entry(path) && self.take(rt, path) {
+                if full && self.is_opened_up(path) && self.take(rt, path) {
                     self.progress = true;
                 }
             }
@@ -181,14 +171,14 @@ impl Removals {
 
     /// Removes an entry of a directory. A directory that isn't empty is moved.
     fn remove_entry<R: Files + AllocGlobal>(&mut self, rt: &R, directory: &Text, name: &[u8])
-        ensures root { self.new.root ≡ self.old.root }
-        ensures place { self.new.place ≡ self.old.place }
-        ensures done { self.new.done ≡ self.old.done }
+        requires may { MayEmpty self.old directory.now }
+        requires name { is_name name.now ≡ true }
+        ensures stays { Stays self.old self.new }
     {
         let Ok(path) = entries::entry_path(rt.alloc(), directory, name) else {
             return;
         };
-        if entries::remove_file(rt, path.as_slice()).is_ok() {
+        if self.remove_file(rt, path.as_slice()).is_ok() {
             self.progress = true;
         } else if path.as_slice() != self.place.as_bytes() {
             self.remove_directory(rt, path.as_slice());
@@ -197,16 +187,15 @@ impl Removals {
 
     /// Removes the entries of a directory that have these names.
     fn remove_names<R: Files + AllocGlobal>(&mut self, rt: &R, directory: &Text, names: &[u8])
-        ensures root { self.new.root ≡ self.old.root }
-        ensures place { self.new.place ≡ self.old.place }
-        ensures done { self.new.done ≡ self.old.done }
+        requires { MayEmpty self.old directory.now }
+        ensures stays { Stays self.old self.new }
     {
         let mut left = names;
         for _ in 0..PIECE {
             let Some((name, rest)) = split_name(left) else {
                 return;
             };
-            if !entries::is_dots(name) {
+            if entries::is_name(name) {
                 self.remove_entry(rt, directory, name);
             }
             left = rest;
@@ -220,9 +209,8 @@ impl Removals {
         directory: &Text,
         names: &mut R::Dir,
     ) -> bool
-        ensures root { self.new.root ≡ self.old.root }
-        ensures place { self.new.place ≡ self.old.place }
-        ensures done { self.new.done ≡ self.old.done }
+        requires { MayEmpty self.old directory.now }
+        ensures stays { Stays self.old self.new }
     {
         let mut buffer = [0u8; PIECE];
         match names.read(&mut buffer) {
@@ -236,13 +224,14 @@ impl Removals {
 
     /// Ends a moved directory. One to which something was added meanwhile is moved to the end.
     fn finish<R: Files + AllocGlobal>(&mut self, rt: &R, path: &Text)
-        requires { path.now ≡ moved_dir self.old.place self.old.done }
+        requires moved { IsMoved self.old }
+        requires path { path.now ≡ moved_dir self.old.place self.old.done }
         ensures root { self.new.root ≡ self.old.root }
         ensures place { self.new.place ≡ self.old.place }
         ensures progress { self.new.progress ≡ false }
         ensures done { self.new.done ≡ min (self.old.done + 1) (2 ^ 64 - 1) }
     {
-        if !is_removed(rt, path) && self.progress {
+        if !self.is_removed(rt, path) && self.progress {
             let _ = self.take(rt, path.as_bytes());
         }
         self.pass();
@@ -266,14 +255,10 @@ impl Removals {
         directory: &Text,
         bound: &mut Bound,
     ) -> bool
-        requires { MayEmpty self.old.root self.old.place self.old.moved self.old.gaps.items
-            self.old.done directory.now }
-        ensures root { self.new.root ≡ self.old.root }
-        ensures place { self.new.place ≡ self.old.place }
-        ensures done { self.new.done ≡ self.old.done }
+        requires { MayEmpty self.old directory.now }
+        ensures stays { Stays self.old self.new }
     {
-        let device = self.root_itself.device;
-        let Some(mut names) = entries::open_names(rt, directory, device) else {
+        let Some(mut names) = self.open_names(rt, directory) else {
             return true;
         };
         for _ in 0..bound.micros {
@@ -295,7 +280,7 @@ impl Removals {
         path: &Text,
         bound: &mut Bound,
     ) -> bool
-        requires moved { IsMoved self.old.moved self.old.gaps.items self.old.done }
+        requires moved { IsMoved self.old }
         requires path { path.now ≡ moved_dir self.old.place self.old.done }
         ensures root { self.new.root ≡ self.old.root }
         ensures place { self.new.place ≡ self.old.place }
@@ -356,7 +341,7 @@ impl Removals {
             return;
         }
         self.done = self.moved;
-        let _ = is_removed(rt, &self.place);
+        let _ = self.is_removed(rt, &self.place);
         if fs::create_dir(rt, self.place.as_str()).is_err() {
             return;
         }
@@ -389,14 +374,15 @@ impl Removals {
     {
         let _ = self.empty(rt, root, bound);
         self.go_on(rt, bound);
-        if fs::remove_dir(rt, self.place.as_str()).is_err() {
+        if !self.is_gone(rt, &self.place) {
             self.try_again(rt, bound);
         }
-        fs::remove_dir(rt, root.as_str()).is_ok()
+        self.is_gone(rt, root)
     }
 
     /// Removes what was passed over, such as a directory with an entry for whose path memory was refused.
     fn try_again<R: Files + Clock + AllocGlobal>(&mut self, rt: &R, bound: &mut Bound)
+        ensures root { self.new.root ≡ self.old.root }
         ensures place { self.new.place ≡ self.old.place }
     {
         let Ok(place) = self.place.copy() else {
@@ -405,7 +391,7 @@ impl Removals {
         if self.has_place(rt) {
             let _ = self.empty(rt, &place, bound);
             self.go_on(rt, bound);
-            let _ = fs::remove_dir(rt, place.as_str());
+            let _ = self.is_gone(rt, &place);
         }
     }
 
@@ -422,7 +408,7 @@ impl Removals {
         ensures place { self.new.place ≡ self.old.place }
     {
         let _ = self.empty(rt, tree, bound);
-        is_removed(rt, tree) || self.take(rt, tree.as_bytes())
+        self.is_removed(rt, tree) || self.take(rt, tree.as_bytes())
     }
 
     /// Removes the directory of a case, or moves it to the others, and goes on with these.
@@ -431,9 +417,7 @@ impl Removals {
         ensures place { self.new.place ≡ self.old.place }
     {
         let mut bound = Bound::at_once(rt);
-        let device = self.root_itself.device;
-        let gone = is_removed_by_names(rt, &self.root, tree, device)
-            || self.walk(rt, tree, &mut bound);
+        let gone = self.is_removed_by_names(rt, tree) || self.walk(rt, tree, &mut bound);
         self.go_on(rt, &mut bound);
         gone
     }

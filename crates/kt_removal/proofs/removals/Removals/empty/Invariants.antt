@@ -1,10 +1,5 @@
-use Rattle.std.proofs.Common.{◌≡◌}
+use Rattle.kt_removal.specs.Common.{Stays}
 use Rattle.kt_removal.proofs.removals.Removals.empty.Given as goal
 
 abbrev pub invariant-loop : goal.invariant-loop
-invariant-loop g l =
-    record {
-      root : l.self.root ≡ l.initial.self.root;
-      place : l.self.place ≡ l.initial.self.place;
-      done : l.self.done ≡ l.initial.self.done;
-    }
+invariant-loop g l = Stays l.initial.self l.self

@@ -1,0 +1,21 @@
+-- What stays as it is from step to step.
+use Rattle.std.proofs.Common.{◌∙◌, List, ℕ, sym, inl, inr}
+use Rattle.kt_removal.specs.Common.{MayEmpty, Stays}
+use Rattle.kt_removal.specs.declared.removals.Removals.{Removals}
+
+-- after two steps
+pub stays_then : (a b c : Removals) → Stays a b → Stays b c → Stays a c
+stays_then a b c first second =
+    record {
+      root = second.root ∙ first.root;
+      place = second.place ∙ first.place;
+      done = second.done ∙ first.done;
+      moved = λ m. second.moved (first.moved m);
+    }
+
+-- the directory that a step empties may be emptied after it
+pub may_stays : (a b : Removals) (path : List ℕ) → Stays a b → MayEmpty a path → MayEmpty b path
+may_stays a b path s (inl root) = inl (root ∙ sym s.root)
+may_stays a b path s (inr (inl (name, is, number))) = inr (inl (name, rw s.root is, number))
+may_stays a b path s (inr (inr (inl place))) = inr (inr (inl (place ∙ sym s.place)))
+may_stays a b path s (inr (inr (inr (moved, is)))) = inr (inr (inr (s.moved moved, rw s.place (rw s.done is))))
