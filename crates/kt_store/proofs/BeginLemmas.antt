@@ -4,10 +4,10 @@ use Rattle.kt_store.proofs.Common.{ints, Value, Null, Int, Row, value_cmp, rowid
 use Rattle.std.specs.List.Sorted.{IsPermutation}
 use Rattle.std.proofs.lemmas.Grind.{flat_map-append}
 use Rattle.kt_store.proofs.SqlFacts.{begin_is, begin_terms}
-use Rattle.kt_store.proofs.EntryLemmas.{below}
 use Rattle.kt_store.proofs.InsertLemmas.{Changed, changed}
 use Rattle.kt_store.proofs.Numbered.{numbers_new}
 use Rattle.kt_store.proofs.WriteLemmas.{Ends, told_by, crash_by}
+use Rattle.kt_store.proofs.Values.{below, cast_int, cast_null}
 
 abbrev above : ℤ → Row → ℤ
 above _ r = id_in (rowid r) +ℤ pos 1
@@ -23,18 +23,6 @@ put_after n [] new h id = refl
 put_after n (r ∷ runs) new h id =
     let first : value_cmp (rowid (run_row r)) (rowid new) ≡ Less = rw (id, h.0) (below n (n + length (r ∷ runs)) (omega arith)) in
     rw first (ap (λ x. run_row r ∷ x) (put_after (suc n) runs new h.1 (id ∙ ap (λ k. Int (pos k)) (omega arith))))
-
-either : (b : Bool) (x : Value) → cond b x x ≡ x
-either true x = refl
-either false x = refl
-
-pub cast_null : cast Integer Null ≡ Null
-unfolding unary
-cast_null = either _ Null
-
-pub cast_int : (n : ℤ) → cast Integer (Int n) ≡ Int n
-unfolding unary
-cast_int n = either _ (Int n)
 
 abbrev pub begin_params : ℕ → ℕ → Row
 begin_params total started = Int (pos started) ∷ Int (pos total) ∷ []

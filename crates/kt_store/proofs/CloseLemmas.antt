@@ -6,6 +6,7 @@ use Rattle.kt_store.proofs.CountLemmas.{most}
 use Rattle.kt_store.proofs.FinishLemmas.{finish_program, finish_writes, finished_rows}
 use Rattle.kt_store.proofs.Numbered.{numbers_finish}
 use Rattle.kt_store.proofs.WriteLemmas.{told_update, crash_update}
+use Rattle.kt_store.proofs.RunsByNumber.{run_of}
 
 same_entries : (run : ℕ) (runs : List Run) → entry_rows (finish run runs) ≡ entry_rows runs
 same_entries run [] = refl
@@ -103,15 +104,6 @@ all_zero (e ∷ es) = (omega arith, all_zero es)
 
 at_most : (r : Run) → IsRun r → length r.entries ≤ r.total
 at_most r is = omega (arith, no_more 0 r.total r.entries (omega arith) (all_zero r.entries) is.ordered is.below)
-
-is_of : (from k : ℕ) (runs : List Run) (r : Run) → AllByRecursion IsRun runs → slice_get runs k ≡ Some r → IsRun r
-is_of from k [] r valid there = absurd cc
-is_of from zero (x ∷ runs) r valid there = let same : x ≡ r = cc in subst IsRun same valid.0
-is_of from (suc k) (x ∷ runs) r valid there = is_of from k runs r valid.1 there
-
-pub run_of : (run : ℕ) (runs : List Run) (r : Run) → AreRuns runs → run_at runs run ≡ Some r → IsRun r
-run_of zero runs r valid there = absurd cc
-run_of (suc k) runs r valid there = is_of 0 k runs r valid.each there
 
 least_most : (n m : ℕ) → n < most → m ≡ min n most → m ≡ n
 least_most n m low is = omega (arith, low, is)

@@ -4,8 +4,8 @@ use Rattle.kt_store.proofs.Common.{IsPermutation-refl, Int, Text, Row, Trees, Ta
 use Rattle.sqlite.specs.Compile.{table_defined_by}
 use Rattle.sqlite.specs.Change.{created, next_tree, KeepsRows}
 use Rattle.kt_store.proofs.SqlFacts.{mark_is, mark_terms}
-use Rattle.kt_store.proofs.InsertLemmas.{went, same_value, changed}
-use Rattle.kt_store.proofs.BeginLemmas.{cast_null, cast_int}
+use Rattle.kt_store.proofs.InsertLemmas.{changed}
+use Rattle.kt_store.proofs.Values.{cast_int, cast_null, same_value, went}
 
 abbrev pub schema_a : Schema
 schema_a = created no_schema meta

@@ -19,10 +19,11 @@ use Rattle.sqlite_keyed.proofs.ListLemmas.{all_weaker, all-filter, filter_all, f
 use Rattle.sqlite_keyed.proofs.SortLemmas.{sorted_unique}
 use Rattle.sqlite_exec.proofs.PartitionLemmas.{sorted_from_ascending}
 use Rattle.sqlite_sql.specs.Catalog.{entry_of, IsIndexOf}
-use Rattle.kt_store.proofs.EntryLemmas.{back, of_stored, of_run, all_pass, below, equal, same_test}
+use Rattle.kt_store.proofs.EntryLemmas.{back, of_stored, of_run, all_pass}
 use Rattle.kt_store.proofs.EntriesLemmas.{up_of}
 use Rattle.kt_store.proofs.PairsLemmas.{of_pairs}
 use Rattle.kt_store.specs.Inner.Cursors.{begins, IsAt, Places}
+use Rattle.kt_store.proofs.Values.{below, equal, same_test}
 
 -- ---- a permutation of what a function gives is given by one
 

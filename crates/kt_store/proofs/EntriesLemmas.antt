@@ -4,7 +4,7 @@ use Rattle.kt_store.proofs.Common.{AllByRecursion, Int, Row, IsAscending, State,
 use Rattle.kt_store.proofs.SqlFacts.{outline_select_is, outline_query}
 use Rattle.kt_store.proofs.KeptEntries.{Same, tells_kept}
 use Rattle.kt_store.proofs.EntryLemmas.{tests, each, all_pass}
-use Rattle.kt_store.proofs.CloseLemmas.{run_of}
+use Rattle.kt_store.proofs.RunsByNumber.{run_of}
 
 abbrev Up : List Entry → Type 0
 Up es = IsAscending (λ (a b : Entry). a.position < b.position) es

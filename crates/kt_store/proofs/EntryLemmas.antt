@@ -3,6 +3,7 @@ use Rattle.std.proofs.Common.{◌≡◌, ◌≢◌, ◌==◌, ◌&&◌, ℕ, zer
 use Rattle.kt_store.proofs.Common.{ints, nat_tests, IsPermutation-map, filter-append, flat_map, list_all, option_to_list, Term, col, holds, IsPermutation-filter, Null, Int, Row, value_cmp, value_cmp-Int, is_true, from_truth, binary, Run, Entry, entries_of, entry_row, entry_rows, run_at, AreNumbered}
 use Rattle.std.specs.Ordering.{is_eq}
 use Rattle.kt_store.proofs.SqlFacts.{is}
+use Rattle.kt_store.proofs.Values.{same_test}
 
 -- the row as it is stored, whatever its rowid
 abbrev pub back : Row → Row
@@ -71,18 +72,6 @@ of_run test keep n runs each h =
     found : (o : Option Run) → flat_map (λ (r : Run). map (entry_row n) (filter keep r.entries)) (option_to_list o) ≡ map (entry_row n) (filter keep (entries_of o))
     found None = refl
     found (Some r) = append-nil (map (entry_row n) (filter keep r.entries))
-
-pub below : (m n : ℕ) → m < n → value_cmp (Int (pos m)) (Int (pos n)) ≡ Less
-below m n h = value_cmp-Int (pos m) (pos n) ∙ grind (arith, ints, nat_tests)
-
-pub above : (m n : ℕ) → n < m → value_cmp (Int (pos m)) (Int (pos n)) ≡ Greater
-above m n h = value_cmp-Int (pos m) (pos n) ∙ grind (arith, ints, nat_tests)
-
-pub equal : (n : ℕ) → value_cmp (Int (pos n)) (Int (pos n)) ≡ Equal
-equal n = value_cmp-Int (pos n) (pos n) ∙ grind (arith, ints, nat_tests)
-
-pub same_test : (m n : ℕ) → is_eq (value_cmp (Int (pos m)) (Int (pos n))) ≡ (m == n)
-same_test m n = ap is_eq (value_cmp-Int (pos m) (pos n)) ∙ grind (arith, ints, nat_tests)
 
 pub one_truth : (a : Bool) → is_true (from_truth (Some a)) && true ≡ a && true
 one_truth true = refl

@@ -4,11 +4,11 @@ use Rattle.kt_store.proofs.Common.{AllByRecursion, IsPair, IsText, HasTexts, pai
 use Rattle.sqlite_rules.specs.Cast.{cast_row}
 use Rattle.kt_store.proofs.SqlFacts.{put_is, put_terms, pair_is, pair_terms, five_is, five_terms}
 use Rattle.kt_store.proofs.InsertLemmas.{changed}
-use Rattle.kt_store.proofs.BeginLemmas.{cast_null, cast_int}
 use Rattle.kt_store.proofs.PutLemmas.{put_beside, same_runs, as_many, more_rows, put_rows, put_works}
 use Rattle.kt_store.proofs.PairLemmas.{more_pairs, swap_blocks}
 use Rattle.kt_store.proofs.EntryLemmas.{back}
 use Rattle.kt_store.proofs.Numbered.{numbers_entry}
+use Rattle.kt_store.proofs.Values.{cast_int, cast_null}
 
 -- the tables of schema 2 with the rows of these runs, of these entries and of these pairs
 pub record Holds (runs : List Run) (entries props : List Row) (db : Database) : Type 0 where

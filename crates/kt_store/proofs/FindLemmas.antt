@@ -2,8 +2,9 @@
 use Rattle.std.proofs.Common.{◌≡◌, ◌≢◌, ℕ, pos, List, [], ◌∷◌, map, filter, Bool, true, false, Some, refl, sym, ap, ◌∙◌, arith, ◌&&◌}
 use Rattle.kt_store.proofs.Common.{nat_tests, flat_map, list_all, option_to_list, Int, Row, value_cmp, rowid, Term, col, holds, eval, is_true, from_truth, binary, Compare, Eq, Binary, filter-map, filter_same, Run, run_row, AreNumbered, run_at}
 use Rattle.std.specs.Ordering.{is_eq}
-use Rattle.kt_store.proofs.EntryLemmas.{of_one, same_test}
+use Rattle.kt_store.proofs.EntryLemmas.{of_one}
 use Rattle.kt_store.proofs.SqlFacts.{is}
+use Rattle.kt_store.proofs.Values.{same_test}
 
 abbrev has_number : ℕ → Row → Bool
 has_number n row = is_eq (value_cmp (rowid row) (Int (pos n)))

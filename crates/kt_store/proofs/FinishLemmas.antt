@@ -3,11 +3,11 @@ use Rattle.std.proofs.Common.{◌≡◌, ◌==◌, ℕ, zero, suc, ◌+◌, ◌<
 use Rattle.kt_store.proofs.Common.{nat_tests, option_to_list, Null, Int, Row, Trees, value_cmp, rowid, put_row, without_rowid, lit, col, Mode, Update, Given, edit_of, taken_by, put_all, Applies, works, ids_of, Enforced, Program, Tally, AtPlace, OnRows, Does, Task, Written, Updates, Database, Answers, one_step, one_permutation, Run, schema_2, runs_1, Tables, AreNumbered, run_row, run_at, finish}
 use Rattle.sqlite_rules.specs.Action.{Writes}
 use Rattle.kt_store.proofs.SqlFacts.{finish_query, is}
-use Rattle.kt_store.proofs.InsertLemmas.{went, same_value, concluded}
-use Rattle.kt_store.proofs.EntryLemmas.{below, above, equal}
+use Rattle.kt_store.proofs.InsertLemmas.{concluded}
 use Rattle.kt_store.proofs.FindLemmas.{picked_run}
-use Rattle.kt_store.proofs.BeginLemmas.{cast_null, cast_int}
 use Rattle.kt_store.proofs.QueryLemmas.{answered, picked, show}
+use Rattle.kt_store.proofs.RunsByNumber.{number_at}
+use Rattle.kt_store.proofs.Values.{above, below, cast_int, cast_null, equal, same_value, went}
 
 abbrev pub finish_program : Program
 finish_program = record { lets = []; body = finish_query }
@@ -61,11 +61,6 @@ all_stay from n (r ∷ runs) h low =
 goes_first : (from n : ℕ) (new : Row) (runs : List Run) → AreNumbered from runs → rowid new ≡ Int (pos n) → n < from → put_row new (map run_row runs) ≡ new ∷ map run_row runs
 goes_first from n new [] h id low = refl
 goes_first from n new (r ∷ runs) h id low = rw (id, above r.number n (omega (arith, h.0))) refl
-
-pub number_at : (from k : ℕ) (runs : List Run) (r : Run) → AreNumbered from runs → slice_get runs k ≡ Some r → r.number ≡ from + k
-number_at from k [] r h there = absurd cc
-number_at from zero (x ∷ runs) r h there = let same : x ≡ r = cc in ap (λ (y : Run). y.number) (sym same) ∙ omega (arith, h.0)
-number_at from (suc k) (x ∷ runs) r h there = number_at (suc from) k runs r h.1 there ∙ omega arith
 
 -- taken out and put back, finished
 pub replaced : (from k : ℕ) (runs : List Run) (r : Run) → AreNumbered from runs → slice_get runs k ≡ Some r

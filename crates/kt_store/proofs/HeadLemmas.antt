@@ -3,12 +3,10 @@ use Rattle.std.proofs.Common.{◌≡◌, ℕ, zero, suc, ◌<◌, pos, List, [],
 use Rattle.kt_store.proofs.Common.{ints, nat_tests, AllByRecursion, map-map, Int, Row, IsAscending, value_cmp, column, ascending, value_cmp-Int, col, output, output_cmp, Binary, State, Shown, reads_as, Run, runs_text, schema_2, run_row, AreNumbered, head_columns, IsStore}
 use Rattle.kt_store.proofs.SqlFacts.{runs_select_is, runs_query}
 use Rattle.kt_store.proofs.QueryLemmas.{answered_in_order}
+use Rattle.kt_store.proofs.Values.{below}
 
 abbrev params_of : Row → List Row
 params_of r = [] ∷ r ∷ []
-
-pub below : (m n : ℕ) → m < n → value_cmp (Int (pos m)) (Int (pos n)) ≡ Less
-below m n h = value_cmp-Int (pos m) (pos n) ∙ grind (arith, ints, nat_tests)
 
 abbrev lower : Row → Row → Type 0
 lower x y = output_cmp runs_query (output runs_query (params_of x)) (output runs_query (params_of y)) ≡ Less

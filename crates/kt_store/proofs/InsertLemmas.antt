@@ -2,14 +2,7 @@
 use Rattle.std.proofs.Common.{◌≡◌, ◌⊎◌, inl, inr, ℕ, ◌/◌, ℤ, List, [], length, false, cond, slice_get, Some, None, Option, Ok, Err, Result, refl, sym, ap, subst, ◌∙◌, append-nil, MatchBool}
 use Rattle.kt_store.proofs.Common.{Row, Trees, Term, Table, Schema, Enforced, Values, Insert, Chosen, Above, Edit, edit_of, Applies, taken_by, works, Tally, AtPlace, OnRows, Concludes, Does, Mode, Written, Task, Counts, CountsIn, Inserts, Gives, sequence, stamped, last_id, rowids_for, count_of, is_lt, int_cmp, Database, value_rows, one_step}
 use Rattle.sqlite_rules.specs.Action.{Writes}
-
--- a part that gave a value did not stop on the way
-pub went : {B E R : Type 0} {b : B} {Stops : E → Type 0} → ((stop : E) × Stops stop × (Ok b ≡ Err stop)) ⊎ R → R
-went (inl stopped) = absurd (let e = stopped.2 in cc)
-went (inr on) = on
-
-pub same_value : {B E : Type 0} {a b : B} → ◌≡◌ {A = Result B E} (Ok a) (Ok b) → a ≡ b
-same_value e = cc
+use Rattle.kt_store.proofs.Values.{same_value, went}
 
 uncounted : (task : Task) (mid : Trees) (counter : Option Row) (top : ℤ) (next : Trees) → task.table.is_counted ≡ false → Counts task mid counter top (Ok next) → next ≡ mid
 uncounted task mid counter top next plain h =

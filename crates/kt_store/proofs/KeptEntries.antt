@@ -2,7 +2,8 @@
 use Rattle.std.proofs.Common.{◌≡◌, ◌==◌, ◌&&◌, ℕ, ◌<◌, List, [], ◌∷◌, map, filter, drop, Bool, Less, refl, ap, subst, ◌∙◌, IsPermutation}
 use Rattle.kt_store.proofs.Common.{AllByRecursion, list_all, map-map, ascending-filter, Row, overlay, IsAscending, ascending, Term, col, holds, Query, Output, output, output_cmp, IsSureAnswer, Binary, State, Run, Entry, entries_of, entry_row, entry_rows, run_at, IsStore}
 use Rattle.kt_store.proofs.QueryLemmas.{selects, answered_sorted}
-use Rattle.kt_store.proofs.EntryLemmas.{back, of_stored, of_run, below}
+use Rattle.kt_store.proofs.EntryLemmas.{back, of_stored, of_run}
+use Rattle.kt_store.proofs.Values.{below}
 
 module _ (tests project : List Term) (params : Row) where
   abbrev pub query : Query

@@ -1,4 +1,6 @@
 pub mod Common
+pub mod Values
+pub mod RunsByNumber
 pub mod SqlFacts
 pub mod FaultLemmas
 pub mod MetaFacts

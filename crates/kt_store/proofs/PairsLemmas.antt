@@ -3,9 +3,9 @@ use Rattle.std.proofs.Common.{◌≡◌, ◌≢◌, ◌==◌, ◌&&◌, ℕ, suc
 use Rattle.kt_store.proofs.Common.{AllByRecursion, flat_map, option_to_list, nat_tests, map-append, filter-append, map-map, all-append, Int, Row, IsAscending, ascending, col, is_true, from_truth, binary, Output, output, output_cmp, Binary, State, Shown, reads_as, Run, Entry, Variable, pairs_text, schema_2, entries_of, pair_row, pair_rows, pair_rows_from, prop_rows, run_at, AreNumbered, pair_columns, pairs_shown, IsStore}
 use Rattle.kt_store.proofs.SqlFacts.{pairs_select_is, pairs_query}
 use Rattle.kt_store.proofs.QueryLemmas.{answered_sorted}
-use Rattle.kt_store.proofs.EntryLemmas.{back, equal, of_stored, of_one, same_test, one_truth, tests, passes, same_passes}
+use Rattle.kt_store.proofs.EntryLemmas.{back, of_stored, of_one, one_truth, tests, passes, same_passes}
 use Rattle.kt_store.proofs.EntriesLemmas.{up_of}
-use Rattle.kt_store.proofs.HeadLemmas.{below}
+use Rattle.kt_store.proofs.Values.{below, equal, same_test}
 
 -- the pairs of one run, of those of all
 module _ (test : Row → Bool) (n : ℕ) (each : (m p k : ℕ) (v : Variable) → test (pair_row m p k v) ≡ (m == n)) where

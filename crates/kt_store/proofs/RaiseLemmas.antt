@@ -4,14 +4,14 @@ use Rattle.kt_store.proofs.Common.{IsPermutation-refl, Int, Text, Row, Trees, Te
 use Rattle.sqlite_rules.specs.Action.{Writes}
 use Rattle.sqlite.specs.State as told
 use Rattle.kt_store.proofs.SqlFacts.{raise_query, raise_is}
-use Rattle.kt_store.proofs.InsertLemmas.{went, concluded}
-use Rattle.kt_store.proofs.BeginLemmas.{cast_int}
+use Rattle.kt_store.proofs.InsertLemmas.{concluded}
 use Rattle.kt_store.proofs.CreateLemmas.{props_create, makes}
 use Rattle.kt_store.proofs.FinishLemmas.{updates}
 use Rattle.kt_store.proofs.MetaLemmas.{tests, passes_it}
 use Rattle.kt_store.proofs.PairLemmas.{no_pairs}
 use Rattle.kt_store.proofs.UniqueLemmas.{number_row, next_row, one_row, alone}
 use Rattle.kt_store.proofs.QueryLemmas.{answered, picked, show}
+use Rattle.kt_store.proofs.Values.{cast_int, went}
 
 abbrev raise_program : Program
 raise_program = record { lets = []; body = raise_query }

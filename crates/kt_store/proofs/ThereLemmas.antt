@@ -3,7 +3,8 @@ use Rattle.std.proofs.Common.{◌≡◌, ◌==◌, ◌&&◌, ◌||◌, ℕ, pos,
 use Rattle.kt_store.proofs.Common.{nat_tests, length_permutation, length-map, list_all, Int, Row, Term, col, holds, is_true, from_truth, binary, Ghosts, Held, state, reads_as, Run, Entry, there_text, schema_2, entries_of, entry_row, entry_rows, run_at, has_position, ShowsOf}
 use Rattle.kt_store.proofs.SqlFacts.{there_is, is}
 use Rattle.kt_store.proofs.QueryLemmas.{answered, show}
-use Rattle.kt_store.proofs.EntryLemmas.{back, of_stored, of_run, same_test, two_truths}
+use Rattle.kt_store.proofs.EntryLemmas.{back, of_stored, of_run, two_truths}
+use Rattle.kt_store.proofs.Values.{same_test}
 
 no_row : Row
 no_row = []

@@ -3,7 +3,7 @@ use Rattle.std.proofs.Common.{◌≡◌, ◌&&◌, ◌||◌, pos, List, [], ◌�
 use Rattle.kt_store.proofs.Common.{AllByRecursion, match_ordering, ints, Value, Null, Int, Real, Text, Blob, Row, Trees, binary, is_null, value_cmp, plain, first_key, value_cmp-Int, has_rowid, id_in, put_all, are_fresh, have_rowids, Unique, Integer, cast, schema_2, meta_1}
 use Rattle.sqlite_trees.specs.View.{is_int}
 use Rattle.sqlite_schema.specs.Rules.{agree, differ, clashes, passes}
-use Rattle.kt_store.proofs.BeginLemmas.{cast_null}
+use Rattle.kt_store.proofs.Values.{cast_null}
 
 -- the row of the schema's number, and what it becomes
 abbrev pub number_row : Value → Row

@@ -1,5 +1,5 @@
 -- What a failed call of SQLite leaves, and the faults that it becomes.
-use Rattle.std.specs.Prelude.{◌⊎◌, ⊤}
+use Rattle.std.specs.Prelude.{◌⊎◌, ⊤, ℕ, List, codes}
 use Rattle.sqlite.specs.State.{State, IsUnchanged, IsRolledBack}
 use Rattle.kt_store.specs.declared.store_fault.StoreFault.{StoreFault}
 use Rattle.kt_store.specs.declared.store_fault.StoreFault.TheVariants.{NoMemory, Store}
@@ -23,3 +23,8 @@ abbrev pub IsStoreFault : StoreFault → Type 0
 IsStoreFault (NoMemory refusal) = ⊤
 IsStoreFault (Store statement) = ⊤
 IsStoreFault _ = ⊥
+
+-- the words of a fault's line
+abbrev pub fault_words : StoreFault → List ℕ
+fault_words (NoMemory refusal) = codes "out of memory"
+fault_words _ = codes "results store failed"

@@ -3,10 +3,11 @@
 pub(crate) mod statements;
 pub(crate) mod trees;
 
-use std::{error, fmt};
+use thiserror::Error;
 
-/// Why a call of the store is refused. `Display` is the text of the fault line (this profile).
-#[derive(Clone, Copy, Debug)]
+/// Why a call of the store is refused. `Display` prints its words.
+#[derive(Clone, Copy, Debug, Error)]
+#[error("{}", self.words())]
 pub enum StoreFault {
     NoMemory(Shortage),
     Store(FailedStatement),
@@ -26,16 +27,20 @@ pub enum StoreFault {
     Incomplete,
 }
 
-impl fmt::Display for StoreFault {
-    fn fmt<W: fmt::Write>(&self, f: &mut fmt::Formatter<W>) -> fmt::Result {
+impl StoreFault {
+    ghost use Rattle.std.specs.Prelude.{◌≡◌};
+    ghost use Rattle.kt_store.specs.Ask.{fault_words};
+
+    /// The words of the fault's line (this profile).
+    pub fn words(&self) -> &'static str
+        ensures { result.now ≡ fault_words self.now }
+    {
         match self {
-            StoreFault::NoMemory(_) => f.write_str("out of memory"),
-            _ => f.write_str("results store failed"),
+            StoreFault::NoMemory(_) => "out of memory",
+            _ => "results store failed",
         }
     }
 }
-
-impl error::Error for StoreFault {}
 
 /// Memory ran out. Only a refusal of the allocator, or of SQLite, makes this value.
 #[derive(Clone, Copy, Debug)]

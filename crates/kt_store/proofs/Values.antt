@@ -1,0 +1,36 @@
+-- Values as they are compared and cast, and what parts of a statement gave.
+use Rattle.std.proofs.Common.{◌≡◌, ◌⊎◌, ◌==◌, ℕ, ℤ, ◌<◌, pos, Bool, true, false, cond, Less, Equal, Greater, Ok, Err, Result, inl, inr, refl, ap, ◌∙◌, arith}
+use Rattle.kt_store.proofs.Common.{ints, nat_tests, Value, Null, Int, value_cmp, value_cmp-Int, unary, Integer, cast}
+use Rattle.std.specs.Ordering.{is_eq}
+
+pub below : (m n : ℕ) → m < n → value_cmp (Int (pos m)) (Int (pos n)) ≡ Less
+below m n h = value_cmp-Int (pos m) (pos n) ∙ grind (arith, ints, nat_tests)
+
+pub above : (m n : ℕ) → n < m → value_cmp (Int (pos m)) (Int (pos n)) ≡ Greater
+above m n h = value_cmp-Int (pos m) (pos n) ∙ grind (arith, ints, nat_tests)
+
+pub equal : (n : ℕ) → value_cmp (Int (pos n)) (Int (pos n)) ≡ Equal
+equal n = value_cmp-Int (pos n) (pos n) ∙ grind (arith, ints, nat_tests)
+
+pub same_test : (m n : ℕ) → is_eq (value_cmp (Int (pos m)) (Int (pos n))) ≡ (m == n)
+same_test m n = ap is_eq (value_cmp-Int (pos m) (pos n)) ∙ grind (arith, ints, nat_tests)
+
+either : (b : Bool) (x : Value) → cond b x x ≡ x
+either true x = refl
+either false x = refl
+
+pub cast_null : cast Integer Null ≡ Null
+unfolding unary
+cast_null = either _ Null
+
+pub cast_int : (n : ℤ) → cast Integer (Int n) ≡ Int n
+unfolding unary
+cast_int n = either _ (Int n)
+
+-- a part that gave a value did not stop on the way
+pub went : {B E R : Type 0} {b : B} {Stops : E → Type 0} → ((stop : E) × Stops stop × (Ok b ≡ Err stop)) ⊎ R → R
+went (inl stopped) = absurd (let e = stopped.2 in cc)
+went (inr on) = on
+
+pub same_value : {B E : Type 0} {a b : B} → ◌≡◌ {A = Result B E} (Ok a) (Ok b) → a ≡ b
+same_value e = cc
