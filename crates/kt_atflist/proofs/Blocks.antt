@@ -1,8 +1,8 @@
 -- Properties that a block gives once, and names that a list gives once.
 use Rattle.std.proofs.Common.{◌≡◌, ℕ, Bool, true, false, List, [], ◌∷◌, ◌++◌, Option, Some, None, Result, Ok, Err, OnOk, OnErr, is_some, refl, ap, sym, map, ◌∙◌, bytes_eq, Bor, option_copied}
-use Rattle.kt_atflist.proofs.Common.{list_any, append-nil, Variable, name_of, names_of, is_listed, is_given, with_property, CaseDef}
+use Rattle.kt_atflist.proofs.Common.{list_any, Variable, name_of, names_of, is_listed, is_given, with_property, CaseDef}
 use Rattle.kt_base.specs.LastValues.{is_named, value_of, last_values}
-use Rattle.kt_base.proofs.LastValueLaws.{overlaid, appended}
+use Rattle.kt_base.proofs.LastValueLaws.{appended, twice}
 
 -- ---- properties
 
@@ -25,9 +25,6 @@ given name (x ∷ xs) = given-next name x xs (is_named name x) (value_of name xs
 none-of : (o : Option (List ℕ)) → is_some o ≡ false → o ≡ None
 none-of None e = refl
 none-of (Some value) e = absurd (cc)
-
-twice : (xs : List Variable) → last_values (last_values xs) ≡ last_values xs
-twice xs = ap last_values (sym (append-nil (last_values xs))) ∙ overlaid xs [] ∙ ap last_values (append-nil xs)
 
 -- what was set is settled
 pub settled-after : {U E : Type 0} (r : Result U E) (old new : List Variable) (pair : Variable) → old ≡ last_values old

@@ -5,7 +5,7 @@ use Rattle.std.proofs.lemmas.List.Elements.{filter-append}
 use Rattle.kt_base.proofs.Names.{same, same-flip, or-none, or-some, unwrap-or, value_of-append, without-same, without-other, without-twice, last_values-without}
 
 -- what a pair that stands first is in the last values
-abbrev first_of : Variable → List Variable → Variable
+abbrev pub first_of : Variable → List Variable → Variable
 first_of pair pairs = record { name = pair.name; value = unwrap_or (value_of pair.name pairs) pair.value }
 
 -- a name's value
@@ -44,16 +44,20 @@ overlaid (x ∷ xs) over =
     ∙ ap (without x.name) (overlaid xs over) in
     rw (head, tail) refl
 
+-- last values are their own last values
+pub twice : (xs : List Variable) → last_values (last_values xs) ≡ last_values xs
+twice xs = overlaid [] xs
+
 -- a further pair does not change the value of another name
-value_of-further : (name : List ℕ) (xs : List Variable) (pair : Variable) → bytes_eq name pair.name ≡ false → value_of name (xs ++ pair ∷ []) ≡ value_of name xs
+pub value_of-further : (name : List ℕ) (xs : List Variable) (pair : Variable) → bytes_eq name pair.name ≡ false → value_of name (xs ++ pair ∷ []) ≡ value_of name xs
 value_of-further name xs pair other = value_of-append name xs (pair ∷ []) ∙ rw other refl
 
 -- it does not show where its name is taken out
-without-further : (name : List ℕ) (xs : List Variable) (pair : Variable) → bytes_eq name pair.name ≡ true → without name (xs ++ pair ∷ []) ≡ without name xs
+pub without-further : (name : List ℕ) (xs : List Variable) (pair : Variable) → bytes_eq name pair.name ≡ true → without name (xs ++ pair ∷ []) ≡ without name xs
 without-further name xs pair e = filter-append (λ p. not (is_named name p)) xs (pair ∷ []) ∙ rw e (append-nil (without name xs))
 
 -- a first pair of another name stays as it is
-first-further : (x pair : Variable) (xs : List Variable) → bytes_eq x.name pair.name ≡ false → first_of x (xs ++ pair ∷ []) ≡ first_of x xs
+pub first-further : (x pair : Variable) (xs : List Variable) → bytes_eq x.name pair.name ≡ false → first_of x (xs ++ pair ∷ []) ≡ first_of x xs
 first-further x pair xs other = rw (value_of-further x.name xs pair other) refl
 
 none-parts : (a b : Option (List ℕ)) → option_or a b ≡ None → (a ≡ None) × (b ≡ None)

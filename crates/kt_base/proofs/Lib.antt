@@ -5,6 +5,7 @@ pub mod Digits
 pub mod Fronts
 pub mod Joining
 pub mod LastValueLaws
+pub mod Lists
 pub mod Names
 pub mod Numbers
 pub mod PartTexts

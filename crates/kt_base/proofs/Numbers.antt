@@ -2,7 +2,7 @@
 use Rattle.std.proofs.Common.{◌≡◌, ℕ, ◌+◌, ◌*◌, ◌-◌, ◌<◌, ◌≤◌, false, List, [], ◌∷◌, None, refl, ap, sym, ◌∙◌, arith, nat_le}
 use Rattle.kt_base.proofs.Common.{nat_tests, decimal_from, up_to}
 
-decimal_from-grows : (v : ℕ) (cs : List ℕ) → v ≤ decimal_from v cs
+pub decimal_from-grows : (v : ℕ) (cs : List ℕ) → v ≤ decimal_from v cs
 decimal_from-grows v [] = omega arith
 decimal_from-grows v (c ∷ cs) = omega (arith, decimal_from-grows (10 * v + (c - 48)) cs)
 

@@ -7,6 +7,16 @@ use Rattle.std.specs.Result.{IsErrAnd}
 pub utf8-append : (xs ys : List ℕ) → utf8 (xs ++ ys) ≡ utf8 xs ++ utf8 ys
 utf8-append xs ys = encodes-append xs ys
 
+-- the bytes of three, four and five texts
+pub utf8_three : (a b c : List ℕ) → utf8 (a ++ b ++ c) ≡ utf8 a ++ utf8 b ++ utf8 c
+utf8_three a b c = utf8-append (a ++ b) c ∙ ap (λ (z : List ℕ). z ++ utf8 c) (utf8-append a b)
+
+pub utf8_four : (a b c d : List ℕ) → utf8 (a ++ b ++ c ++ d) ≡ utf8 a ++ utf8 b ++ utf8 c ++ utf8 d
+utf8_four a b c d = utf8-append (a ++ b ++ c) d ∙ ap (λ (z : List ℕ). z ++ utf8 d) (utf8_three a b c)
+
+pub utf8_five : (a b c d e : List ℕ) → utf8 (a ++ b ++ c ++ d ++ e) ≡ utf8 a ++ utf8 b ++ utf8 c ++ utf8 d ++ utf8 e
+utf8_five a b c d e = utf8-append (a ++ b ++ c ++ d) e ∙ ap (λ (z : List ℕ). z ++ utf8 e) (utf8_four a b c d)
+
 pub appends_none : (old : Option (List ℕ)) → Appends old old []
 appends_none None = tt
 appends_none (Some xs) = sym (append-nil xs)

@@ -2,6 +2,9 @@
 use Rattle.std.proofs.Common.{◌≡◌, ℕ, suc, ◌+◌, ◌≤◌, false, List, [], ◌∷◌, ◌++◌, take, drop, Some, None, refl, ap, sym, subst, ◌∙◌, take-append-drop, arith, encode_utf8, encode_utf8_all, ◌==◌, length, bytes_eq}
 use Rattle.kt_base.proofs.Common.{chars, IsScalar, len_utf8, IsUtf8, NonePass, eq-eqb, encodes-chars, chars-nil, chars-append, chars_from_encodes, chars_past_char, IsUtf8-append, IsUtf8-drop, IsUtf8-encode, IsUtf8-take, IsCharBoundary-from_drop, bytes_eq-Decides, same_from_decides, Decides-like, nat_tests, is_empty, before, after}
 use Rattle.std.specs.Str.Pattern.{FindsChar}
+use Rattle.std.specs.declared.string.String.{String}
+use Rattle.std.specs.String.{string_bytes}
+use Rattle.std.proofs.lemmas.Str.{IsUtf8-string_bytes}
 
 from_chars : (a b : List ℕ) → IsUtf8 a → IsUtf8 b → chars a ≡ chars b → a ≡ b
 from_chars a b u v e = sym (encodes-chars a u) ∙ ap encode_utf8_all e ∙ encodes-chars b v
@@ -9,6 +12,10 @@ from_chars a b u v e = sym (encodes-chars a u) ∙ ap encode_utf8_all e ∙ enco
 pub bytes_eq-chars : (a b : List ℕ) → IsUtf8 a → IsUtf8 b → bytes_eq a b ≡ bytes_eq (chars a) (chars b)
 bytes_eq-chars a b u v =
     same_from_decides (bytes_eq a b) (bytes_eq (chars a) (chars b)) (Decides-like (bytes_eq a b) (λ e. ap chars e) (λ e. from_chars a b u v e) (bytes_eq-Decides a b)) (bytes_eq-Decides (chars a) (chars b))
+
+-- a key by its characters
+pub key-chars : {Z : Type 0} (q : List ℕ) → IsUtf8 q → (k : String Z) → bytes_eq q (string_bytes k) ≡ bytes_eq (chars q) (chars (string_bytes k))
+key-chars q u k = bytes_eq-chars q (string_bytes k) u (IsUtf8-string_bytes k)
 
 not_zero : (n : ℕ) → false ≡ (suc n == 0)
 not_zero n = grind (arith, nat_tests)

@@ -15,3 +15,4 @@ pub mod Shows
 pub mod Texts
 pub mod Utf8
 pub mod Verdicts
+pub mod Words

@@ -2,10 +2,12 @@ ghost use Rattle.std.specs.Prelude.{◌≡◌, ◌≤◌, ◌<◌, true, false, 
 ghost use Rattle.kt_base.specs.Common.{Appends, Shows, joined};
 
 use std::io::Write;
+use thiserror::Error;
 
 /// A writer refused a write, was interrupted, or took no byte of a text that had some left. Only `emit` makes this value,
 /// after such a write; `?` hands it on.
-#[derive(Clone, Copy, Debug)]
+#[derive(Clone, Copy, Debug, Error)]
+#[error("output could not be written")]
 pub struct OutputFault {
     write: FailedWrite,
 }

@@ -1,11 +1,16 @@
 use std::alloc::{AllocError, AllocFailed};
 use std::io;
 use std::io::ErrorKind;
+use thiserror::Error;
+
+/// The words of a fault's line if memory ran out (this profile).
+pub const OUT_OF_MEMORY: &str = "out of memory";
 
 /// Memory ran out. Only a refusal of the allocator makes this value (`From`), or an error of the
 /// system that says so (`in_error`); `?` hands it on. Other modules neither name such a refusal nor
 /// make such an error. The call that returns it changed nothing that was lent to it.
-#[derive(Clone, Copy, Debug)]
+#[derive(Clone, Copy, Debug, Error)]
+#[error("{OUT_OF_MEMORY}")]
 pub struct NoMemory {
     refusal: Refusal,
 }

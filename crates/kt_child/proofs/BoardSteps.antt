@@ -5,7 +5,8 @@ use Rattle.kt_sched.specs.declared.job.StartAnswer.TheVariants.{Started as Start
 use Rattle.kt_child.specs.Driving.Board.{killed, later, paused, polled}
 use Rattle.kt_child.proofs.Chains.{chain_append}
 use Rattle.kt_child.proofs.Outcomes.{goes_on}
-use Rattle.kt_child.proofs.CaseSteps.{Left, some_is}
+use Rattle.kt_child.proofs.CaseSteps.{Left}
+use Rattle.std.proofs.lemmas.Option.{same_Some}
 
 -- a child with these answers
 abbrev answering : Watched → List Heard → Alive
@@ -97,7 +98,7 @@ until_heard (k ∷ ks) zero calls outcome on (before, last, e, none, (answer, do
       told k answer done,
       (subst C (sym (e ∙ ap (λ t. t ++ last) none ∙ f)) (poll_heard k (alive_of ks) answer done), refl, row),
       refl,
-      λ j h. ap (λ (t : Watched). t.case) (some_is k j h),
+      λ j h. ap (λ (t : Watched). t.case) (same_Some k j h),
     )
 until_heard (k ∷ ks) (suc place) calls outcome on (before, last, e, (answer, done, more, f, went, turn), over) =
     let g = goes_on k.limit k.watch answer done (All-head IsOn k ks on).0 went in

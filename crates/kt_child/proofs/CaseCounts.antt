@@ -2,25 +2,12 @@
 use Rattle.std.proofs.Common.{◌≡◌, ℕ, zero, suc, ◌+◌, ◌<◌, ◌≤◌, ◌==◌, ◌&&◌, List, [], ◌∷◌, ◌++◌, slice_get, map, Bool, true, false, Option, Some, None, refl, sym, subst, arith, if◌then◌else◌, nat_lt, ◌∙◌, ap, remove}
 use Rattle.kt_child.proofs.Common.{nat_tests, Role, Body, Cleanup, Case, same_role, count_at, one_if, times, is_among, pending_with, shown, shown_at, is_over}
 use Rattle.kt_sched.specs.Children.{Child as Shown}
-
--- the first of two tests that hold
-pub and_left : (a b : Bool) → (a && b) ≡ true → a ≡ true
-and_left true b h = refl
-and_left false b h = h
-
--- a test beside one that fails
-pub and_false : (a : Bool) → (a && false) ≡ false
-and_false true = refl
-and_false false = refl
+use Rattle.kt_base.proofs.Lists.{same_number}
 
 -- a role is the same as itself
 pub own_role : (r : Role) → same_role r r ≡ true
 own_role Body = refl
 own_role Cleanup = refl
-
--- a number is the same as itself
-pub same_number : (n : ℕ) → (n == n) ≡ true
-same_number n = grind (arith, nat_tests)
 
 -- where one case stands already, another one does not
 pub other : (i j k n : ℕ) → one_if (i == j) + n ≤ 1 → 0 < n → (k == j) ≡ true → (k == i) ≡ true → ⊥

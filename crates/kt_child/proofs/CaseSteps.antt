@@ -1,9 +1,7 @@
 -- The cases of children, which no poll changes.
 use Rattle.std.proofs.Common.{◌≡◌, ℕ, zero, suc, List, [], ◌∷◌, ◌++◌, Some, map, slice_get, refl, sym, ◌∙◌, ap, remove}
 use Rattle.kt_child.proofs.Common.{Outcome, Ended, Watched, ChildrenState, Call, Leaves, cases_of, WaitedOn, advanced, advanced_below, last_turn, pending_with, whole_turn}
-
-pub some_is : {X : Type 0} (x y : X) → Some x ≡ Some y → x ≡ y
-some_is x y e = cc
+use Rattle.std.proofs.lemmas.Option.{same_Some}
 
 pub cases_below : (n : ℕ) (ks : List Watched) → cases_of (advanced_below n ks) ≡ cases_of ks
 cases_below zero ks = refl
@@ -29,7 +27,7 @@ cases_remove (k ∷ ks) (suc i) = ap (λ t. k.case ∷ t) (cases_remove ks i)
 -- the case of the child at a place
 pub case_at : (ks : List Watched) (i : ℕ) (k : Watched) → slice_get ks i ≡ Some k → slice_get (cases_of ks) i ≡ Some k.case
 case_at [] i k e = let no : ⊥ = cc in absurd no
-case_at (x ∷ ks) zero k e = ap (λ t. Some t.case) (some_is x k e)
+case_at (x ∷ ks) zero k e = ap (λ t. Some t.case) (same_Some x k e)
 case_at (x ∷ ks) (suc i) k e = case_at ks i k e
 
 -- A wait that asks this and ends so leads from one state to another: its polls end with the child at a place, whose answers

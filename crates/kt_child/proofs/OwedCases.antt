@@ -2,7 +2,8 @@
 use Rattle.std.proofs.Common.{◌≡◌, ℕ, ◌+◌, ◌≤◌, ◌==◌, ◌&&◌, List, [], ◌∷◌, ◌++◌, slice_get, Bool, true, false, Option, Some, refl, sym, ◌∙◌, ap, subst, arith, if◌then◌else◌, nat_lt, remove}
 use Rattle.kt_child.proofs.Common.{nat_tests, Role, Body, Cleanup, Case, same_role, with_cleanup_declared, count_at, one_if, is_among, pending_with, shown, shown_at, is_over}
 use Rattle.kt_sched.specs.Children.{Child as Shown}
-use Rattle.kt_child.proofs.CaseCounts.{among_counts, and_false, position, same_position, times_less, times_more}
+use Rattle.kt_child.proofs.CaseCounts.{among_counts, position, same_position, times_less, times_more}
+use Rattle.std.proofs.Math.Bool.{and-false}
 
 -- a case behind those that are owed
 pub among_append : (cases : List Case) (c : Case) (k : ℕ) → is_among (cases ++ c ∷ []) k ≡ (if k == c.position then true else is_among cases k)
@@ -18,7 +19,7 @@ owed_step : (b : Bool) (role : Role) (cleanup : Bool) (s : Shown) (shown : Role 
     → shown role ≡ Some s → s.cleanup ≡ cleanup → y ≡ (if b then true else x)
     → (if (if same_role role Body && cleanup then false else true) then x else y)
     ≡ (if b && (same_role role Body && with_cleanup_declared (shown Body)) then true else x)
-owed_step b Cleanup cleanup s shown x y e f g = let P : Bool → Type 0 = λ t. x ≡ (if t then true else x) in subst P (sym (and_false b)) refl
+owed_step b Cleanup cleanup s shown x y e f g = let P : Bool → Type 0 = λ t. x ≡ (if t then true else x) in subst P (sym (and-false b)) refl
 owed_step b Body true s shown x y e f g =
     let w : with_cleanup_declared (shown Body) ≡ true = ap with_cleanup_declared e ∙ f in
     let P : Bool → Type 0 = λ t. y ≡ (if b && t then true else x) in
@@ -32,7 +33,7 @@ owed_step b Body false s shown x y e f g =
     let w : with_cleanup_declared (shown Body) ≡ false = ap with_cleanup_declared e ∙ f in
     let P : Bool → Type 0 = λ t. x ≡ (if b && t then true else x) in
     let Q : Bool → Type 0 = λ t. x ≡ (if t then true else x) in
-    subst P (sym w) (subst Q (sym (and_false b)) refl)
+    subst P (sym w) (subst Q (sym (and-false b)) refl)
 
 -- a position in one of two lists
 among_if : (b : Bool) (xs ys : List Case) (k : ℕ) → is_among (if b then xs else ys) k ≡ (if b then is_among xs k else is_among ys k)

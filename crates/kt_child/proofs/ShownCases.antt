@@ -2,7 +2,9 @@
 use Rattle.std.proofs.Common.{◌≡◌, ℕ, zero, suc, ◌+◌, ◌<◌, ◌≤◌, ◌==◌, ◌&&◌, List, [], ◌∷◌, ◌++◌, slice_get, Bool, true, false, Option, Some, None, refl, sym, ◌∙◌, ap, subst, arith, if◌then◌else◌, remove}
 use Rattle.kt_child.proofs.Common.{and_from, Role, Case, same_role, count_at, one_if, shown, shown_at}
 use Rattle.kt_sched.specs.Children.{Child as Shown}
-use Rattle.kt_child.proofs.CaseCounts.{and_left, count_there, none_there, other, own_role, same_number, same_position}
+use Rattle.kt_child.proofs.CaseCounts.{count_there, none_there, other, own_role, same_position}
+use Rattle.kt_base.proofs.Lists.{same_number}
+use Rattle.std.proofs.lemmas.Bool.{and_parts}
 
 -- two tests that don't hold together may change places
 swap_tests : {X : Type 0} (a b : Bool) (x y z : X) → (a ≡ true → b ≡ true → ⊥)
@@ -23,7 +25,7 @@ shown_append (d ∷ cases) c k r h =
     ap (λ t. if a then Some (shown d) else t) (shown_append cases c k r m)
     ∙ swap_tests a b (Some (shown d)) (Some (shown c)) (shown_at cases k r)
     (λ p q. none_there c.position d.position k (count_at c.position cases) h
-    (and_left (k == d.position) (same_role r d.role) p) (and_left (k == c.position) (same_role r c.role) q))
+    (and_parts (k == d.position) (same_role r d.role) p).0 (and_parts (k == c.position) (same_role r c.role) q).0)
 
 -- one case more that is elsewhere
 none_step : (b s : Bool) (x y : Option Shown) (n : ℕ) → one_if b + n ≡ 0 → (n ≡ 0 → y ≡ None) → (if b && s then x else y) ≡ None
@@ -55,7 +57,7 @@ shown_remove (d ∷ cases) zero c k r h once =
     let P : Case → Type 0 = λ t. shown_at cases k r ≡ (if k == t.position && same_role r t.role then None else shown_at (d ∷ cases) k r) in
     subst P e
     (first_step (k == d.position && same_role r d.role) (Some (shown d)) (shown_at cases k r)
-    (λ q. let at : k ≡ d.position = same_position k d.position (and_left (k == d.position) (same_role r d.role) q) in
+    (λ q. let at : k ≡ d.position = same_position k d.position (and_parts (k == d.position) (same_role r d.role) q).0 in
     let Z : ℕ → Type 0 = λ n. count_at n cases ≡ 0 in
     not_shown cases k r (subst Z (sym at) z)))
 shown_remove (d ∷ cases) (suc p) c k r h once =
@@ -66,7 +68,7 @@ shown_remove (d ∷ cases) (suc p) c k r h once =
     ap (λ t. if a then Some (shown d) else t) (shown_remove cases p c k r h m)
     ∙ swap_tests a b (Some (shown d)) None (shown_at cases k r)
     (λ u v. other c.position d.position k (count_at c.position cases) once there
-    (and_left (k == d.position) (same_role r d.role) u) (and_left (k == c.position) (same_role r c.role) v))
+    (and_parts (k == d.position) (same_role r d.role) u).0 (and_parts (k == c.position) (same_role r c.role) v).0)
 
 -- a test that holds
 get_step : (b : Bool) (x y : Option Shown) → b ≡ true → (if b then x else y) ≡ x
@@ -92,5 +94,5 @@ shown_there (d ∷ cases) (suc p) c h once =
     let there : 0 < count_at c.position cases = count_there cases p c h in
     skip_step (c.position == d.position && same_role c.role d.role) (Some (shown d)) (shown_at cases c.position c.role) (Some (shown c))
     (λ u. other c.position d.position c.position (count_at c.position cases) once there
-    (and_left (c.position == d.position) (same_role c.role d.role) u) (same_number c.position))
+    (and_parts (c.position == d.position) (same_role c.role d.role) u).0 (same_number c.position))
     (shown_there cases p c h m)

@@ -5,9 +5,10 @@ use Rattle.kt_sched.specs.Children.{Child as Shown, running_after_start}
 use Rattle.kt_sched.specs.declared.job.StartAnswer.TheVariants.{Started as StartedAt, Refused as RefusedFor}
 use Rattle.kt_child.proofs.CaseSteps.{Left, case_at, cases_remove, waited_cases}
 use Rattle.kt_child.proofs.Chains.{chain_append}
-use Rattle.kt_child.proofs.CaseCounts.{position, same_number, same_position, times_less, times_more, times_owed}
+use Rattle.kt_child.proofs.CaseCounts.{position, same_position, times_less, times_more, times_owed}
 use Rattle.kt_child.proofs.OwedCases.{among_owed}
 use Rattle.kt_child.proofs.ShownCases.{shown_append, shown_remove, shown_there}
+use Rattle.kt_base.proofs.Lists.{same_number}
 
 -- a position that is free may be taken once
 once_more : (b : Bool) (n m : ℕ) → (b ≡ true → n + m ≡ 0) → n + m ≤ 1 → n + one_if b + m ≤ 1

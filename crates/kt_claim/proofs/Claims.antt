@@ -5,9 +5,9 @@ use Rattle.std.proofs.Math.Seq.{take-append_seam, drop-append_seam}
 use Rattle.kt_claim.specs.ResultFile as says
 use Rattle.kt_claim.specs.declared.evidence.Claim.TheVariants as claim
 use Rattle.kt_claim.specs.declared.result_line.Word.TheVariants as word
-use Rattle.kt_claim.proofs.Truth.{and_left, and_right}
 use Rattle.kt_claim.proofs.Words.{valued}
 use Rattle.kt_claim.proofs.ReadFiles.{read_file, claims}
+use Rattle.std.proofs.lemmas.Bool.{and_parts}
 
 -- ---- only that claim
 
@@ -30,14 +30,14 @@ whole l short none =
 
 pub all_digits : (n rest : List ℕ) → list_all is_digit n ≡ true → prefix_len is_digit (n ++ 41 ∷ rest) ≡ length n
 all_digits [] rest e = refl
-all_digits (d ∷ n) rest e = rw (and_left (is_digit d) (list_all is_digit n) e) (omega (arith, all_digits n rest (and_right (is_digit d) (list_all is_digit n) e)))
+all_digits (d ∷ n) rest e = rw (and_parts (is_digit d) (list_all is_digit n) e).0 (omega (arith, all_digits n rest (and_parts (is_digit d) (list_all is_digit n) e).1))
 
 pub digit_clean : (d : ℕ) → is_digit d ≡ true → is_newline d ≡ false
 digit_clean d e = ne_eqb d 10 (λ is. false≢true (sym (ap is_digit is) ∙ e))
 
 pub digits_clean : (n rest : List ℕ) → list_all is_digit n ≡ true → list_any is_newline rest ≡ false → list_any is_newline (n ++ rest) ≡ false
 digits_clean [] rest e none = none
-digits_clean (d ∷ n) rest e none = rw (digit_clean d (and_left (is_digit d) (list_all is_digit n) e)) (digits_clean n rest (and_right (is_digit d) (list_all is_digit n) e) none)
+digits_clean (d ∷ n) rest e none = rw (digit_clean d (and_parts (is_digit d) (list_all is_digit n) e).0) (digits_clean n rest (and_parts (is_digit d) (list_all is_digit n) e).1 none)
 
 pub number_found : (n rest : List ℕ) → IsNumber n → number_in (n ++ 41 ∷ rest) ≡ Some (number n, rest)
 unfolding number_in

@@ -1,7 +1,8 @@
 -- The lines before the first bail out, and their counts.
-use Rattle.std.proofs.Common.{◌≡◌, ℕ, ◌+◌, ◌≤◌, Bool, true, false, cond, List, [], ◌∷◌, ◌++◌, length, Option, Some, None, Result, Ok, Err, refl, ap, ◌∙◌, arith, ◌&&◌, ◌||◌, is_some, IfOk, codes}
+use Rattle.std.proofs.Common.{◌≡◌, ℕ, ◌+◌, ◌≤◌, Bool, true, false, cond, List, [], ◌∷◌, ◌++◌, length, Option, Some, None, Result, Ok, Err, refl, ap, sym, ◌∙◌, arith, ◌&&◌, ◌||◌, is_some, IfOk, codes}
 use Rattle.kt_claim.proofs.Common.{list_any, filter, filter_map, cons_option, chars, false≢true, option_or, is_bail, plan, count, heard, skip_reason, one, first, has_second}
-use Rattle.kt_claim.proofs.Truth.{or_left, or_right, or_assoc, or_false}
+use Rattle.std.proofs.Math.Bool.{or-false, or_assoc}
+use Rattle.std.proofs.lemmas.Bool.{or_parts}
 
 pub no_reason : chars (codes "No reason given") ≡ codes "No reason given"
 unfolding chars
@@ -15,8 +16,8 @@ given (Err x) reason e h = tt
 -- ---- the lines before the first bail out
 
 pub any-snoc : (p : List ℕ → Bool) (xs : List (List ℕ)) (x : List ℕ) → list_any p (xs ++ x ∷ []) ≡ (list_any p xs || p x)
-any-snoc p [] x = or_false (p x)
-any-snoc p (y ∷ xs) x = ap (λ (b : Bool). p y || b) (any-snoc p xs x) ∙ or_assoc (p y) (list_any p xs) (p x)
+any-snoc p [] x = or-false (p x)
+any-snoc p (y ∷ xs) x = ap (λ (b : Bool). p y || b) (any-snoc p xs x) ∙ sym (or_assoc (p y) (list_any p xs) (p x))
 
 pub stops_at : (t : Bool) (y x : List ℕ) (ys : List (List ℕ)) → is_bail y ≡ t → (list_any is_bail ys ≡ true → heard (ys ++ x ∷ []) ≡ heard ys)
     → (t || list_any is_bail ys) ≡ true → heard ((y ∷ ys) ++ x ∷ []) ≡ heard (y ∷ ys)
@@ -31,12 +32,12 @@ heard_none (y ∷ ys) x h = stops_at (is_bail y) y x ys refl (heard_none ys x) h
 pub heard_bail : (ys : List (List ℕ)) (x : List ℕ) → list_any is_bail ys ≡ false → is_bail x ≡ true → heard (ys ++ x ∷ []) ≡ heard ys
 heard_bail [] x none is = rw is refl
 heard_bail (y ∷ ys) x none is =
-    rw (or_left (is_bail y) (list_any is_bail ys) none) (ap (λ (zs : List (List ℕ)). y ∷ zs) (heard_bail ys x (or_right (is_bail y) (list_any is_bail ys) none) is))
+    rw (or_parts (is_bail y) (list_any is_bail ys) none).0 (ap (λ (zs : List (List ℕ)). y ∷ zs) (heard_bail ys x (or_parts (is_bail y) (list_any is_bail ys) none).1 is))
 
 pub heard_more : (ys : List (List ℕ)) (x : List ℕ) → list_any is_bail ys ≡ false → is_bail x ≡ false → heard (ys ++ x ∷ []) ≡ heard ys ++ x ∷ []
 heard_more [] x none isnt = rw isnt refl
 heard_more (y ∷ ys) x none isnt =
-    rw (or_left (is_bail y) (list_any is_bail ys) none) (ap (λ (zs : List (List ℕ)). y ∷ zs) (heard_more ys x (or_right (is_bail y) (list_any is_bail ys) none) isnt))
+    rw (or_parts (is_bail y) (list_any is_bail ys) none).0 (ap (λ (zs : List (List ℕ)). y ∷ zs) (heard_more ys x (or_parts (is_bail y) (list_any is_bail ys) none).1 isnt))
 
 pub heard-le : (ys : List (List ℕ)) → length (heard ys) ≤ length ys
 heard-le [] = omega arith

@@ -10,5 +10,4 @@ pub mod ReadFiles
 pub mod Reasons
 pub mod Tallies
 pub mod TooLong
-pub mod Truth
 pub mod Words

@@ -1,14 +1,11 @@
 -- What a line's parts are, read byte by byte.
-use Rattle.std.proofs.Common.{◌≡◌, ℕ, ◌+◌, ◌*◌, ◌-◌, ◌≤◌, Bool, true, false, eqb, List, [], ◌∷◌, ◌++◌, length, drop, Option, Some, None, refl, ap, sym, ◌∙◌, arith, if◌then◌else◌, option_map}
+use Rattle.std.proofs.Common.{◌≡◌, ℕ, ◌+◌, ◌-◌, ◌≤◌, Bool, true, false, eqb, List, [], ◌∷◌, ◌++◌, length, drop, Option, Some, None, refl, ap, sym, ◌∙◌, arith, if◌then◌else◌, option_map}
 use Rattle.kt_claim.proofs.Common.{le-ltb, ne_eqb, length-append, is_digit, decimal_from, is_blank, nothing, planning, after_opening, opened, below_limit, trimmed, begins, front, past, ends_plan, planned_from, directive_in, skips, plan_for}
 use Rattle.kt_claim.specs.declared.begun.Opening.{Opening}
-use Rattle.kt_claim.proofs.Truth.{and_false}
+use Rattle.std.proofs.Math.Bool.{and-false}
+use Rattle.kt_base.proofs.Numbers.{decimal_from-grows}
 
 -- ---- the number of a plan
-
-pub decimal_from-grows : (v : ℕ) (ds : List ℕ) → v ≤ decimal_from v ds
-decimal_from-grows v [] = omega arith
-decimal_from-grows v (d ∷ ds) = omega (arith, decimal_from-grows (10 * v + (d - 48)) ds)
 
 pub too_large : (v : ℕ) (ds : List ℕ) → 1000000000 ≤ v → below_limit (decimal_from v ds) ≡ None
 too_large v ds le = rw (le-ltb (decimal_from v ds) 1000000000 (omega (arith, decimal_from-grows v ds))) refl
@@ -42,7 +39,7 @@ last_kept xs b = ne_eqb (length (xs ++ b ∷ [])) 0 (λ e. omega (arith, e, leng
 
 pub trimmed-word : (xs : List ℕ) (b : ℕ) → is_blank b ≡ false → trimmed (xs ++ b ∷ []) ≡ xs ++ b ∷ []
 trimmed-word [] b word = rw word refl
-trimmed-word (x ∷ xs) b word = rw (trimmed-word xs b word, last_kept xs b, and_false (is_blank x)) refl
+trimmed-word (x ∷ xs) b word = rw (trimmed-word xs b word, last_kept xs b, and-false (is_blank x)) refl
 
 pub trims : (rest front text : List ℕ) (b : ℕ) → trimmed rest ≡ trimmed text → rest ≡ front ++ b ∷ [] → is_blank b ≡ true → trimmed front ≡ trimmed text
 trims rest front text b so_far parts blank = sym (trimmed-blank front b blank) ∙ sym (ap trimmed parts) ∙ so_far

@@ -6,19 +6,19 @@ use Rattle.kt_claim.specs.declared.evidence.Tap.{Tap}
 use Rattle.kt_claim.specs.declared.begun.LineKind.TheVariants.{Plan}
 use Rattle.kt_claim.specs.declared.begun.Begun.TheVariants as begun
 use Rattle.kt_claim.proofs.Tallies.{quiet}
-use Rattle.kt_claim.proofs.Truth.{or_left, or_right}
+use Rattle.std.proofs.lemmas.Bool.{or_parts}
 
 -- a line, and then its newline
 pub lines-line : (line rest : List ℕ) → list_any is_newline line ≡ false → lines (line ++ 10 ∷ rest) ≡ line ∷ lines rest
 lines-line [] rest none = refl
 lines-line (b ∷ line) rest none =
-    rw (or_left (is_newline b) (list_any is_newline line) none, lines-line line rest (or_right (is_newline b) (list_any is_newline line) none)) refl
+    rw ((or_parts (is_newline b) (list_any is_newline line) none).0, lines-line line rest (or_parts (is_newline b) (list_any is_newline line) none).1) refl
 
 -- a last line without newline
 pub lines-last : (b : ℕ) (line : List ℕ) → list_any is_newline (b ∷ line) ≡ false → lines (b ∷ line) ≡ (b ∷ line) ∷ []
-lines-last b [] none = rw (or_left (is_newline b) false none) refl
+lines-last b [] none = rw (or_parts (is_newline b) false none).0 refl
 lines-last b (c ∷ line) none =
-    rw (or_left (is_newline b) (list_any is_newline (c ∷ line)) none) (ap (onto b) (lines-last c line (or_right (is_newline b) (list_any is_newline (c ∷ line)) none)))
+    rw (or_parts (is_newline b) (list_any is_newline (c ∷ line)) none).0 (ap (onto b) (lines-last c line (or_parts (is_newline b) (list_any is_newline (c ∷ line)) none).1))
 
 pub map-snoc : (xs : List (List ℕ)) (x : List ℕ) → map without_return (xs ++ x ∷ []) ≡ map without_return xs ++ without_return x ∷ []
 map-snoc [] x = refl
@@ -82,7 +82,7 @@ line_ends old new line kind fed ends adds short h = record {
 pub any-append : (xs ys : List ℕ) → list_any is_newline xs ≡ false → list_any is_newline ys ≡ false → list_any is_newline (xs ++ ys) ≡ false
 any-append [] ys a b = b
 any-append (x ∷ xs) ys a b =
-    rw (or_left (is_newline x) (list_any is_newline xs) a) (any-append xs ys (or_right (is_newline x) (list_any is_newline xs) a) b)
+    rw (or_parts (is_newline x) (list_any is_newline xs) a).0 (any-append xs ys (or_parts (is_newline x) (list_any is_newline xs) a).1 b)
 
 pub line_goes_on : (tally : Tally) (line new : LineState) (part fed : List ℕ) → list_any is_newline part ≡ false
     → ((came : List ℕ) → Knows line.begun line.kept line.held came → Knows new.begun new.kept new.held (came ++ part)) → HasLines tally line fed → HasLines tally new (fed ++ part)

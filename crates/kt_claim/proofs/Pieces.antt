@@ -1,15 +1,10 @@
 -- The loop over a piece.
-use Rattle.std.proofs.Common.{◌≡◌, ℕ, suc, ◌+◌, ◌≤◌, ◌<◌, Bool, true, false, not, List, [], ◌∷◌, ◌++◌, length, take, drop, refl, ap, sym, subst, ◌∙◌, append_assoc, arith, ◌||◌}
+use Rattle.std.proofs.Common.{◌≡◌, ℕ, ◌+◌, ◌≤◌, ◌<◌, Bool, true, false, not, List, [], ◌∷◌, ◌++◌, length, take, drop, refl, ap, sym, subst, ◌∙◌, append_assoc, arith, ◌||◌}
 use Rattle.kt_claim.proofs.Common.{list_any, prefix_len, eqb-true, append-nil, length-append, nil_from_length, take-append-drop, is_newline, LineState, HasLines, Tally}
 use Rattle.kt_claim.specs.TapStream.{limit}
+use Rattle.kt_base.proofs.Lists.{take-one, drop-one}
 
 -- ---- the first line of a piece
-
-pub take-one : (n b : ℕ) (rest : List ℕ) → take (1 + n) (b ∷ rest) ≡ b ∷ take n rest
-take-one n b rest = let e : 1 + n ≡ suc n = omega arith in rw e refl
-
-pub drop-one : (n b : ℕ) (rest : List ℕ) → drop (1 + n) (b ∷ rest) ≡ drop n rest
-drop-one n b rest = let e : 1 + n ≡ suc n = omega arith in rw e refl
 
 pub clean_at : (t : Bool) (b : ℕ) (rest : List ℕ) → is_newline b ≡ t → list_any is_newline (take (prefix_len (λ b. not (is_newline b)) rest) rest) ≡ false
     → list_any is_newline (take (prefix_len (λ b. not (is_newline b)) (b ∷ rest)) (b ∷ rest)) ≡ false

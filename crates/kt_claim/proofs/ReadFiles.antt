@@ -3,10 +3,10 @@ use Rattle.std.proofs.Common.{◌≡◌, ℕ, ◌-◌, ◌≤◌, true, false, n
 use Rattle.kt_claim.proofs.Common.{prefix_len, ends_with, list_any, find, ltb-false, take-append-drop, bytes_eq-Decides, is_newline, newline, is_word_byte, limit, Says, line, fits_line, fault_of, IsClaimOf, after_word, word_of, after_known, claim_of_line, claim_of, ClaimFault, TooLong, Empty, NoNewline, SeveralLines, UnknownWord, BadNumber, UnexpectedReason, NoReason}
 use Rattle.kt_claim.specs.ResultFile.{word as first_word}
 use Rattle.kt_claim.specs.declared.evidence.Claim.TheVariants as claim
-use Rattle.kt_claim.proofs.Truth.{not_false}
 use Rattle.kt_claim.proofs.Reasons.{row, under}
 use Rattle.kt_claim.proofs.Words.{any_right}
 use Rattle.kt_claim.proofs.FirstWords.{Read, read_word}
+use Rattle.std.proofs.lemmas.Bool.{not-false}
 
 -- ---- whole files
 
@@ -39,7 +39,7 @@ read_file file =
     row (length file == 0) Empty _ _ (λ c. (length file ≤ limit) × Says file c) (λ some.
     row (not (ends_with nat_eq file newline)) NoNewline _ _ (λ c. (length file ≤ limit) × Says file c) (λ ends.
     row (list_any is_newline (line file)) SeveralLines _ _ (λ c. (length file ≤ limit) × Says file c) (λ one.
-    line_in_file file (not_false (ends_with nat_eq file newline) ends) (omega (arith, ltb-false limit (length file) short))
+    line_in_file file (not-false (ends_with nat_eq file newline) ends) (omega (arith, ltb-false limit (length file) short))
     (read_word (first_word file) (after_word file) (drop_clean (prefix_len is_word_byte (line file)) (line file) one))))))
 
 pub claims_at : (o : Option ClaimFault) (file : List ℕ) → fault_of file ≡ o → MatchOption o ((length file ≤ limit) × Says file (claim_of file)) (λ g. claim_of file ≡ claim.Malformed g) → IsClaimOf file (claim_of file)

@@ -2,7 +2,7 @@
 use Rattle.std.proofs.Common.{◌≡◌, ℕ, ◌<◌, Bool, true, false, not, cond, List, [], ◌∷◌, ◌++◌, length, drop, Option, Some, None, refl, ap, sym, subst, ◌∙◌, arith, ◌&&◌, nat_eq, nat_lt, MatchOption}
 use Rattle.kt_claim.proofs.Common.{list_any, false≢true, eqb-true, ltb-true, lossy, is_newline, newline, IsReason, with_reason, Says, has_reason, reason_in, with_reason_in, Claim, ClaimFault, NoReason}
 use Rattle.kt_claim.specs.declared.evidence.Claim.TheVariants as claim
-use Rattle.kt_claim.proofs.Truth.{and_left, and_right}
+use Rattle.std.proofs.lemmas.Bool.{and_parts}
 
 -- ---- rows
 
@@ -26,10 +26,10 @@ reason_parts (a ∷ []) e = absurd (false≢true (sym (no_second (nat_eq 58 a) (
   no_second true u = refl
   no_second false u = refl
 reason_parts (a ∷ b ∷ r) e =
-    let begins : (nat_eq 58 a && (nat_eq 32 b && true)) ≡ true = and_left (nat_eq 58 a && (nat_eq 32 b && true)) (nat_lt 2 (length (a ∷ b ∷ r))) e in
-    let colon : 58 ≡ a = eqb-true 58 a (and_left (nat_eq 58 a) (nat_eq 32 b && true) begins) in
-    let space : 32 ≡ b = eqb-true 32 b (and_left (nat_eq 32 b) true (and_right (nat_eq 58 a) (nat_eq 32 b && true) begins)) in
-    let long : 2 < length (a ∷ b ∷ r) = ltb-true 2 (length (a ∷ b ∷ r)) (and_right (nat_eq 58 a && (nat_eq 32 b && true)) (nat_lt 2 (length (a ∷ b ∷ r))) e) in
+    let begins : (nat_eq 58 a && (nat_eq 32 b && true)) ≡ true = (and_parts (nat_eq 58 a && (nat_eq 32 b && true)) (nat_lt 2 (length (a ∷ b ∷ r))) e).0 in
+    let colon : 58 ≡ a = eqb-true 58 a (and_parts (nat_eq 58 a) (nat_eq 32 b && true) begins).0 in
+    let space : 32 ≡ b = eqb-true 32 b (and_parts (nat_eq 32 b) true (and_parts (nat_eq 58 a) (nat_eq 32 b && true) begins).1).0 in
+    let long : 2 < length (a ∷ b ∷ r) = ltb-true 2 (length (a ∷ b ∷ r)) (and_parts (nat_eq 58 a && (nat_eq 32 b && true)) (nat_lt 2 (length (a ∷ b ∷ r))) e).1 in
     (r, ap (λ (x : ℕ). x ∷ b ∷ r) (sym colon) ∙ ap (λ (x : ℕ). 58 ∷ x ∷ r) (sym space), omega arith)
 
 pub no_newline_after : (rest r : List ℕ) → rest ≡ 58 ∷ 32 ∷ r → list_any is_newline rest ≡ false → list_any is_newline r ≡ false

@@ -1,8 +1,8 @@
 -- A tally with one line more.
 use Rattle.std.proofs.Common.{◌≡◌, ℕ, ◌+◌, ◌<◌, ◌^◌, Bool, true, false, List, [], ◌∷◌, ◌++◌, length, Option, Some, None, Result, Ok, Err, refl, ap, sym, subst, ◌∙◌, arith, ◌&&◌, ◌||◌, is_some, IfOk}
 use Rattle.kt_claim.proofs.Common.{list_any, filter_map, append-nil, Facts, facts_of, nothing, bailing, testing, planning, option_or, is_bail, is_test, is_unexcused, plan, count, heard, tap_of_lines, IsTally, one, first, has_second, with_plan, Tally}
-use Rattle.kt_claim.proofs.Truth.{or_false}
 use Rattle.kt_claim.proofs.Counts.{any-snoc, heard_none, heard_bail, heard_more, heard-le, count-snoc, count-le, plans-snoc, first-snoc, second-snoc}
+use Rattle.std.proofs.Math.Bool.{or-false}
 
 -- ---- a tally and a line
 
@@ -97,7 +97,7 @@ with_failure t mid new line lines is was halfway made few h =
     rw whole (no_plan t (record t { tests = t.tests + 1; failures = t.failures + 1 }) line lines true true is was was refl refl refl refl h)
 
 pub or_and_none : (a : Bool) (o found : Option (ℕ × List ℕ)) → o ≡ None → a ≡ (a || (is_some o && is_some found))
-or_and_none a o found none = rw none (sym (or_false a))
+or_and_none a o found none = rw none (sym (or-false a))
 
 pub or_and_some : (a : Bool) (o found : Option (ℕ × List ℕ)) (p q : ℕ × List ℕ) → o ≡ Some p → found ≡ Some q → true ≡ (a || (is_some o && is_some found))
 or_and_some true o found p q is this = refl

@@ -5,8 +5,8 @@ use Rattle.std.proofs.lemmas.Bool.Decides.{nat_tests}
 use Rattle.kt_claim.specs.ResultFile as says
 use Rattle.kt_claim.specs.declared.evidence.Claim.TheVariants as claim
 use Rattle.kt_claim.specs.declared.result_line.Word.TheVariants as word
-use Rattle.kt_claim.proofs.Truth.{or_right, and_left, and_right}
 use Rattle.kt_claim.proofs.Reasons.{Wanted, reasoned}
+use Rattle.std.proofs.lemmas.Bool.{and_parts, or_parts}
 
 -- ---- words without a number
 
@@ -71,10 +71,10 @@ pub numbered_in : (more rest : List ℕ) → has_number (40 ∷ more) ≡ true �
 unfolding number_in
 numbered_in more rest e parts =
     let front : (nat_lt 0 (length (digits (40 ∷ more))) && nat_lt (number (digits (40 ∷ more))) 256) ≡ true =
-    and_left (nat_lt 0 (length (digits (40 ∷ more))) && nat_lt (number (digits (40 ∷ more))) 256) (closes (after_digits (40 ∷ more))) e in
+    (and_parts (nat_lt 0 (length (digits (40 ∷ more))) && nat_lt (number (digits (40 ∷ more))) 256) (closes (after_digits (40 ∷ more))) e).0 in
     let value : value_of (digits (40 ∷ more)) ≡ Some (number (digits (40 ∷ more))) = valued (digits (40 ∷ more))
-    (and_left (nat_lt 0 (length (digits (40 ∷ more)))) (nat_lt (number (digits (40 ∷ more))) 256) front)
-    (and_right (nat_lt 0 (length (digits (40 ∷ more)))) (nat_lt (number (digits (40 ∷ more))) 256) front) in
+    (and_parts (nat_lt 0 (length (digits (40 ∷ more)))) (nat_lt (number (digits (40 ∷ more))) 256) front).0
+    (and_parts (nat_lt 0 (length (digits (40 ∷ more)))) (nat_lt (number (digits (40 ∷ more))) 256) front).1 in
     ap (λ (o : Option ℕ). closed o (after_digits (40 ∷ more))) value ∙ ap (closed (Some (number (digits (40 ∷ more))))) parts
 
 -- a bracket and no number
@@ -91,7 +91,7 @@ closed_none t u v (d ∷ ds) af e f g isnt = small_at u v (d ∷ ds) af f g (sym
 
 pub any_right : (xs ys : List ℕ) → list_any is_newline (xs ++ ys) ≡ false → list_any is_newline ys ≡ false
 any_right [] ys none = none
-any_right (x ∷ xs) ys none = any_right xs ys (or_right (is_newline x) (list_any is_newline (xs ++ ys)) none)
+any_right (x ∷ xs) ys none = any_right xs ys (or_parts (is_newline x) (list_any is_newline (xs ++ ys)) none).1
 
 -- a word with a number that wants a reason
 abbrev pub WantedNumber : List ℕ → Word → Type 0
@@ -107,14 +107,14 @@ bracket_at false w more k e may wants none =
     rw may (ap (with_number_in k) missing)
 bracket_at true w more k e may wants none =
     let front : (nat_lt 0 (length (digits (40 ∷ more))) && nat_lt (number (digits (40 ∷ more))) 256) ≡ true =
-    and_left (nat_lt 0 (length (digits (40 ∷ more))) && nat_lt (number (digits (40 ∷ more))) 256) (closes (after_digits (40 ∷ more))) e in
+    (and_parts (nat_lt 0 (length (digits (40 ∷ more))) && nat_lt (number (digits (40 ∷ more))) 256) (closes (after_digits (40 ∷ more))) e).0 in
     let isn : IsNumber (digits (40 ∷ more)) = (
-      ltb-true 0 (length (digits (40 ∷ more))) (and_left (nat_lt 0 (length (digits (40 ∷ more)))) (nat_lt (number (digits (40 ∷ more))) 256) front),
+      ltb-true 0 (length (digits (40 ∷ more))) (and_parts (nat_lt 0 (length (digits (40 ∷ more)))) (nat_lt (number (digits (40 ∷ more))) 256) front).0,
       front_passes is_digit more,
-      ltb-true (number (digits (40 ∷ more))) 256 (and_right (nat_lt 0 (length (digits (40 ∷ more)))) (nat_lt (number (digits (40 ∷ more))) 256) front),
+      ltb-true (number (digits (40 ∷ more))) 256 (and_parts (nat_lt 0 (length (digits (40 ∷ more)))) (nat_lt (number (digits (40 ∷ more))) 256) front).1,
     ) in
     let p = closed_parts (after_digits (40 ∷ more))
-    (and_right (nat_lt 0 (length (digits (40 ∷ more))) && nat_lt (number (digits (40 ∷ more))) 256) (closes (after_digits (40 ∷ more))) e) in
+    (and_parts (nat_lt 0 (length (digits (40 ∷ more))) && nat_lt (number (digits (40 ∷ more))) 256) (closes (after_digits (40 ∷ more))) e).1 in
     let all : digits (40 ∷ more) ++ 41 ∷ p.0 ≡ more = ap (λ (xs : List ℕ). digits (40 ∷ more) ++ xs) (sym p.1) ∙ take-append-drop (prefix_len is_digit more) more in
     let clean : list_any is_newline p.0 ≡ false = any_right (digits (40 ∷ more)) (41 ∷ p.0) (ap (list_any is_newline) all ∙ none) in
     let begun : List ℕ = w ++ ((codes "(" ++ digits (40 ∷ more)) ++ codes ")") in
@@ -140,7 +140,7 @@ pub number_at : (t : Bool) (w more : List ℕ) (b : ℕ) (k : Word) → (b == 40
 number_at true w more b k e may plain wants numbers none =
     subst (λ (x : ℕ). MatchOption (cond (not (has_number (x ∷ more))) (Some BadNumber) (cond (not (has_reason (drop 1 (after_digits (x ∷ more))))) (Some NoReason) None))
     (Says (w ++ ((x ∷ more) ++ newline)) (after_bracket k more)) (λ g. after_bracket k more ≡ claim.Malformed g)) (sym (eqb-true b 40 e))
-    (bracket_at (has_number (40 ∷ more)) w more k refl may numbers (or_right (is_newline b) (list_any is_newline more) none))
+    (bracket_at (has_number (40 ∷ more)) w more k refl may numbers (or_parts (is_newline b) (list_any is_newline more) none).1)
 number_at false w more b k e may plain wants numbers none = rw plain (reasoned w (b ∷ more) (claim_with k) wants none)
 
 pub number_word : (w rest : List ℕ) (k : Word) → may_have_number k ≡ true → ((r : List ℕ) → plainly k r ≡ with_reason_in (claim_with k) (reason_in r))

@@ -2,10 +2,8 @@
 use Rattle.std.proofs.Common.{Option, Some, None, slice_get, map, ◌-◌, ◌==◌, ◌≡◌, ℕ, zero, suc, Bool, true, false, cond, List, [], ◌∷◌, length, arith, refl, sym, ap, ◌∙◌, ◌⊎◌, inl, inr}
 use Rattle.kt_cli.proofs.Common.{find, option_map, nat_tests, slice_get-map, length-map, Entry, Run, IsStoreFault, head_of, outlined, AreNumbered, run_at, RunHead, StoreFault, chosen}
 use Rattle.kt_store.specs.declared.store_fault.StoreFault.TheVariants.{NoRun as Absent}
-use Rattle.kt_cli.proofs.Numbered.{number_at}
-
-pub some_is : {X : Type 0} (x y : X) → Some x ≡ Some y → x ≡ y
-some_is x y e = cc
+use Rattle.std.proofs.lemmas.Option.{same_Some}
+use Rattle.kt_store.proofs.RunsByNumber.{number_at}
 
 chosen-map : {X Y : Type 0} (f : X → Y) (number : Option ℕ) (xs : List X) → chosen number (map f xs) ≡ option_map f (chosen number xs)
 chosen-map f None xs = ap (λ (n : ℕ). slice_get (map f xs) (n - 1)) (length-map xs f) ∙ slice_get-map f xs (length xs - 1)
@@ -26,7 +24,7 @@ head_found number runs heads head e f = by (chosen number runs) (sym (chosen-map
   where
     by : (o : Option Run) → option_map head_of o ≡ Some head → (r : Run) × (o ≡ Some r) × (head_of r ≡ head)
     by None g = absurd (cc)
-    by (Some r) g = (r, refl, some_is (head_of r) head g)
+    by (Some r) g = (r, refl, same_Some (head_of r) head g)
 
 -- the run of the chosen head has its number
 pub run_found : (number : Option ℕ) (runs : List Run) (heads : List RunHead) (head : RunHead) → AreNumbered 1 runs → heads ≡ map head_of runs → chosen number heads ≡ Some head
@@ -48,7 +46,7 @@ entries_there number runs heads head fault h e f (inr s) =
 pub entry_found : (es : List Entry) (k : ℕ) (e : Entry) → slice_get (map (outlined false) es) k ≡ Some e → find (λ (d : Entry). d.position == e.position) es ≡ None → ⊥
 entry_found [] k e there none = absurd (cc)
 entry_found (x ∷ es) zero e there none =
-    let same : x.position ≡ e.position = ap (λ (d : Entry). d.position) (some_is (outlined false x) e there) in
+    let same : x.position ≡ e.position = ap (λ (d : Entry). d.position) (same_Some (outlined false x) e there) in
     let test : (x.position == e.position) ≡ true = grind (arith, nat_tests, same) in
     let z : Some x ≡ None = rw test at none in absurd (cc)
 entry_found (x ∷ es) (suc k) e there none = by (x.position == e.position) (entry_found es k e there) none

@@ -49,6 +49,7 @@ pub use Rattle.kt_words.specs.Commands.{cases_of, needs_case, number_of, results
 pub use Rattle.kt_words.specs.declared.command.Command.{Command}
 pub use Rattle.kt_words.specs.declared.options.ReportOptions.{ReportOptions}
 unfoldable pub use lib.Utf8.{encode}
+unfoldable pub use Rattle.std.specs.Str.{chars}
 pub use Rattle.kt_cli.specs.CaseLines.{case_line}
 pub use Rattle.kt_cli.specs.Debugging.{all_debug_bytes, debug_bytes, debug_exit}
 pub use Rattle.kt_cli.specs.FaultLines.{memory_line, refusal_line}

@@ -1,12 +1,12 @@
 -- A JUnit report is written, an entry at a time.
-use Rattle.std.proofs.Common.{Option, Some, Result, Ok, Err, true, false, slice_get, get_or, flat_map, ◌≡◌, ◌<◌, ◌≤◌, ◌+◌, ℕ, List, [], ◌∷◌, ◌++◌, length, map, refl, ap, ◌∙◌, sym, subst, append_assoc, append-nil, length-append, arith}
-use Rattle.kt_cli.proofs.Common.{IsErrAnd, flat_map-append, slice_get-get_or, Entry, Run, Shows, shows_as, shows_both, shows_more, heading, case_bytes, ending, without_outputs, Outputs, CaseOutputs, Refused, Report, WritesCase, WritesFirst, CutsJunit, WritesJunit, filled, asked_outputs, Stored}
+use Rattle.std.proofs.Common.{Option, Some, Ok, Err, true, false, slice_get, get_or, flat_map, ◌≡◌, ◌<◌, ◌≤◌, ◌+◌, ℕ, List, [], ◌∷◌, ◌++◌, length, map, refl, ap, ◌∙◌, sym, subst, append_assoc, append-nil, length-append, arith}
+use Rattle.kt_cli.proofs.Common.{flat_map-append, slice_get-get_or, Entry, Run, Shows, shows_as, shows_both, shows_more, heading, case_bytes, ending, without_outputs, Outputs, CaseOutputs, Refused, Report, WritesCase, WritesFirst, CutsJunit, WritesJunit, filled, asked_outputs, Stored}
 use Rattle.kt_report.specs.Cases.{with_outputs}
 use Rattle.kt_report.proofs.Outlines.{same_heading}
 use Rattle.kt_cli.specs.declared.commands.report_stop.JunitStop.{JunitStop}
 use Rattle.kt_store.specs.declared.result_store.Keeping as keeping
-use Rattle.kt_cli.proofs.ChosenRuns.{some_is}
 use Rattle.kt_cli.proofs.StoreChains.{stored_none, stored_both, stored_as}
+use Rattle.std.proofs.lemmas.Option.{same_Some}
 
 -- an entry is written with its outputs
 abbrev one : Entry → CaseOutputs → Entry
@@ -14,13 +14,13 @@ one e o = with_outputs e o.body o.cleanup
 
 filled_more : (outline : List Entry) (outputs : List CaseOutputs) (e : Entry) (o : CaseOutputs) → slice_get outline (length outputs) ≡ Some e → filled outline (outputs ++ o ∷ []) ≡ filled outline outputs ++ one e o ∷ []
 filled_more [] outputs e o there = absurd cc
-filled_more (x ∷ outline) [] e o there = ap (λ d. one d o ∷ []) (some_is x e there)
+filled_more (x ∷ outline) [] e o there = ap (λ d. one d o ∷ []) (same_Some x e there)
 filled_more (x ∷ outline) (p ∷ outputs) e o there = ap (λ es. one x p ∷ es) (filled_more outline outputs e o there)
 
 asked_more : (number : ℕ) (outline : List Entry) (outputs : List CaseOutputs) (e : Entry) (o : CaseOutputs) → slice_get outline (length outputs) ≡ Some e
     → asked_outputs number outline outputs ++ Outputs number e.position (Ok o) ∷ [] ≡ asked_outputs number outline (outputs ++ o ∷ [])
 asked_more number [] outputs e o there = absurd cc
-asked_more number (x ∷ outline) [] e o there = ap (λ (d : Entry). Outputs number d.position (Ok o) ∷ []) (sym (some_is x e there))
+asked_more number (x ∷ outline) [] e o there = ap (λ (d : Entry). Outputs number d.position (Ok o) ∷ []) (sym (same_Some x e there))
 asked_more number (x ∷ outline) (p ∷ outputs) e o there = ap (λ calls. Outputs number x.position (Ok p) ∷ calls) (asked_more number outline outputs e o there)
 
 filled_bare : (outline : List Entry) (outputs : List CaseOutputs) → length outputs ≡ length outline → map without_outputs (filled outline outputs) ≡ map without_outputs outline
@@ -34,11 +34,6 @@ pub heading_filled : (run : Run) (outputs : List CaseOutputs) → length outputs
 heading_filled run outputs all =
     sym (same_heading false without_outputs (λ e. refl) run) ∙ ap (λ (es : List Entry). heading (record run { entries = es })) (sym (filled_bare run.entries outputs all))
     ∙ same_heading false without_outputs (λ e. refl) (record run { entries = filled run.entries outputs })
-
--- the exit of a `?`: the fault is the one that was met
-pub error_is : {T E : Type 0} (P : Result T E → Type 0) (r : Result T E) (fault : E) → IsErrAnd r (λ x. x ≡ fault) → P (Err fault) → P r
-error_is P (Ok done) fault is p = absurd is
-error_is {T} {E} P (Err other) fault is p = subst (λ (f : E). P (Err f)) (sym is) p
 
 module _ {R : Type 0} (keep : keeping.Ghosts R) (run : Run) (store : R) (was : Option (List ℕ)) where
   -- ---- the heading

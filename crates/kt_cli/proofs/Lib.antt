@@ -1,6 +1,7 @@
 pub mod Common
 pub mod ChosenRuns
 pub mod DebugRuns
+pub mod FaultWords
 pub mod Gainings
 pub mod JoinedPaths
 pub mod JunitSteps

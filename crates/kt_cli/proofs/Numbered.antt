@@ -2,12 +2,6 @@
 use Rattle.std.proofs.Common.{Some, Bool, true, false, slice_get, slice_set, if◌then◌else◌, ◌≡◌, ℕ, zero, suc, ◌+◌, ◌==◌, List, [], ◌∷◌, ◌++◌, length, arith, refl, sym, ap, ◌∙◌}
 use Rattle.kt_cli.proofs.Common.{nat_tests, Entry, Run, AreNumbered, insert_at, with_entry, finish, put_all, put_among}
 
--- the number of the run at a place
-pub number_at : (n k : ℕ) (runs : List Run) (r : Run) → AreNumbered n runs → slice_get runs k ≡ Some r → r.number ≡ n + k
-number_at n k [] r h there = absurd cc
-number_at n zero (x ∷ runs) r h there = let same : x ≡ r = cc in ap (λ (y : Run). y.number) (sym same) ∙ omega (arith, h.0)
-number_at n (suc k) (x ∷ runs) r h there = number_at (suc n) k runs r h.1 there ∙ omega arith
-
 is_same : (a b : ℕ) → a ≡ b → (a == b) ≡ true
 is_same a b e = grind (arith, nat_tests)
 

@@ -1,5 +1,5 @@
 -- A page goes on.
-use Rattle.std.proofs.Common.{Option, ◌≡◌, ℕ, Bool, true, false, List, [], ◌∷◌, ◌++◌, length, refl, sym, ◌∙◌, subst, arith}
+use Rattle.std.proofs.Common.{Option, ◌≡◌, ℕ, Bool, true, false, List, [], ◌++◌, refl, sym, ◌∙◌, subst}
 use Rattle.kt_cli.proofs.Common.{Shows, shows_both, shows_more, shows_none, shows_of, Says, SaysMore}
 
 -- more is said on a page
@@ -27,8 +27,3 @@ tells_nothing a true = record { more = (refl, refl) }
 -- bytes are said, and then others
 pub tells_both : (a b d : Option (List ℕ)) (f g h : Bool) (xs ys : List ℕ) → Says a f b g xs → Says b g d h ys → Says a f d h (xs ++ ys)
 tells_both a b d f g h xs ys p q = record { more = says_bytes a b d f g h xs ys p.more q.more }
-
--- a list of no length is empty
-pub nothing : {X : Type 0} (xs : List X) → length xs ≡ 0 → xs ≡ []
-nothing [] e = refl
-nothing (x ∷ xs) e = absurd (omega (arith, e))

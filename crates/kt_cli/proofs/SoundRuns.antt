@@ -6,11 +6,12 @@ use Rattle.kt_cli.specs.Reports.{told as told_junit, no_run as no_junit, no_head
 use Rattle.kt_cli.specs.SoundStores.{not_begun as comes_not_begun, not_put as comes_not_put, not_finished as comes_not_finished, no_heads, no_run as comes_no_run, no_outline, told as told_outputs, failed as failed_outputs}
 use Rattle.kt_cli.specs.Testing.{recorded}
 use Rattle.kt_store.specs.declared.result_store.Keeping as keeping
-use Rattle.kt_cli.proofs.ChosenRuns.{some_is, run_found, entries_there, entry_found, not_chosen}
+use Rattle.kt_cli.proofs.ChosenRuns.{run_found, entries_there, entry_found, not_chosen}
 use Rattle.kt_cli.proofs.NewRuns.{put_new, finish_new, finishes}
 use Rattle.kt_cli.proofs.Numbered.{put_more}
 use Rattle.kt_cli.proofs.Unrepeated.{due_is_taken}
 use Rattle.kt_cli.proofs.StoreChains.{changed-append, beside-append, agree_later}
+use Rattle.std.proofs.lemmas.Option.{same_Some}
 
 changed-puts : (number : ℕ) (es : List Entry) (runs : List Run) → changed (puts number es) runs ≡ put_all number es runs
 changed-puts number [] runs = refl
@@ -154,7 +155,7 @@ module _ (number : Option ℕ) (runs : List Run) (h : AreNumbered 1 runs) where
       let c = run_found number runs heads head h a.0 e in
       let r = c.0 in
       let n : r.number ≡ head.number = ap (λ (x : RunHead). x.number) c.2 in
-      let same : a.1.0.0 ≡ r = some_is a.1.0.0 r (sym a.1.0.1 ∙ ap (λ (k : ℕ). run_at runs k) (sym n) ∙ c.3) in
+      let same : a.1.0.0 ≡ r = same_Some a.1.0.0 r (sym a.1.0.1 ∙ ap (λ (k : ℕ). run_at runs k) (sym n) ∙ c.3) in
       let is : outline ≡ map (outlined pairs) r.entries = a.1.0.2 ∙ ap (λ (x : Run). map (outlined pairs) x.entries) same in
       let all = reads r c.3 is (subst (λ (k : ℕ). Agree runs (calls k)) (sym n) a.1.1) in
       let rest = unchanged r (calls r.number) all in

@@ -22,7 +22,7 @@ pub use Rattle.kt_words.specs.declared.command.Command.{Command}
 pub use Rattle.kt_cli.specs.CaseLines.{case_line}
 pub use Rattle.kt_cli.specs.Closings.{Concluded}
 pub use Rattle.kt_cli.specs.Debugging.{debug_bytes}
-pub use Rattle.kt_cli.specs.FaultLines.{memory_line, refusal_line, store_line}
+pub use Rattle.kt_cli.specs.FaultLines.{fault_line, memory_line, refusal_line}
 pub use Rattle.kt_cli.specs.HostAnswers.{HostStarts, HostWaits, IsHostAnswer, look_kept, running_kept}
 pub use Rattle.kt_cli.specs.Inner.Debugging.{Debugged, Prints}
 pub use Rattle.kt_cli.specs.Inner.FaultLines.{run_line}

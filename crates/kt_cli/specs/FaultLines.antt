@@ -1,7 +1,7 @@
 -- The lines by which commands report faults.
 use Rattle.std.specs.Prelude.{ℕ, List, ◌++◌, codes}
 use Rattle.kt_store.specs.declared.store_fault.StoreFault.{StoreFault}
-use Rattle.kt_store.specs.declared.store_fault.StoreFault.TheVariants as store
+use Rattle.kt_store.specs.Ask.{fault_words}
 
 -- the line of a fault with these words
 abbrev pub fault_line : List ℕ → List ℕ
@@ -11,11 +11,6 @@ fault_line words = codes "kyua: E: " ++ words ++ codes "\n"
 abbrev pub memory_line : List ℕ
 memory_line = fault_line (codes "out of memory")
 
--- the store refused a call
-abbrev pub store_line : List ℕ
-store_line = fault_line (codes "results store failed")
-
 -- a call that the store refused
 abbrev pub refusal_line : StoreFault → List ℕ
-refusal_line (store.NoMemory shortage) = memory_line
-refusal_line other = store_line
+refusal_line fault = fault_line (fault_words fault)

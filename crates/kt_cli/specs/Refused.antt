@@ -1,35 +1,21 @@
 -- The lines by which a command line is refused before its command begins, and the exits.
-use Rattle.std.specs.Prelude.{ℕ, Bool, List, ◌≡◌, Option, codes}
+use Rattle.std.specs.Prelude.{ℕ, Bool, List, ◌≡◌, Option}
 use Rattle.kt_base.specs.Shows.{Shows}
 use Rattle.kt_child.specs.declared.driving.driver.DriverFault.{DriverFault}
-use Rattle.kt_child.specs.declared.driving.driver.DriverFault.TheVariants as driver
+use Rattle.kt_child.specs.Driving.Roots.{driver_words}
 use Rattle.kt_words.specs.declared.command_fault.CommandFault.{CommandFault}
 use Rattle.kt_words.specs.declared.command_fault.CommandFault.TheVariants as command
-use Rattle.kt_cli.specs.FaultLines.{memory_line}
-
--- work directories have no place
-abbrev pub place_line : List ℕ
-place_line = codes "kyua: E: no work directory\n"
+use Rattle.kt_words.specs.FaultWords.{command_words}
+use Rattle.kt_cli.specs.FaultLines.{fault_line}
 
 -- why there is no driver
 abbrev pub driver_line : DriverFault → List ℕ
-driver_line (driver.NoMemory refusal) = memory_line
-driver_line driver.NoWorkDirectory = place_line
-
--- a word of a results filter is no kind
-abbrev pub filter_line : List ℕ
-filter_line = codes "kyua: E: bad results filter\n"
-
--- a run's number is none
-abbrev pub number_line : List ℕ
-number_line = codes "kyua: E: bad run number\n"
+driver_line fault = fault_line (driver_words fault)
 
 -- why the arguments are refused: what `clap` says of them, or a line of ours
 abbrev pub command_text : CommandFault → List ℕ
-command_text (command.NoMemory shortage) = memory_line
 command_text (command.Usage text) = text
-command_text command.BadKind = filter_line
-command_text command.BadRun = number_line
+command_text other = fault_line (command_words other)
 
 -- something failed
 abbrev pub failure_exit : ℕ

@@ -1,14 +1,14 @@
 //! The lines that say what went wrong.
 
-ghost use Rattle.std.specs.Prelude.{◌≡◌, is_err, slice_get};
-ghost use Rattle.kt_cli.specs.Common.{Shows, utf8, Concluded, memory_line, refusal_line, store_line, run_line, Says, Printed, driver_line, command_text, command_exit, failure_exit, Refused, stop_exit, stop_line, warning_line, warning_at, warnings};
+ghost use Rattle.std.specs.Prelude.{◌≡◌, chars, is_err, slice_get};
+ghost use Rattle.kt_cli.specs.Common.{Shows, utf8, Concluded, fault_line, memory_line, refusal_line, run_line, Says, Printed, driver_line, command_text, command_exit, failure_exit, Refused, stop_exit, stop_line, warning_line, warning_at, warnings};
 
 use crate::Exit;
 use crate::output::exit::{FAILED, ended};
-use kt_base::{NoMemory, OutputFault, Text, emit, emit_all};
+use kt_base::{NoMemory, OUT_OF_MEMORY, OutputFault, Text, emit, emit_all};
 use kt_child::DriverFault;
 use kt_plan::Stop;
-use kt_sched::{RunFault, SinkFault};
+use kt_sched::RunFault;
 use kt_store::StoreFault;
 use kt_words::CommandFault;
 use std::io::Write;
@@ -16,25 +16,19 @@ use std::io::Write;
 /// The status of a wrong command line.
 const WRONG_WORDS: u8 = 3;
 
-/// Writes that memory ran out, for the faults that this module takes apart.
-fn write_shortage<O: Write>(out: &mut O) -> Result<(), OutputFault>
-    ensures { Shows (O.contents out.old) (O.contents out.new) (is_err result) (utf8 memory_line) }
+/// Writes the line of a fault (this profile).
+fn write_fault<O: Write>(words: &str, out: &mut O) -> Result<(), OutputFault>
+    ensures { Shows (O.contents out.old) (O.contents out.new) (is_err result)
+        (utf8 (fault_line (chars words.now))) }
 {
-    emit(b"kyua: E: out of memory\n", out)
+    emit_all(&[b"kyua: E: ", words.as_bytes(), b"\n"], out)
 }
 
 /// Writes that memory ran out. The refusal is no part of the line: who says so holds one, which nobody can make up.
 pub fn write_memory<O: Write>(_refusal: NoMemory, out: &mut O) -> Result<(), OutputFault>
     ensures { Shows (O.contents out.old) (O.contents out.new) (is_err result) (utf8 memory_line) }
 {
-    write_shortage(out)
-}
-
-/// Writes that the store refused a call.
-fn write_store<O: Write>(out: &mut O) -> Result<(), OutputFault>
-    ensures { Shows (O.contents out.old) (O.contents out.new) (is_err result) (utf8 store_line) }
-{
-    emit(b"kyua: E: results store failed\n", out)
+    write_fault(OUT_OF_MEMORY, out)
 }
 
 /// Writes why a run failed, unless an earlier write failed.
@@ -47,11 +41,7 @@ pub fn write_run_fault<O: Write>(
         (utf8 (run_line fault)) }
 {
     written?;
-    match fault {
-        RunFault::NoMemory(refusal) => write_memory(refusal, out),
-        RunFault::SinkFailed(SinkFault::Memory) => write_shortage(out),
-        RunFault::SinkFailed(SinkFault::Other) => write_store(out),
-    }
+    write_fault(fault.words(), out)
 }
 
 /// Writes why the store refused a call.
@@ -59,10 +49,7 @@ pub fn write_refusal<O: Write>(fault: StoreFault, out: &mut O) -> Result<(), Out
     ensures { Shows (O.contents out.old) (O.contents out.new) (is_err result)
         (utf8 (refusal_line fault)) }
 {
-    match fault {
-        StoreFault::NoMemory(_) => write_shortage(out),
-        _ => write_store(out),
-    }
+    write_fault(fault.words(), out)
 }
 
 /// Writes why a command was stopped, in the line of its fault (this profile).
@@ -98,10 +85,7 @@ pub fn print_driver_fault<O: Write>(fault: DriverFault, out: &mut O) -> Exit
     ensures { Printed (O.contents out.old) (O.contents out.new) result.status
         (utf8 (driver_line fault)) failure_exit }
 {
-    match fault {
-        DriverFault::NoMemory(refusal) => ended(write_memory(refusal, out), FAILED),
-        DriverFault::NoWorkDirectory => ended(emit(b"kyua: E: no work directory\n", out), FAILED),
-    }
+    ended(write_fault(fault.words(), out), FAILED)
 }
 
 /// Prints why the results can't be opened.
@@ -128,10 +112,8 @@ fn write_command_fault<O: Write>(fault: &CommandFault, out: &mut O) -> Result<()
         (utf8 (command_text fault.now)) }
 {
     match fault {
-        CommandFault::NoMemory(_) => write_shortage(out),
         CommandFault::Usage(text) => emit(text.as_bytes(), out),
-        CommandFault::BadKind => emit(b"kyua: E: bad results filter\n", out),
-        CommandFault::BadRun => emit(b"kyua: E: bad run number\n", out),
+        _ => write_fault(fault.words(), out),
     }
 }
 

@@ -6,7 +6,7 @@ use Rattle.kt_config.specs.declared.fault.ConfigFault.{ConfigFault}
 use Rattle.kt_config.specs.declared.fault.ConfigFault.TheVariants.{NoMemory, UnknownVariable, BadValue, Script, NoSyntax, NotAssignment}
 use Rattle.kt_config.specs.Names.{Meaning}
 use Rattle.kt_script.specs.declared.fault.ScriptFault.TheVariants as script
-use Rattle.kt_config.proofs.ScriptLaws.{one_script, not_both}
+use Rattle.kt_script.proofs.OneAnswer.{two_spelled, not_both}
 
 -- ---- statement by statement
 
@@ -127,17 +127,14 @@ right_ok text stmts s r g = ok_cases text stmts r (outcome_of stmts) s refl g
 
 pub right_only : (text : List ℕ) (stmts : List Stmt) → Spells text stmts → (r : Result Values ConfigFault) → Gives r (outcome_of stmts)
     → (others : List Stmt) → (ds : List Definition) → Spells text others → outcome_of others ≡ Ok ds → Answers r ds
-right_only text stmts s r g = λ others ds t o. only_cases r (outcome_of stmts) ds g (ap outcome_of (one_script text stmts others s t) ∙ o)
+right_only text stmts s r g = λ others ds t o. only_cases r (outcome_of stmts) ds g (ap outcome_of (two_spelled text stmts others s t) ∙ o)
 
 pub right_fault : (text : List ℕ) (stmts : List Stmt) → Spells text stmts → (r : Result Values ConfigFault) → Gives r (outcome_of stmts) → IfFault r (λ fault. IsDue text fault)
 right_fault text stmts s r g = fault_cases text stmts r (outcome_of stmts) s refl g
 
-due_of : (text : List ℕ) (stmts : List Stmt) → Spells text stmts → (r : Result Values ConfigFault) → Gives r (outcome_of stmts) → (fault : ConfigFault) → IsDue text fault → Refuses r fault
-due_of text stmts s r g fault (inl d) = absurd (not_both text stmts d.0 s d.1)
-due_of text stmts s r g fault (inr d) = due_cases r (outcome_of stmts) fault g (ap outcome_of (one_script text stmts d.0 s d.1) ∙ d.2)
-
 pub right_due : (text : List ℕ) (stmts : List Stmt) → Spells text stmts → (r : Result Values ConfigFault) → Gives r (outcome_of stmts) → (fault : ConfigFault) → IsDue text fault → Refuses r fault
-right_due text stmts s r g = λ fault d. due_of text stmts s r g fault d
+right_due text stmts s r g fault (inl d) = absurd (not_both text stmts d.0 s d.1)
+right_due text stmts s r g fault (inr d) = due_cases r (outcome_of stmts) fault g (ap outcome_of (two_spelled text stmts d.0 s d.1) ∙ d.2)
 
 -- ---- a file that is no script
 

@@ -4,12 +4,8 @@ use Rattle.kt_config.proofs.Common.{chars, bytes_eq, IsUtf8, string_bytes, strin
 use Rattle.std.specs.declared.string.String.{String}
 use Rattle.std.specs.Map.{lookup, set_value}
 use Rattle.std.proofs.lemmas.Str.{IsUtf8-string_bytes}
-use Rattle.kt_base.proofs.Texts.{bytes_eq-chars}
+use Rattle.kt_base.proofs.Texts.{key-chars}
 use Rattle.kt_config.proofs.Puttings.{put, first_value}
-
--- a key by its characters
-key-chars : {Z : Type 0} (q : List ℕ) → IsUtf8 q → (k : String Z) → bytes_eq q (string_bytes k) ≡ bytes_eq (chars q) (chars (string_bytes k))
-key-chars q u k = bytes_eq-chars q (string_bytes k) u (IsUtf8-string_bytes k)
 
 -- ---- variables
 

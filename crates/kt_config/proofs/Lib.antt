@@ -2,6 +2,5 @@ pub mod Common
 pub mod Puttings
 pub mod Entries
 pub mod Adding
-pub mod ScriptLaws
 pub mod Answering
 pub mod Parts

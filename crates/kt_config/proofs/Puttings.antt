@@ -1,8 +1,7 @@
 -- Last values that are kept in place.
-use Rattle.std.proofs.Common.{◌≡◌, ℕ, Bool, true, false, not, List, [], ◌∷◌, ◌++◌, refl, sym, ap, ◌∙◌, subst, Option, Some, None, append-nil, if◌then◌else◌, unwrap_or}
+use Rattle.std.proofs.Common.{◌≡◌, ℕ, Bool, true, false, List, [], ◌∷◌, ◌++◌, refl, sym, ap, ◌∙◌, subst, Option, Some, None, if◌then◌else◌, unwrap_or}
 use Rattle.kt_config.proofs.Common.{bytes_eq, Variable, is_named, value_of, without, last_values, same, same-flip, or-none, or-some, value_of-append, last_values-without}
-use Rattle.std.proofs.lemmas.List.Elements.{filter-append}
-use Rattle.kt_base.proofs.LastValueLaws.{overlaid}
+use Rattle.kt_base.proofs.LastValueLaws.{first_of, overlaid, without-further, first-further, twice}
 
 -- a variable takes the place of the one with its name, or goes last
 abbrev pub put : List Variable → Variable → List Variable
@@ -13,10 +12,6 @@ put (first ∷ rest) pair = if is_named pair.name first then record { name = fir
 abbrev pub first_value : List ℕ → List Variable → Option (List ℕ)
 first_value name [] = None
 first_value name (first ∷ rest) = if is_named name first then Some first.value else first_value name rest
-
--- what a pair that stands first is in the last values
-abbrev first_of : Variable → List Variable → Variable
-first_of pair pairs = record { name = pair.name; value = unwrap_or (value_of pair.name pairs) pair.value }
 
 -- a put under another name
 put-without-next : (n : List ℕ) (p y : Variable) (ys : List Variable) → bytes_eq n p.name ≡ false → put (without n ys) p ≡ without n (put ys p)
@@ -30,16 +25,6 @@ put-without-next n p y ys other h false false e f = rw (f, e, f) (ap (λ (ps : L
 put-without : (n : List ℕ) (p : Variable) (ys : List Variable) → bytes_eq n p.name ≡ false → put (without n ys) p ≡ without n (put ys p)
 put-without n p [] other = rw other refl
 put-without n p (y ∷ ys) other = put-without-next n p y ys other (put-without n p ys other) (is_named p.name y) (is_named n y) refl refl
-
--- a further pair doesn't change the value of another name, nor show where its own name is taken out
-value_of-further : (name : List ℕ) (xs : List Variable) (pair : Variable) → bytes_eq name pair.name ≡ false → value_of name (xs ++ pair ∷ []) ≡ value_of name xs
-value_of-further name xs pair other = value_of-append name xs (pair ∷ []) ∙ rw other refl
-
-without-further : (name : List ℕ) (xs : List Variable) (pair : Variable) → bytes_eq name pair.name ≡ true → without name (xs ++ pair ∷ []) ≡ without name xs
-without-further name xs pair e = filter-append (λ p. not (is_named name p)) xs (pair ∷ []) ∙ rw e (append-nil (without name xs))
-
-first-further : (x pair : Variable) (xs : List Variable) → bytes_eq x.name pair.name ≡ false → first_of x (xs ++ pair ∷ []) ≡ first_of x xs
-first-further x pair xs other = rw (value_of-further x.name xs pair other) refl
 
 put-last-next : (x p : Variable) (xs : List Variable) → put (last_values xs) p ≡ last_values (xs ++ p ∷ [])
     → (b : Bool) → is_named p.name x ≡ b → put (last_values (x ∷ xs)) p ≡ last_values (x ∷ xs ++ p ∷ [])
@@ -59,10 +44,6 @@ put-last-next x p xs h false e =
 put-last : (xs : List Variable) (p : Variable) → put (last_values xs) p ≡ last_values (xs ++ p ∷ [])
 put-last [] p = refl
 put-last (x ∷ xs) p = put-last-next x p xs (put-last xs p) (is_named p.name x) refl
-
--- last values are their own last values
-pub twice : (xs : List Variable) → last_values (last_values xs) ≡ last_values xs
-twice xs = overlaid [] xs
 
 -- a put into last values
 pub put-settled : (old new : List Variable) (p : Variable) → old ≡ last_values old → new ≡ put old p → new ≡ last_values (old ++ p ∷ [])

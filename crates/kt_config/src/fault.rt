@@ -1,13 +1,13 @@
 ghost use Rattle.std.specs.Prelude.{◌≡◌};
 ghost use Rattle.kt_config.specs.declared.fault.ConfigFault.TheVariants as fault;
 
-use kt_base::NoMemory;
+use kt_base::{NoMemory, OUT_OF_MEMORY};
 use kt_script::ScriptFault;
-use std::error::Error;
-use std::fmt;
+use thiserror::Error;
 
 /// Why a configuration file, or one variable, was refused.
-#[derive(Clone, Copy, Debug)]
+#[derive(Clone, Copy, Debug, Error)]
+#[error("{}", self.words())]
 pub enum ConfigFault {
     NoMemory(NoMemory),
     /// No variable has this name.
@@ -30,7 +30,7 @@ impl ConfigFault {
         ensures { result.now ≡ config_words self.now }
     {
         match self {
-            ConfigFault::NoMemory(_) => "out of memory",
+            ConfigFault::NoMemory(_) => OUT_OF_MEMORY,
             ConfigFault::UnknownVariable => "unknown variable",
             ConfigFault::BadValue => "bad value",
             ConfigFault::Script(fault) => fault.words(),
@@ -39,14 +39,6 @@ impl ConfigFault {
         }
     }
 }
-
-impl fmt::Display for ConfigFault {
-    fn fmt<W: fmt::Write>(&self, f: &mut fmt::Formatter<W>) -> fmt::Result {
-        f.write_str(self.words())
-    }
-}
-
-impl Error for ConfigFault {}
 
 impl From<NoMemory> for ConfigFault {
     ghost from_gives = { λ refusal e. e ≡ fault.NoMemory refusal };

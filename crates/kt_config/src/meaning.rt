@@ -39,6 +39,7 @@ fn of_width(width: Option<Width>) -> Result<Definition, ConfigFault>
 }
 
 /// What a value for a variable of the runner means.
+#[tactic(auto, unfolding(crate::proofs::Common::chars))]
 fn runner_definition(name: &Text, value: Text) -> Result<Definition, ConfigFault>
     ensures { result ≡ runner_definition name.now value }
 {
@@ -57,6 +58,7 @@ fn runner_definition(name: &Text, value: Text) -> Result<Definition, ConfigFault
 }
 
 /// Whether three parts name a variable of a suite.
+#[tactic(auto, unfolding(crate::proofs::Common::chars))]
 fn is_suite_variable(root: &Text, suite: &Text, name: &Text) -> bool
     ensures { result ≡ is_suite_variable root.now suite.now name.now }
 {

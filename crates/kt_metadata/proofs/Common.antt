@@ -9,13 +9,13 @@ pub use Rattle.std.specs.Str.{IsUtf8}
 unfoldable pub use Rattle.std.specs.Str.{chars}
 pub use Rattle.std.specs.String.{string_bytes, string_eq}
 pub use Rattle.std.specs.declared.string.String.{String}
-pub use Rattle.kt_base.proofs.LastValueLaws.{overlaid, value_is}
+pub use Rattle.kt_base.proofs.LastValueLaws.{overlaid, twice, value_is}
 pub use Rattle.kt_base.proofs.Names.{same, value_of-append}
 pub use Rattle.kt_base.specs.Characters.{is_space}
 pub use Rattle.kt_base.specs.LastValues.{last_values, value_of}
 pub use Rattle.kt_base.specs.Utf8.{utf8}
 pub use Rattle.kt_base.specs.declared.variable.Variable.{Variable}
-pub use Rattle.kt_config.proofs.Puttings.{first-settled, first_value, put, put-settled, settled-put, twice}
+pub use Rattle.kt_config.proofs.Puttings.{first-settled, first_value, put, put-settled, settled-put}
 pub use Rattle.kt_metadata.specs.Effective.{given, meta_of, size_in, texts_of, timeout_in, truth_in, user_in, words_in}
 pub use Rattle.kt_metadata.specs.Inner.Layers.{AreRead, AreSound, IsRead, beneath, pair_in, pairs_in}
 pub use Rattle.kt_metadata.specs.Inner.Rows.{row_in}

@@ -3,9 +3,7 @@ use Rattle.std.proofs.Common.{◌≡◌, ℕ, zero, suc, Bool, true, false, List
 use Rattle.kt_metadata.proofs.Common.{find, list_all, option_map, option_or, same, Row, table, form_named, own_part, after_front, filled, has_key, name_of_key, StandsFor}
 use Rattle.kt_metadata.specs.ListKeys as key
 use Rattle.kt_metadata.proofs.Fronts.{append-after_front}
-
-some_is : {X : Type 0} (x y : X) → Some x ≡ Some y → x ≡ y
-some_is x y e = cc
+use Rattle.std.proofs.lemmas.Option.{same_Some}
 
 and-parts : (a b : Bool) → (a && b) ≡ true → (a ≡ true) × (b ≡ true)
 and-parts true b e = (refl, e)
@@ -15,7 +13,7 @@ module _ (passes : Row → Bool) where
   -- a row that is found has a place, and passes
   found-next : (q : Row) (qs : List Row) (r : Row) → (find passes qs ≡ Some r → (place : ℕ) × (slice_get qs place ≡ Some r) × (passes r ≡ true))
       → (b : Bool) → passes q ≡ b → find passes (q ∷ qs) ≡ Some r → (place : ℕ) × (slice_get (q ∷ qs) place ≡ Some r) × (passes r ≡ true)
-  found-next q qs r h true t e = let here : Some q ≡ Some r = rw t at e in (zero, here, subst (λ (x : Row). passes x ≡ true) (some_is q r here) t)
+  found-next q qs r h true t e = let here : Some q ≡ Some r = rw t at e in (zero, here, subst (λ (x : Row). passes x ≡ true) (same_Some q r here) t)
   found-next q qs r h false t e = let later = h (rw t at e) in (suc later.0, later.1, later.2)
 
   found-row : (rows : List Row) (r : Row) → find passes rows ≡ Some r → (place : ℕ) × (slice_get rows place ≡ Some r) × (passes r ≡ true)
@@ -25,7 +23,7 @@ module _ (passes : Row → Bool) where
   -- a row passes if all do
   row-passes : (rows : List Row) (place : ℕ) (r : Row) → list_all passes rows ≡ true → slice_get rows place ≡ Some r → passes r ≡ true
   row-passes [] place r all e = absurd (cc)
-  row-passes (q ∷ qs) zero r all e = subst (λ (x : Row). passes x ≡ true) (some_is q r e) (and-parts (passes q) (list_all passes qs) all).0
+  row-passes (q ∷ qs) zero r all e = subst (λ (x : Row). passes x ≡ true) (same_Some q r e) (and-parts (passes q) (list_all passes qs) all).0
   row-passes (q ∷ qs) (suc place) r all e = row-passes qs place r (and-parts (passes q) (list_all passes qs) all).1 e
 
 -- the name that was found is this one

@@ -4,10 +4,7 @@ use Rattle.kt_metadata.proofs.Common.{chars, option_map, option_or, IsUtf8, stri
 use Rattle.std.specs.Str.{bytes_eq}
 use Rattle.std.specs.Map.{lookup}
 use Rattle.indexmap.specs.IndexMap.{insert_entry}
-use Rattle.kt_base.proofs.Texts.{bytes_eq-chars}
-
-key-chars : {Z : Type 0} (q : List ℕ) → IsUtf8 q → (k : String Z) → bytes_eq q (string_bytes k) ≡ bytes_eq (chars q) (chars (string_bytes k))
-key-chars q u k = bytes_eq-chars q (string_bytes k) u (IsUtf8-string_bytes k)
+use Rattle.kt_base.proofs.Texts.{key-chars}
 
 module _ {Z : Type 0} where
   -- an entry that is inserted

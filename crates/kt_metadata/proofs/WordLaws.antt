@@ -3,14 +3,11 @@ use Rattle.std.proofs.Common.{◌≡◌, ℕ, Bool, true, false, not, List, [], 
 use Rattle.kt_metadata.proofs.Common.{list_any, is_space, is_word, IsBreak, AreWords, ended, words_from, words}
 use Rattle.std.proofs.lemmas.List.Folds.{list_any-append}
 use Rattle.kt_metadata.specs.Words as rule
+use Rattle.std.proofs.lemmas.Bool.{not-true}
 
 -- characters without white space, of which a word has at least one
 word-solid : (c : ℕ) (cs : List ℕ) → list_any is_space (c ∷ cs) ≡ false → is_word (c ∷ cs) ≡ true
 word-solid c cs e = ap not e
-
-not-true : (b : Bool) → not b ≡ true → b ≡ false
-not-true true e = sym e
-not-true false e = refl
 
 solid-word : (word : List ℕ) → is_word word ≡ true → list_any is_space word ≡ false
 solid-word [] e = refl

@@ -1,5 +1,5 @@
 -- How words end.
-use Rattle.std.proofs.Common.{◌≡◌, ℕ, true, false, List, [], ◌∷◌, ◌++◌, refl, sym, ◌∙◌, arith, length}
+use Rattle.std.proofs.Common.{◌≡◌, ℕ, true, false, List, [], ◌∷◌, ◌++◌, refl, sym, ◌∙◌}
 use Rattle.kt_metadata.proofs.Common.{is_space, ended, words_from}
 use Rattle.kt_base.specs.Texts.{is_empty}
 
@@ -25,7 +25,3 @@ at-space word rest c space = sym (ended-then word (words_from [] rest)) ∙ sym 
 -- elsewhere it goes on
 pub in-word : (word rest : List ℕ) (c : ℕ) → is_space c ≡ false → words_from (word ++ c ∷ []) rest ≡ words_from word (c ∷ rest)
 in-word word rest c other = sym (rw other refl)
-
-pub no-length : {X : Type 0} (xs : List X) → length xs ≡ 0 → xs ≡ []
-no-length [] e = refl
-no-length (x ∷ xs) e = absurd (omega (arith, e))

@@ -1,25 +1,29 @@
 -- Truth values, users, sizes, timeouts and paths, as they are written.
-use Rattle.std.specs.Prelude.{ℕ, ◌*◌, ◌^◌, ◌==◌, ◌||◌, Bool, true, false, not, nat_le, bytes_eq, codes, List, [], ◌∷◌, take, drop, Option, Some, None, if◌then◌else◌}
+use Rattle.std.specs.Prelude.{ℕ, ◌*◌, ◌^◌, ◌==◌, ◌||◌, Bool, true, false, not, nat_le, codes, List, [], ◌∷◌, take, drop, Option, Some, None, if◌then◌else◌}
 use Rattle.std.specs.List.{list_any, prefix_len}
 use Rattle.kt_base.specs.Characters.{is_slash, is_absolute}
 use Rattle.kt_base.specs.Digits.{is_digit, decimal_from, fits}
 use Rattle.kt_base.specs.Limits.{longest_timeout}
-use Rattle.kt_base.specs.Texts.{is_empty}
+use Rattle.kt_base.specs.Words.{named}
 use Rattle.kt_base.specs.Utf8.{utf8}
 use Rattle.kt_metadata.specs.declared.value.User.{User}
 use Rattle.kt_metadata.specs.declared.value.User.TheVariants.{Any, Root, Unprivileged}
 
+-- the words of truth values
+abbrev pub truths : List (List ℕ × Bool)
+truths = (codes "true", true) ∷ (codes "yes", true) ∷ (codes "false", false) ∷ (codes "no", false) ∷ []
+
 -- a truth value
 abbrev pub truth_of : List ℕ → Option Bool
-truth_of text =
-    if bytes_eq text (codes "true") then Some true else if bytes_eq text (codes "yes") then Some true
-    else if bytes_eq text (codes "false") then Some false else if bytes_eq text (codes "no") then Some false
-    else None
+truth_of text = named truths text
+
+-- the users that a case may ask for
+abbrev pub users : List (List ℕ × User)
+users = ([], Any) ∷ (codes "root", Root) ∷ (codes "unprivileged", Unprivileged) ∷ []
 
 -- the user that a case asks for
 abbrev pub user_of : List ℕ → Option User
-user_of text = if is_empty text then Some Any else if bytes_eq text (codes "root") then Some Root
-    else if bytes_eq text (codes "unprivileged") then Some Unprivileged else None
+user_of text = named users text
 
 -- the number of one or more digits
 abbrev pub number_of : List ℕ → Option ℕ

@@ -1,12 +1,12 @@
 ghost use Rattle.std.specs.Prelude.{◌≡◌};
 ghost use Rattle.kt_metadata.specs.declared.fault.PropFault.TheVariants as prop;
 
-use kt_base::NoMemory;
-use std::error::Error;
-use std::fmt;
+use kt_base::{NoMemory, OUT_OF_MEMORY};
+use thiserror::Error;
 
-/// Why a property was refused. `Display` is the text of the fault's line (this profile).
-#[derive(Clone, Copy, Debug)]
+/// Why a property was refused.
+#[derive(Clone, Copy, Debug, Error)]
+#[error("{}", self.words())]
 pub enum PropFault {
     NoMemory(NoMemory),
     /// No property has this name.
@@ -15,17 +15,20 @@ pub enum PropFault {
     BadValue,
 }
 
-impl fmt::Display for PropFault {
-    fn fmt<W: fmt::Write>(&self, f: &mut fmt::Formatter<W>) -> fmt::Result {
-        f.write_str(match self {
-            PropFault::NoMemory(_) => "out of memory",
+impl PropFault {
+    ghost use Rattle.kt_metadata.specs.FaultWords.{prop_words};
+
+    /// The words of the fault, which `Display` prints.
+    pub fn words(&self) -> &'static str
+        ensures { result.now ≡ prop_words self.now }
+    {
+        match self {
+            PropFault::NoMemory(_) => OUT_OF_MEMORY,
             PropFault::UnknownProperty => "unknown property",
             PropFault::BadValue => "bad value",
-        })
+        }
     }
 }
-
-impl Error for PropFault {}
 
 impl From<NoMemory> for PropFault {
     ghost from_gives = { λ error fault. fault ≡ prop.NoMemory error };

@@ -3,7 +3,7 @@ ghost use Rattle.kt_metadata.specs.Common.{list_any, truth_of, user_of, number_o
 ghost use Rattle.kt_metadata.specs.Values.{size_in, timeout_in};
 
 use crate::User;
-use kt_base::{Items, NoMemory, Text, decimal_up_to, digits_length, has_slash, is_absolute};
+use kt_base::{Items, NoMemory, Text, decimal_up_to, digits_length, has_slash, is_absolute, named};
 use std::alloc::Global;
 
 fn is_space(c: char) -> bool
@@ -56,36 +56,35 @@ pub fn words_laws()
         → found ≡ words text }
 {}
 
+/// The words of truth values.
+const TRUTHS: [(&str, bool); 4] = [
+    ("true", true),
+    ("yes", true),
+    ("false", false),
+    ("no", false),
+];
+
 /// A truth value.
+#[tactic(auto, unfolding(crate::proofs::Common::chars))]
 pub fn truth(text: &Text) -> Option<bool>
     ensures { result ≡ truth_of text.now }
 {
-    if text.is_word("true") {
-        Some(true)
-    } else if text.is_word("yes") {
-        Some(true)
-    } else if text.is_word("false") {
-        Some(false)
-    } else if text.is_word("no") {
-        Some(false)
-    } else {
-        None
-    }
+    named(text, &TRUTHS)
 }
 
+/// The users that a case may ask for.
+const USERS: [(&str, User); 3] = [
+    ("", User::Any),
+    ("root", User::Root),
+    ("unprivileged", User::Unprivileged),
+];
+
 /// The user that a case asks for.
+#[tactic(auto, unfolding(crate::proofs::Common::chars))]
 pub fn user(text: &Text) -> Option<User>
     ensures { result ≡ user_of text.now }
 {
-    if text.is_empty() {
-        Some(User::Any)
-    } else if text.is_word("root") {
-        Some(User::Root)
-    } else if text.is_word("unprivileged") {
-        Some(User::Unprivileged)
-    } else {
-        None
-    }
+    named(text, &USERS)
 }
 
 /// The longest timeout, in seconds.

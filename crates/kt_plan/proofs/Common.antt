@@ -3,7 +3,7 @@ pub use Rattle.std.proofs.lemmas.Grind.{common_steps}
 pub use Rattle.std.proofs.lemmas.Result.{err_from_is_err_and}
 unfoldable pub use Rattle.std.specs.Str.{chars}
 pub use Rattle.kt_base.proofs.Chains.{chain-append}
-pub use Rattle.kt_base.proofs.Showing.{shows_as, utf8-append}
+pub use Rattle.kt_base.proofs.Showing.{shows_as, utf8-append, utf8_five}
 pub use Rattle.kt_base.specs.Chains.{Chain}
 pub use Rattle.kt_base.specs.Texts.{is_empty}
 pub use Rattle.kt_base.specs.Utf8.{utf8}
@@ -19,7 +19,7 @@ pub use Rattle.kt_metadata.specs.declared.meta.Meta.{Meta}
 pub use Rattle.kt_sched.specs.Children.{Child, IsIdle}
 pub use Rattle.kt_sched.specs.Plan.{IsFit, IsPlan}
 pub use Rattle.kt_sched.specs.declared.job.Job.{Job}
-pub use Rattle.kt_suite.proofs.FaultWords.{utf8-script, utf8_five}
+pub use Rattle.kt_suite.proofs.FaultWords.{utf8-script}
 pub use Rattle.kt_suite.specs.Answers.{Answered, Asked}
 pub use Rattle.kt_suite.specs.Matching.{MayMatch}
 pub use Rattle.kt_suite.specs.Paths.{name_in}

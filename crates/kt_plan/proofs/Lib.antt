@@ -10,7 +10,6 @@ pub mod Picking
 pub mod PlanLaws
 pub mod PlansFit
 pub mod QuestionChains
-pub mod Rests
 pub mod SelectLaws
 pub mod Settling
 pub mod StopWords

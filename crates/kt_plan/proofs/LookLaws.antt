@@ -3,20 +3,8 @@ use Rattle.std.proofs.Common.{Bool, true, false, Option, Some, None, is_some, �
 use Rattle.kt_plan.proofs.Common.{Chain, Answered, all_needs, is_found, is_same_need, IsNoted, Host, Meta, Need, Candidate, Notes, finds, meta_in, needs_among, needs_by, needs_of, LooksFor, nothing, asked, Surveys, SurveysFirst, AreFirst, Told, Finds, IsRoot, HasMemory, HasDisk, chain-append}
 use Rattle.std.specs.List.{list_any}
 use Rattle.std.proofs.lemmas.List.Folds.{list_any-append}
-use Rattle.std.proofs.Math.Bool.{or-false}
+use Rattle.std.proofs.Math.Bool.{or-false, and-true, and-false, or_assoc}
 use Rattle.kt_base.specs.declared.verdict.Reason.{Reason}
-
-and_true : (b : Bool) → (b && true) ≡ b
-and_true true = refl
-and_true false = refl
-
-and_false : (b : Bool) → (b && false) ≡ false
-and_false true = refl
-and_false false = refl
-
-or_assoc : (a b d : Bool) → ((a || b) || d) ≡ (a || (b || d))
-or_assoc true b d = refl
-or_assoc false b d = refl
 
 -- nothing was asked
 notes_nothing : (host : Host) → Notes [] host host
@@ -37,7 +25,7 @@ notes_more told more a b d h k = record {
 -- what isn't there is not noted
 notes_missing : (need : Need) (name : List ℕ) (host : Host) → Notes (Finds need name false ∷ []) host host
 notes_missing need name host = record {
-  found = λ other word. sym (or-false (is_found other host word)) ∙ ap (λ (x : Bool). is_found other host word || x) (sym (or-false (is_same_need need name other word && false) ∙ and_false (is_same_need need name other word)));
+  found = λ other word. sym (or-false (is_found other host word)) ∙ ap (λ (x : Bool). is_found other host word || x) (sym (or-false (is_same_need need name other word && false) ∙ and-false (is_same_need need name other word)));
   root = refl;
   memory = refl;
   disk = refl;
@@ -46,7 +34,7 @@ notes_missing need name host = record {
 -- what is there is noted
 notes_there : (need : Need) (name : List ℕ) (old new : Host) → IsNoted need name old new → Notes (Finds need name true ∷ []) old new
 notes_there need name old new k = record {
-  found = λ other word. k.found other word ∙ ap (λ (x : Bool). is_found other old word || x) (sym (or-false (is_same_need need name other word && true) ∙ and_true (is_same_need need name other word)));
+  found = λ other word. k.found other word ∙ ap (λ (x : Bool). is_found other old word || x) (sym (or-false (is_same_need need name other word && true) ∙ and-true (is_same_need need name other word)));
   root = k.root;
   memory = k.memory;
   disk = k.disk;

@@ -6,7 +6,7 @@ use Rattle.kt_atflist.specs.Cases.{AreCases}
 use Rattle.kt_atflist.specs.declared.listing.CaseDef.{CaseDef}
 use Rattle.kt_atflist.specs.declared.listing.Listing.{Listing}
 use Rattle.kt_plan.specs.Collecting.{none}
-use Rattle.kt_plan.proofs.Rests.{none_left}
+use Rattle.std.proofs.lemmas.List.{nil_from_length}
 
 -- memory ran out after it was asked for its list
 pub list_asked : {W : Type 0} (tells : W → Told → W → Type 0) (config : Values) (program : Program) (variables : List Variable) (old new : W) (answer : Listing) → variables ≡ variables_for config program.suite
@@ -113,5 +113,5 @@ module _ {W : Type 0} (tells : W → Told → W → Type 0) (config : Values) (f
       asked = o.told;
       chain = o.chain;
       holds = subst (λ (ts : List Told). Offers config filters programs ts found) (append-nil o.told)
-          (subst (λ (cs : List Candidate). Offers config filters programs (o.told ++ []) cs) (append-nil found) (o.goes [] [] (subst (λ (ps : List Program). Offers config filters ps [] []) (sym (none_left rest e)) none)));
+          (subst (λ (cs : List Candidate). Offers config filters programs (o.told ++ []) cs) (append-nil found) (o.goes [] [] (subst (λ (ps : List Program). Offers config filters ps [] []) (sym (nil_from_length rest e)) none)));
     }

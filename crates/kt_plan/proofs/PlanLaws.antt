@@ -1,15 +1,13 @@
 -- The plan of some cases can be run.
 use Rattle.std.proofs.Common.{Some, slice_get, ◌≡◌, ℕ, zero, suc, ◌+◌, ◌≤◌, List, [], ◌∷◌, ◌++◌, length, arith, refl, ap, ◌∙◌, sym, subst, add-zero, add-one, append_assoc, append-nil}
 use Rattle.kt_plan.proofs.Common.{Values, Host, Job, Candidate, ArePlanned, no_job, planned, IsJobOf}
-use Rattle.kt_plan.proofs.Rests.{none_left}
-
-some_is : {X : Type 0} (x y : X) → Some x ≡ Some y → x ≡ y
-some_is x y e = cc
+use Rattle.std.proofs.lemmas.Option.{same_Some}
+use Rattle.std.proofs.lemmas.List.{nil_from_length}
 
 module _ (config : Values) (host : Host) where
   pub placed_from : (k : ℕ) (cases : List Candidate) (plan : List Job) → ArePlanned config host k cases plan → (i : ℕ) (job : Job) → slice_get plan i ≡ Some job → job.position ≡ k + i
   placed_from k _ _ (no_job _) i job e = absurd (cc)
-  placed_from k _ _ (planned _ candidate cases first plan is rest) zero job e = ap (λ (j : Job). j.position) (sym (some_is first job e)) ∙ is.at ∙ sym (add-zero k)
+  placed_from k _ _ (planned _ candidate cases first plan is rest) zero job e = ap (λ (j : Job). j.position) (sym (same_Some first job e)) ∙ is.at ∙ sym (add-zero k)
   placed_from k _ _ (planned _ candidate cases first plan is rest) (suc i) job e = placed_from (suc k) cases plan rest i job e ∙ omega arith
 
   pub length_from : (k : ℕ) (cases : List Candidate) (plan : List Job) → ArePlanned config host k cases plan → length plan ≡ length cases
@@ -35,4 +33,4 @@ module _ (config : Values) (host : Host) where
 
     pub jobs_all : (position : ℕ) (rest : List Candidate) (plan : List Job) → length rest ≡ 0 → Jobs cases position rest plan → ArePlanned config host 0 cases plan
     jobs_all position rest plan e j =
-        subst (λ (jobs : List Job). ArePlanned config host 0 cases jobs) (append-nil plan) (j.goes [] (subst (λ (cs : List Candidate). ArePlanned config host position cs []) (sym (none_left rest e)) (no_job position)))
+        subst (λ (jobs : List Job). ArePlanned config host 0 cases jobs) (append-nil plan) (j.goes [] (subst (λ (cs : List Candidate). ArePlanned config host position cs []) (sym (nil_from_length rest e)) (no_job position)))

@@ -5,9 +5,7 @@ use Rattle.kt_base.specs.declared.child.Interface.{Interface}
 use Rattle.kt_metadata.specs.Effective.{texts_of}
 use Rattle.kt_metadata.proofs.Timeouts.{IsTimeout, timeout-within}
 use Rattle.kt_plan.proofs.PlanLaws.{placed_from}
-
-some_is : {X : Type 0} (x y : X) → Some x ≡ Some y → x ≡ y
-some_is x y e = cc
+use Rattle.std.proofs.lemmas.Option.{same_Some}
 
 -- only an ATF program has cleanups
 atf_alone : (interface : Interface) (declared : Bool) → (is_atf interface && declared) ≡ true → interface ≡ Atf
@@ -27,7 +25,7 @@ module _ (config : Values) (host : Host) where
 
   jobs_fit : (position : ℕ) (cases : List Candidate) (plan : List Job) → ArePlanned config host position cases plan → (i : ℕ) (job : Job) → slice_get plan i ≡ Some job → IsFit job
   jobs_fit position _ _ (no_job _) i job e = absurd (cc)
-  jobs_fit position _ _ (planned _ candidate cases first plan is rest) zero job e = subst IsFit (some_is first job e) (job_fits position candidate first is)
+  jobs_fit position _ _ (planned _ candidate cases first plan is rest) zero job e = subst IsFit (same_Some first job e) (job_fits position candidate first is)
   jobs_fit position _ _ (planned _ candidate cases first plan is rest) (suc i) job e = jobs_fit (suc position) cases plan rest i job e
 
   pub plan_fits : (cases : List Candidate) (plan : List Job) → ArePlanned config host 0 cases plan → IsPlan plan

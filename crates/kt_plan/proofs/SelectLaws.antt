@@ -1,13 +1,8 @@
 -- What a command selects, step by step.
-use Rattle.std.proofs.Common.{Ok, Err, Bool, ℕ, List, ◌++◌, inl, inr, Result, IsErrAnd, ◌≡◌, sym, subst}
+use Rattle.std.proofs.Common.{Ok, Err, Bool, ℕ, List, ◌++◌, inl, inr}
 use Rattle.kt_plan.proofs.Common.{Chain, Asked, Answered, CaseOptions, Chosen, Settings, Stop, CollectsOrShort, Collected, Collects, SettlesOrShort, Settles, leads_by, of_tree, of_host, Told, chain-append}
 use Rattle.kt_plan.specs.Selecting.{SelectsOrShort, collecting, selected, settling, uncollected, unsettled}
 use Rattle.kt_plan.proofs.QuestionChains.{chain_of_host, chain_of_tree}
-
--- the exit of a `?`: the fault is the one that was met
-pub error_is : {T E : Type 0} (P : Result T E → Type 0) (r : Result T E) (fault : E) → IsErrAnd r (λ x. x ≡ fault) → P (Err fault) → P r
-error_is P (Ok done) fault is p = absurd is
-error_is {T} {E} P (Err other) fault is p = subst (λ (f : E). P (Err f)) (sym is) p
 
 module _ {W : Type 0} (asks : W → Asked → W → Type 0) (tells : W → Told → W → Type 0) where
   -- the settings were refused

@@ -4,9 +4,9 @@ ghost use Rattle.kt_base.specs.Utf8.{utf8};
 ghost use Rattle.kt_plan.specs.StopWords.{quoted_words, stop_words};
 ghost use Rattle.kt_plan.specs.declared.stop.Stop.TheVariants as stop;
 
-use kt_base::{NoMemory, OutputFault, Text, emit, emit_all};
+use kt_base::{NoMemory, OUT_OF_MEMORY, OutputFault, Text, emit, emit_all};
 use kt_config::ConfigFault;
-use kt_suite::{FilterFault, SuiteFault};
+use kt_suite::{FilterFault, SelectFault, SuiteFault};
 use std::io::Write;
 
 /// Why a command over test cases ended before it did anything: the first fault of its steps.
@@ -35,14 +35,14 @@ impl Stop {
             (utf8 (stop_words self.now)) }
     {
         match self {
-            Stop::NoMemory(_) => emit(b"out of memory", out),
+            Stop::NoMemory(_) => emit(OUT_OF_MEMORY.as_bytes(), out),
             Stop::UnreadConfiguration => emit(b"configuration: could not be read", out),
             Stop::Configuration(fault) => print_configuration(*fault, out),
             Stop::Variable(name, fault) => print_variable(name, *fault, out),
             Stop::Filter(word, fault) => print_filter(word, *fault, out),
             Stop::NeedsCase => emit(b"debug needs PROGRAM:CASE", out),
             Stop::Tree(fault) => fault.print(out),
-            Stop::TooManyCases => emit(b"too many cases", out),
+            Stop::TooManyCases => emit(SelectFault::TooMany.words().as_bytes(), out),
         }
     }
 }

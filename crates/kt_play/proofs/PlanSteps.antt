@@ -1,7 +1,8 @@
 -- A plan with one job more.
 use Rattle.std.proofs.Common.{slice_get, Some, refl, ◌≡◌, ℕ, zero, suc, ◌+◌, ◌⊎◌, List, [], ◌∷◌, ◌++◌, length, inl, inr, sym, ◌∙◌, ap, subst, arith}
 use Rattle.kt_play.proofs.Common.{Job, IsPlan, IsFit}
-use Rattle.kt_sched.proofs.Lists.{in_append, some_is}
+use Rattle.kt_sched.proofs.Lists.{in_append}
+use Rattle.std.proofs.lemmas.Option.{same_Some}
 
 -- a plan with one job more is a plan
 pub plan_more : (jobs : List Job) (job : Job) → IsPlan jobs → job.position ≡ length jobs → IsFit job → IsPlan (jobs ++ job ∷ [])
@@ -11,7 +12,7 @@ plan_more jobs job h p f = record {
 }
   where
     last : (m : ℕ) (j : Job) → slice_get (job ∷ []) m ≡ Some j → (m ≡ 0) × (job ≡ j)
-    last zero j g = (refl, some_is job j g)
+    last zero j g = (refl, same_Some job j g)
     last (suc m) j g = absurd (cc)
 
     placed : (i : ℕ) (j : Job) → (slice_get jobs i ≡ Some j) ⊎ ((m : ℕ) × (i ≡ length jobs + m) × (slice_get (job ∷ []) m ≡ Some j)) → j.position ≡ i

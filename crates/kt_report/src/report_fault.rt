@@ -2,27 +2,16 @@ ghost use Rattle.std.specs.Prelude.{◌≡◌};
 ghost use Rattle.kt_report.specs.declared.report_fault.ReportFault.TheVariants as fault;
 
 use kt_base::{NoMemory, OutputFault};
-use std::error::Error;
-use std::fmt;
+use thiserror::Error;
 
 /// Why a report ends early. A proper prefix of its text was written. A report can't give up on its
 /// own: each fault holds what it was made from, a refusal of memory or a failed write.
-#[derive(Clone, Copy, Debug)]
+#[derive(Clone, Copy, Debug, Error)]
+#[error(transparent)]
 pub enum ReportFault {
     NoMemory(NoMemory),
     Output(OutputFault),
 }
-
-impl fmt::Display for ReportFault {
-    fn fmt<W: fmt::Write>(&self, f: &mut fmt::Formatter<W>) -> fmt::Result {
-        f.write_str(match self {
-            ReportFault::NoMemory(_) => "out of memory",
-            ReportFault::Output(_) => "output could not be written",
-        })
-    }
-}
-
-impl Error for ReportFault {}
 
 impl From<NoMemory> for ReportFault {
     ghost from_gives = { λ refusal e. e ≡ fault.NoMemory refusal };

@@ -1,9 +1,10 @@
 -- the first state, and what is taken
 use Rattle.kt_sched.proofs.Common.{length, length-filter, slice_get, filter, Option, Some, None, is_some, map, ◌≡◌, ℕ, ◌<◌, Bool, true, false, cond, List, [], refl, sym, ◌∙◌, ap, arith, length-map, option_map, slice_get-map, Job, Case, NoEvent, turns, is_open, recorded, IsPlan, nothing_fed, first_case, first_stage, SchedState, Stands, IsStage, is_active_stage, is_owing_stage, is_fresh, positions, is_undecided, Judged, ◌≢◌, ◌≤◌, subst, slice_set, inl, inr, length-set, Entry, Stage, Decided, Finished, Taken, Event, of, IsEntry, decided, IsEntryOf, CaseRecord, Fed, TookEntry, IsAsked, is_over, is_owed, entry_with, record_in, decided_record, decided_record_of, stage_work, work}
 use Rattle.kt_sched.specs.declared.next.Next.TheVariants as next
-use Rattle.kt_sched.proofs.Lists.{filter_none, drop_zero, mapped_at, take_zero, some_is, count_by-set, sum_by-set}
+use Rattle.kt_sched.proofs.Lists.{filter_none, drop_zero, mapped_at, take_zero, count_by-set, sum_by-set}
 use Rattle.kt_sched.proofs.Turns.{put_at_positions}
 use Rattle.kt_sched.proofs.Located.{Which, asked_as, each_set, located, which}
+use Rattle.std.proofs.lemmas.Option.{same_Some}
 
 -- the state before the first answer
 abbrev pub first_state : ℕ → List Case → List ℕ → SchedState
@@ -71,8 +72,8 @@ told_entry i job Decided es t s e = rw s.0 (by job.decided refl e)
   where
     by : (o : Option Judged) → job.decided ≡ o → decided_record_of o ≡ Some t → IsEntry job [] (entry_with job t)
     by None d f = absurd (cc)
-    by (Some v) d f = subst (λ (x : CaseRecord). IsEntry job [] (entry_with job x)) (some_is (decided_record v) t f) (decided v d)
-told_entry i job (Finished x) es t s e = subst (λ (y : CaseRecord). IsEntry job es (entry_with job y)) (some_is x t e) s.1
+    by (Some v) d f = subst (λ (x : CaseRecord). IsEntry job [] (entry_with job x)) (same_Some (decided_record v) t f) (decided v d)
+told_entry i job (Finished x) es t s e = subst (λ (y : CaseRecord). IsEntry job es (entry_with job y)) (same_Some x t e) s.1
 told_entry i job was es t s e = absurd (cc)
 
 -- and such a case is over

@@ -1,12 +1,13 @@
 -- what is chosen is the first that holds, what follows of it, and nothing else is next
 use Rattle.kt_sched.proofs.Common.{slice_get, Option, Some, None, drop, filter, is_some, nat_lt, ◌==◌, MatchOption, ◌⊎◌, if◌then◌else◌, ◌≡◌, ℕ, ◌+◌, ◌<◌, Bool, true, false, List, [], ◌∷◌, ◌++◌, length, refl, sym, ◌∙◌, ap, subst, arith, inl, inr, drop_of_length-le, false_from_ne_true, ⊤, nat_tests, slice_get_within, Body, Cleanup, Job, Next, Case, Trace, active, turns, next_to_start, IsBusy, recorded, Fed, has_failed, IsNext, IsChosen, IsHeld, MayBegin, SchedState, Stands, IsSettled, IsOrdinary, listed, positions, opened, is_open, is_decided, is_undecided, is_none, IsPlan, body_starts, map, ◌≢◌, ◌≤◌, Role, Stage, Waiting, Owing, Taken, BodyStarted, end_mark, mark_of, of, history, is_whole, has_whole_history, Follows, WereOpen, IsStage, IsAsked, IsUntaken}
 use Rattle.kt_sched.specs.declared.next.Next.TheVariants as next
-use Rattle.kt_sched.proofs.Lists.{filter_none, get_drop, some_is, slice_get-drop, within_some, filter_in, list_all_from}
+use Rattle.kt_sched.proofs.Lists.{filter_none, get_drop, slice_get-drop, within_some, filter_in, list_all_from}
 use Rattle.kt_sched.proofs.Decided.{first_open, room_in}
 use Rattle.kt_sched.proofs.Turns.{turn_sorted, turn_inside}
 use Rattle.kt_sched.proofs.Located.{exclusive_is, has_turn, turn_past, at_turn, active_is, something_runs, nothing_runs, inactive, located, owes, runs_stage, says_at}
 use Rattle.kt_sched.proofs.Upcoming.{next_is, next_at, next_later, upcoming, alone_body, alone_cleanup, covers}
 use Rattle.kt_sched.proofs.Stages.{over_stage}
+use Rattle.std.proofs.lemmas.Option.{same_Some}
 
 abbrev pub Held : List Job → Trace → Option Job → Type 0
 Held plan T o = MatchOption o ⊤ (λ job. (job.exclusive ≡ true) × (0 < active plan T))
@@ -54,10 +55,10 @@ module _ {plan : List Job} {n : ℕ} {fed : Fed} {b : SchedState} (h : Stands pl
       closed : (job : Job) → slice_get (turns plan) b.turn ≡ Some job → is_decided job ≡ true → room_in (active plan fed.trace) n job ≡ true → ⊥
       closed job g d m =
           let t = has_turn h job.position (at_turn h b.turn job g) in
-          let same = some_is t.job job (sym t.turn ∙ g) in
+          let same = same_Some t.job job (sym t.turn ∙ g) in
           let room = has_room job t.case t.found (t.kept ∙ same) job.exclusive refl m in
           let u = upcoming h job.position r s (h.puts.failed ∙ f, at_turn h b.turn job g, room.0, room.1) in
-          absurd (cc (ap is_some (ap (λ (j : Job). j.decided) (some_is job u.0.job (sym g ∙ u.0.turn)) ∙ u.3), d))
+          absurd (cc (ap is_some (ap (λ (j : Job). j.decided) (same_Some job u.0.job (sym g ∙ u.0.turn)) ∙ u.3), d))
 
   -- what is put next
   put_at : (rest : List ℕ) → has_failed fed ≡ false → listed b.ready ++ positions (opened plan n fed.trace b.turn) ≡ rest
@@ -170,17 +171,17 @@ busy_not plan n T i p m (inr h) =
     absurd (omega (arith, w.1, q.0))
 
 pub only_next : (plan : List Job) (n : ℕ) (fed : Fed) (a b : Next) → IsPlan plan → IsNext plan n fed a → IsNext plan n fed b → a ≡ b
-only_next plan n fed (next.Put i) (next.Put j) p x y = ap next.Put (some_is i j (sym x.1 ∙ y.1))
+only_next plan n fed (next.Put i) (next.Put j) p x y = ap next.Put (same_Some i j (sym x.1 ∙ y.1))
 only_next plan n fed (next.Put i) (next.Start j Body) p x y = absurd (cc (x.1, y.1))
 only_next plan n fed (next.Put i) b p x y = absurd (cc (x.1, y.0 x.0))
 only_next plan n fed (next.Start i Body) (next.Put j) p x y = absurd (cc (x.1, y.1))
 only_next plan n fed a (next.Put j) p x y = absurd (cc (y.1, x.0 y.0))
 only_next plan n fed (next.Start i Body) (next.Start j Body) p x y =
-    let same = some_is x.3.job y.3.job (sym x.3.next ∙ y.3.next) in
+    let same = same_Some x.3.job y.3.job (sym x.3.next ∙ y.3.next) in
     ap (λ (k : ℕ). next.Start k Body) (sym x.3.place ∙ (ap (λ (job : Job). job.position) same ∙ y.3.place))
 only_next plan n fed (next.Start i Body) (next.Start j Cleanup) p x y = absurd (cc (x.2, y.1))
 only_next plan n fed (next.Start i Cleanup) (next.Start j Body) p x y = absurd (cc (x.1, y.2))
-only_next plan n fed (next.Start i Cleanup) (next.Start j Cleanup) p x y = ap (λ (k : ℕ). next.Start k Cleanup) (some_is i j (sym x.1 ∙ y.1))
+only_next plan n fed (next.Start i Cleanup) (next.Start j Cleanup) p x y = ap (λ (k : ℕ). next.Start k Cleanup) (same_Some i j (sym x.1 ∙ y.1))
 only_next plan n fed (next.Start i Body) b p x y = absurd (busy_not plan n fed.trace i p x.3 (y.2 x.0))
 only_next plan n fed a (next.Start j Body) p x y = absurd (busy_not plan n fed.trace j p y.3 (x.2 y.0))
 only_next plan n fed next.Wait next.Wait p x y = refl

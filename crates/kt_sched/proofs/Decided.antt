@@ -1,12 +1,14 @@
 -- decided cases: which of them are open from a turn on, and which an event opens
 use Rattle.kt_sched.proofs.Common.{slice_get, filter, take, drop, Some, not, nat_lt, ◌==◌, ◌&&◌, ◌||◌, if◌then◌else◌, ◌≡◌, ◌≢◌, ℕ, zero, suc, ◌+◌, ◌-◌, ◌<◌, ◌≤◌, ◌⊎◌, Bool, true, false, List, [], ◌∷◌, refl, sym, ◌∙◌, ap, arith, inl, inr, and-false, and-true, or-false, and_from, and_parts, cases_Bool, or_left, or_right, list_all, list_any, nat_tests, take-append-drop, filter-append, cases_eq, cases_lt, Job, Event, Trace, Then, active, turns, body_starts, is_open, was_open, is_begun, ahead, IsPlan, HasStarted, AreGone, opened, positions, is_decided, is_undecided}
-use Rattle.kt_sched.proofs.Lists.{pick, any_none, filter_alike, filter_in, filter_none, get_drop, get_take, list_all_at, list_all_from, mapped_at, none_passes, other_is_not, same_is, some_is, take_within}
+use Rattle.kt_sched.proofs.Lists.{pick, any_none, filter_alike, filter_in, filter_none, get_drop, get_take, list_all_at, list_all_from, mapped_at, none_passes, other_is_not, take_within}
 use Rattle.kt_sched.proofs.Turns.{opens_now, turn_distinct, turn_sorted}
+use Rattle.std.proofs.lemmas.Option.{same_Some}
+use Rattle.kt_base.proofs.Lists.{same_number}
 
 ahead_is : (xs : List Job) (k : ℕ) (job : Job) → ((j : ℕ) (x : Job) → j < k → slice_get xs j ≡ Some x → x.position ≢ job.position) → slice_get xs k ≡ Some job
     → ahead job.position xs ≡ take k xs
 ahead_is [] k job d g = absurd (cc)
-ahead_is (y ∷ ys) zero job d g = let e : y ≡ job = cc in rw (e, same_is job.position) refl
+ahead_is (y ∷ ys) zero job d g = let e : y ≡ job = cc in rw (e, same_number job.position) refl
 ahead_is (y ∷ ys) (suc k) job d g =
     rw (other_is_not y.position job.position (d 0 y (omega arith) refl)) (ap (λ zs. y ∷ zs) (ahead_is ys k job (λ j x l q. d (suc j) x (omega (arith, l)) q) g))
 
@@ -39,7 +41,7 @@ module _ {plan : List Job} (T : Trace) (p : ℕ) (h : IsPlan plan) (s : HasStart
     | inl d ↦ or_left _ _ d
     | inr d ↦
         let q = λ (i : ℕ). i == job.position in
-        let any = any_filtered q is_undecided (take p (turns plan)) j job (get_take (turns plan) p j l ∙ g) (ap not d) (same_is job.position) in
+        let any = any_filtered q is_undecided (take p (turns plan)) j job (get_take (turns plan) p j l ∙ g) (ap not d) (same_number job.position) in
         or_right (is_decided job) (list_any q (body_starts T)) (ap (list_any q) s ∙ any)
   ]
 
@@ -84,7 +86,7 @@ module _ {plan : List Job} (T : Trace) (p : ℕ) (h : IsPlan plan) (s : HasStart
       )
     where
       decided : (p ≡ k) ⊎ (p ≢ k) → is_decided x ≡ true → list_all (is_begun T) (take k (turns plan)) ≡ true → is_decided job ≡ true
-      decided (inl q) d a = ap is_decided (some_is job x (sym g ∙ (ap (slice_get (turns plan)) q ∙ y))) ∙ d
+      decided (inl q) d a = ap is_decided (same_Some job x (sym g ∙ (ap (slice_get (turns plan)) q ∙ y))) ∙ d
       decided (inr q) d a =
           sym (begun_at job g) ∙ list_all_at (is_begun T) (take k (turns plan)) p job (get_take (turns plan) k p (omega (arith, l, q)) ∙ g) a
 

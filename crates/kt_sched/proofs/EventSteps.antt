@@ -1,12 +1,14 @@
 -- a state after one event more stands for one event more
 use Rattle.kt_sched.proofs.Common.{Taken, filter, slice_get, count_by, Option, Some, None, if◌then◌else◌, ◌≡◌, ◌≢◌, ℕ, ◌+◌, ◌<◌, ◌≤◌, ◌⊎◌, Bool, true, false, cond, List, [], ◌∷◌, ◌++◌, length, drop, take, is_none, is_some, refl, sym, ◌∙◌, ap, subst, arith, slice_set, inl, inr, length-append, append-nil, drop-append-le, length-set, map-append, slice_get_within, cases_lt, cases_eq, Job, Stage, Finished, Case, Event, Then, position_of, of, turns, body_starts, body_start_of, recorded, Fed, has_failed, SchedState, Stands, CasesStand, TurnStands, PutsStand, IsStage, IsAfter, Replaced, IsSettled, HasTurn, is_active_stage, is_owing_stage, is_over, Owing, is_owed, is_fresh, is_undecided, HasRecord, owing_at, ready_at, record_in, listed, positions, opened, stage_work, work, after_event, unless, with_event, Trace, HasStarted}
-use Rattle.kt_sched.proofs.Lists.{cond_le, cond_one, cond_zero, some_is, pick, count_by-set, counted_one, sum_by-set, take_filter, same_is, other_is_not}
+use Rattle.kt_sched.proofs.Lists.{cond_le, cond_one, cond_zero, pick, count_by-set, counted_one, sum_by-set, take_filter, other_is_not}
 use Rattle.kt_sched.proofs.Turns.{of_same, of_other, opens_now, recorded_more, finished_is}
 use Rattle.kt_sched.proofs.Stages.{fresh_inactive, says, undecided_stage, Moves, moves, owed_moves, stage_moves}
 use Rattle.kt_sched.proofs.Located.{Which, at_place, each_set, one_place, set_here, which, has_turn}
 use Rattle.kt_sched.proofs.Upcoming.{exclusive_needs_none, no_exclusive_active}
 use Rattle.kt_sched.proofs.Choice.{nothing_opened}
 use Rattle.kt_sched.proofs.Decided.{GoesOver, newly_open, gone_after}
+use Rattle.std.proofs.lemmas.Option.{same_Some}
+use Rattle.kt_base.proofs.Lists.{same_number}
 
 -- the turn after an event is past its case, and goes over no other
 pub record Turning (plan : List Job) (T : Trace) (b : SchedState) (i : ℕ) (e : Event) (t : ℕ) : Type 0 where
@@ -42,7 +44,7 @@ pub record After (plan : List Job) (n : ℕ) (fed : Fed) (b : SchedState) (e : E
   pub less : work later.cases < work b.cases
 
 owing_is : (stage : Stage) (i : ℕ) → is_owing_stage stage ≡ is_owed (owing_at stage i) i
-owing_is (Owing o) i = sym (same_is i)
+owing_is (Owing o) i = sym (same_number i)
 owing_is stage i = refl
 
 owing_by : (stage : Stage) (i : ℕ) → OwedBy i (owing_at stage i)
@@ -104,7 +106,7 @@ module _ {plan : List Job} {n : ℕ} {fed : Fed} {b : SchedState} {e : Event} {c
         ]
         | inl f ↦ let u = s.asked.turned f.1 in elim (one_of k c g) [
           | inl w ↦
-              let same = some_is job j (sym s.place ∙ (ap (slice_get plan) (sym w.0) ∙ x)) in
+              let same = same_Some job j (sym s.place ∙ (ap (slice_get plan) (sym w.0) ∙ x)) in
               let y = exclusive_needs_none h u.1 s.place u.3 (ap (λ (j : Job). j.exclusive) same ∙ q) in
               omega (arith, counted, some, begun_now f.0, y, cond_le (is_active_stage now))
           | inr w ↦ absurd (no_exclusive_active h u.1 s.place u.3 k j c x w.1 q z)
@@ -117,7 +119,7 @@ module _ {plan : List Job} {n : ℕ} {fed : Fed} {b : SchedState} {e : Event} {c
 
   owed_within : (k : ℕ) → owing_at now i ≡ Some k → (k ≡ i) ⊎ (k ≢ i) → k < length later
   owed_within k q (inl w) = omega (arith, w, length-set b.cases i new, slice_get_within b.cases i _ s.moved.found)
-  owed_within k q (inr d) = absurd (cc (owing_by now i k d, ap (λ (o : Option ℕ). is_owed o k) q, same_is k))
+  owed_within k q (inr d) = absurd (cc (owing_by now i k d, ap (λ (o : Option ℕ). is_owed o k) q, same_number k))
 
   cases_step : CasesStand plan n (Then fed.trace e) later a b.width (owing_at now i)
   cases_step = record {
@@ -153,12 +155,12 @@ module _ {plan : List Job} {n : ℕ} {fed : Fed} {b : SchedState} {e : Event} {c
             omega arith,
             λ k j l m y.
                 let same : k ≡ b.turn = omega (arith, l, m) in
-                ap (λ (z : Job). is_some z.decided) (some_is j job (sym y ∙ (ap (slice_get (turns plan)) same ∙ place))) ∙ ap is_some undecided,
+                ap (λ (z : Job). is_some z.decided) (same_Some j job (sym y ∙ (ap (slice_get (turns plan)) same ∙ place))) ∙ ap is_some undecided,
           );
           within = omega (arith, slice_get_within b.order b.turn i o);
           here = λ k y. let q = one_place h k b.turn i y o in omega (arith, q);
           before = λ k m y z l. elim (cases_eq k b.turn) [
-            | inl q ↦ absurd (z (some_is m i (sym y ∙ (ap (slice_get b.order) q ∙ o))))
+            | inl q ↦ absurd (z (same_Some m i (sym y ∙ (ap (slice_get b.order) q ∙ o))))
             | inr q ↦ omega (arith, l, q)
           ];
         })
@@ -207,7 +209,7 @@ module _ {plan : List Job} {n : ℕ} {fed : Fed} {b : SchedState} {e : Event} {c
     where
       by : (v : Bool) → is_over now ≡ v → (f : Bool) → (if v then unless f i else None) ≡ Some k → (k ≡ i) × (is_over now ≡ true)
       by true q true y = absurd (cc)
-      by true q false y = (some_is k i (sym y), q)
+      by true q false y = (same_Some k i (sym y), q)
       by false q f y = absurd (cc)
 
   told : (k : ℕ) → k ≡ i → (x : _) × (now ≡ Finished x) → HasRecord later k

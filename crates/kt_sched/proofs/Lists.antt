@@ -1,8 +1,6 @@
 -- lemmas on lists by index, on options and on truth values
 use Rattle.kt_sched.proofs.Common.{slice_get, count_by, sum_by, filter, Some, None, map, ◌==◌, if◌then◌else◌, ◌≡◌, ◌≢◌, ℕ, zero, suc, ◌+◌, ◌<◌, ◌≤◌, ◌⊎◌, Bool, true, false, cond, List, [], ◌∷◌, ◌++◌, length, take, drop, refl, sym, ◌∙◌, ap, arith, add-one, slice_set, inl, inr, and_parts, false_from_ne_true, slice_get_cases, sum_by-append, filter-append, length-filter, nat_tests, sum_by-cons, list_all, list_any}
-
-pub some_is : {X : Type 0} (x y : X) → Some x ≡ Some y → x ≡ y
-some_is x y e = cc
+use Rattle.std.proofs.lemmas.Option.{same_Some}
 
 pub cond_one : (b : Bool) → b ≡ true → cond {A = ℕ} b 1 0 ≡ 1
 cond_one b e = ap (λ (c : Bool). cond {A = ℕ} c 1 0) e
@@ -16,9 +14,6 @@ cond_le false = omega arith
 
 pub count-cons : {X : Type 0} (p : X → Bool) (x : X) (xs : List X) → count_by p (x ∷ xs) ≡ cond (p x) 1 0 + count_by p xs
 count-cons p x xs = sum_by-cons (λ y. cond (p y) 1 0) x xs
-
-pub same_is : (i : ℕ) → (i == i) ≡ true
-same_is i = grind (arith, nat_tests)
 
 pub other_is_not : (i j : ℕ) → i ≢ j → (i == j) ≡ false
 other_is_not i j h = grind (arith, nat_tests)
@@ -36,7 +31,7 @@ drop_zero (x ∷ xs) = refl
 -- what is left of a list from an element on
 pub drop_at : {X : Type 0} (xs : List X) (i : ℕ) (x : X) → slice_get xs i ≡ Some x → drop i xs ≡ x ∷ drop (i + 1) xs
 drop_at [] i x g = absurd (cc)
-drop_at (y ∷ ys) zero x g = ap (λ z. z ∷ ys) (some_is y x g)
+drop_at (y ∷ ys) zero x g = ap (λ z. z ∷ ys) (same_Some y x g)
 drop_at (y ∷ ys) (suc i) x g = rw add-one (let r = rw add-one at (drop_at ys i x g) in r)
 
 pub get_drop : {X : Type 0} (xs : List X) (p k : ℕ) → slice_get (drop p xs) k ≡ slice_get xs (p + k)
@@ -119,7 +114,7 @@ list_all_from p (x ∷ xs) h = rw (h 0 x refl) (list_all_from p xs (λ i y g. h 
 
 pub list_all_at : {X : Type 0} (p : X → Bool) (xs : List X) (i : ℕ) (x : X) → slice_get xs i ≡ Some x → list_all p xs ≡ true → p x ≡ true
 list_all_at p [] i x g h = absurd (cc)
-list_all_at p (y ∷ ys) zero x g h = ap p (sym (some_is y x g)) ∙ (and_parts (p y) (list_all p ys) h).0
+list_all_at p (y ∷ ys) zero x g h = ap p (sym (same_Some y x g)) ∙ (and_parts (p y) (list_all p ys) h).0
 list_all_at p (y ∷ ys) (suc i) x g h = list_all_at p ys i x g (and_parts (p y) (list_all p ys) h).1
 
 pub any_none : {X : Type 0} (q : X → Bool) (xs : List X) → ((k : ℕ) (x : X) → slice_get xs k ≡ Some x → q x ≡ false) → list_any q xs ≡ false
@@ -153,7 +148,7 @@ filter_in {X} p (x ∷ xs) k a g = here (p x) refl k g (λ m h. filter_in p xs m
     here : (b : Bool) → p x ≡ b → (m : ℕ) → slice_get (pick b x (filter p xs)) m ≡ Some a
         → ((l : ℕ) → slice_get (filter p xs) l ≡ Some a → (i : ℕ) × (slice_get xs i ≡ Some a) × (p a ≡ true))
         → (i : ℕ) × (slice_get (x ∷ xs) i ≡ Some a) × (p a ≡ true)
-    here true e zero h r = (0, h, ap p (sym (some_is x a h)) ∙ e)
+    here true e zero h r = (0, h, ap p (sym (same_Some x a h)) ∙ e)
     here true e (suc m) h r = let w = r m h in (suc w.0, w.1, w.2)
     here false e m h r = let w = r m h in (suc w.0, w.1, w.2)
 
@@ -189,7 +184,7 @@ counted_some p xs h =
 -- one that counts is counted
 pub counted_one : {X : Type 0} (p : X → Bool) (xs : List X) (i : ℕ) (x : X) → slice_get xs i ≡ Some x → p x ≡ true → 0 < count_by p xs
 counted_one p [] i x g e = absurd (cc)
-counted_one p (y ∷ ys) zero x g e = omega (arith, count-cons p y ys, cond_one (p y) (ap p (some_is y x g) ∙ e))
+counted_one p (y ∷ ys) zero x g e = omega (arith, count-cons p y ys, cond_one (p y) (ap p (same_Some y x g) ∙ e))
 counted_one p (y ∷ ys) (suc i) x g e = omega (arith, count-cons p y ys, counted_one p ys i x g e)
 
 pub counted_two : {X : Type 0} (p : X → Bool) (xs : List X) (i k : ℕ) (x y : X)
@@ -197,9 +192,9 @@ pub counted_two : {X : Type 0} (p : X → Bool) (xs : List X) (i k : ℕ) (x y :
 counted_two p [] i k x y g e f u d = absurd (cc)
 counted_two p (z ∷ zs) zero zero x y g e f u d = absurd (d refl)
 counted_two p (z ∷ zs) zero (suc k) x y g e f u d =
-    omega (arith, count-cons p z zs, cond_one (p z) (ap p (some_is z x g) ∙ e), counted_one p zs k y f u)
+    omega (arith, count-cons p z zs, cond_one (p z) (ap p (same_Some z x g) ∙ e), counted_one p zs k y f u)
 counted_two p (z ∷ zs) (suc i) zero x y g e f u d =
-    omega (arith, count-cons p z zs, cond_one (p z) (ap p (some_is z y f) ∙ u), counted_one p zs i x g e)
+    omega (arith, count-cons p z zs, cond_one (p z) (ap p (same_Some z y f) ∙ u), counted_one p zs i x g e)
 counted_two p (z ∷ zs) (suc i) (suc k) x y g e f u d = omega (arith, count-cons p z zs, counted_two p zs i k x y g e f u (λ q. d (ap suc q)))
 
 -- where no other counts, at most one is counted

@@ -1,9 +1,11 @@
 -- what a state says of a case
 use Rattle.kt_sched.proofs.Common.{Bool, is_fresh, is_decided_stage, HasExclusive, HasDecided, slice_get, Option, Some, None, map, ◌≡◌, ◌≢◌, ℕ, ◌<◌, ◌⊎◌, true, false, List, [], length, refl, sym, ◌∙◌, ap, subst, arith, slice_set, inl, inr, false_from_ne_true, cases_eq, cases_lt, length-map, ◌≤◌, slice_get-map, slice_get_within, Role, Body, Cleanup, Job, Next, Stage, Owing, Taken, EndedBody, Case, Event, Trace, of, mark_of, history, is_active, active, turns, owed, Fed, role_runs, runs, stage_runs, SchedState, Stands, CaseStands, IsStage, IsAsked, is_active_stage, is_owing_stage, is_owed, Replaced}
 use Rattle.kt_sched.specs.declared.next.Next.TheVariants as next
-use Rattle.kt_sched.proofs.Lists.{some_is, within_some, mapped_at, set_set, slice_get-set_other, slice_get-set_same, counted_some, counted_one, counted_none, count_alike, same_is}
+use Rattle.kt_sched.proofs.Lists.{within_some, mapped_at, set_set, slice_get-set_other, slice_get-set_same, counted_some, counted_one, counted_none, count_alike}
 use Rattle.kt_sched.proofs.Turns.{turn_inside, turn_distinct}
 use Rattle.kt_sched.proofs.Stages.{Says, says, active_runs, owing_stage, runs_active}
+use Rattle.std.proofs.lemmas.Option.{same_Some}
+use Rattle.kt_base.proofs.Lists.{same_number}
 
 -- the case that has its turn, which is not begun
 pub record AtTurn (plan : List Job) (fed : Fed) (b : SchedState) (i : ℕ) : Type 0 where
@@ -35,7 +37,7 @@ module _ (xs : List Case) (i : ℕ) (old new : Case) (g : slice_get xs i ≡ Som
 
   pub which : (k : ℕ) (c : Case) → slice_get (slice_set xs i new) k ≡ Some c → Which xs i new k c
   which k c e = elim (cases_eq k i) [
-    | inl q ↦ inl (q, some_is c new (sym e ∙ (ap (slice_get (slice_set xs i new)) q ∙ set_here)))
+    | inl q ↦ inl (q, same_Some c new (sym e ∙ (ap (slice_get (slice_set xs i new)) q ∙ set_here)))
     | inr q ↦ inr (q, sym (slice_get-set_other xs i k new q) ∙ e)
   ]
 
@@ -46,7 +48,7 @@ module _ (xs : List Case) (i : ℕ) (old new : Case) (g : slice_get xs i ≡ Som
       → (k : ℕ) (j : Job) → slice_get plan k ≡ Some j → CaseStands U k j (slice_set xs i new)
   each_set plan T U job p s m o h k j x = elim (cases_eq k i) [
     | inl q ↦
-        let same : job ≡ j = some_is job j (sym p ∙ (ap (slice_get plan) (sym q) ∙ x)) in
+        let same : job ≡ j = same_Some job j (sym p ∙ (ap (slice_get plan) (sym q) ∙ x)) in
         let here : CaseStands U i job (slice_set xs i new) = record { case = new; found = set_here; stage = s; kept = m } in
         subst (λ k. CaseStands U k j (slice_set xs i new)) (sym q) (subst (λ (y : Job). CaseStands U i y (slice_set xs i new)) same here)
     | inr d ↦
@@ -60,17 +62,17 @@ pub replaced_twice : (xs ys zs : List Case) (i : ℕ) (s t u w : Stage) → Repl
 replaced_twice xs ys zs i s t u w f g =
     let a : Case = record { job = f.job; stage = s } in
     let mid : slice_get ys i ≡ Some a = ap (λ (cs : List Case). slice_get cs i) f.changed ∙ slice_get-set_same xs i a (slice_get_within xs i _ f.found) in
-    let e : g.job ≡ f.job = ap (λ (c : Case). c.job) (some_is (record { job = g.job; stage = u }) a (sym g.found ∙ mid)) in
+    let e : g.job ≡ f.job = ap (λ (c : Case). c.job) (same_Some (record { job = g.job; stage = u }) a (sym g.found ∙ mid)) in
     record { job = f.job; found = f.found; changed = g.changed ∙ rw (e, f.changed) (set_set xs i a (record { job = f.job; stage = t })) }
 
 -- what is known of its case
 module _ {plan : List Job} {fed : Fed} {b : SchedState} {i : ℕ} {flag : Bool} (a : AtTurn plan fed b i) where
   pub exclusive_is : HasExclusive b.cases i flag → a.job.exclusive ≡ flag
   exclusive_is x =
-      ap (λ (j : Job). j.exclusive) (sym a.kept) ∙ (ap (λ (c : Case). c.job.exclusive) (some_is a.case x.0 (sym a.found ∙ x.1)) ∙ x.2)
+      ap (λ (j : Job). j.exclusive) (sym a.kept) ∙ (ap (λ (c : Case). c.job.exclusive) (same_Some a.case x.0 (sym a.found ∙ x.1)) ∙ x.2)
 
   pub decided_is : HasDecided b.cases i flag → is_decided_stage a.case.stage ≡ flag
-  decided_is x = ap (λ (c : Case). is_decided_stage c.stage) (some_is a.case x.0 (sym a.found ∙ x.1)) ∙ x.2
+  decided_is x = ap (λ (c : Case). is_decided_stage c.stage) (same_Some a.case x.0 (sym a.found ∙ x.1)) ∙ x.2
 
 module _ {plan : List Job} {n : ℕ} {fed : Fed} {b : SchedState} (h : Stands plan n fed b) where
   -- the case at a job's place
@@ -78,7 +80,7 @@ module _ {plan : List Job} {n : ℕ} {fed : Fed} {b : SchedState} (h : Stands pl
       → IsStage i job was (of i fed.trace) × (was ≢ Taken → had ≡ job)
   at_place i job had was j g =
       let w = h.cases.each i job j in
-      let e : w.case ≡ record { job = had; stage = was } = some_is _ _ (sym w.found ∙ g) in (
+      let e : w.case ≡ record { job = had; stage = was } = same_Some _ _ (sym w.found ∙ g) in (
         subst (λ (c : Case). IsStage i job c.stage (of i fed.trace)) e w.stage,
         λ t. ap (λ (c : Case). c.job) (sym e) ∙ w.kept (λ q. t (ap (λ (c : Case). c.stage) (sym e) ∙ q)),
       )
@@ -99,7 +101,7 @@ module _ {plan : List Job} {n : ℕ} {fed : Fed} {b : SchedState} (h : Stands pl
   active_is = count_alike (is_active fed.trace) (λ (c : Case). is_active_stage c.stage) plan b.cases (sym h.cases.count) each ∙ sym h.cases.active
     where
       each : (i : ℕ) (job : Job) (c : Case) → slice_get plan i ≡ Some job → slice_get b.cases i ≡ Some c → is_active fed.trace job ≡ is_active_stage c.stage
-      each i job c g k = (says_at i job g).active ∙ ap (λ (d : Case). is_active_stage d.stage) (some_is _ _ (sym (h.cases.each i job g).found ∙ k))
+      each i job c g k = (says_at i job g).active ∙ ap (λ (d : Case). is_active_stage d.stage) (same_Some _ _ (sym (h.cases.each i job g).found ∙ k))
 
   -- where nothing is active, no case is
   pub inactive : (k : ℕ) (c : Case) → b.active ≡ 0 → slice_get b.cases k ≡ Some c → is_active_stage c.stage ≡ false
@@ -162,7 +164,7 @@ module _ {plan : List Job} {n : ℕ} {fed : Fed} {b : SchedState} (h : Stands pl
   pub owes : (i : ℕ) → b.pending ≡ Some i → (had : Job) × (o : EndedBody) × (slice_get b.cases i ≡ Some (record { job = had; stage = Owing o }))
   owes i q =
       let c = within_some b.cases i (h.cases.owed_within i q) in
-      let e = owing_stage c.0.stage (h.cases.owing i c.0 c.1 ∙ (ap (λ (o : Option ℕ). is_owed o i) q ∙ same_is i)) in
+      let e = owing_stage c.0.stage (h.cases.owing i c.0 c.1 ∙ (ap (λ (o : Option ℕ). is_owed o i) q ∙ same_number i)) in
       (c.0.job, e.0, subst (λ (s : Stage). slice_get b.cases i ≡ Some (record { job = c.0.job; stage = s })) e.1 c.1)
 
   pub none_owing : b.pending ≡ None → (k : ℕ) (c : Case) → slice_get b.cases k ≡ Some c → is_owing_stage c.stage ≡ false

@@ -6,11 +6,13 @@ use Rattle.kt_sched.specs.declared.next.Answer.TheVariants as answer
 use Rattle.kt_sched.specs.declared.job.StartAnswer.TheVariants as told
 use Rattle.kt_sched.specs.declared.launcher.Launcher as launcher
 use Rattle.kt_sched.specs.declared.sink.Sink as sink
-use Rattle.kt_sched.proofs.Lists.{mapped_at, same_is, some_is, take_snoc, take_zero}
+use Rattle.kt_sched.proofs.Lists.{mapped_at, take_snoc, take_zero}
 use Rattle.kt_sched.proofs.Stages.{whole_quiet}
 use Rattle.kt_sched.proofs.Runs.{Going, Startable, Until, child_at, cleared, each_of, end_owes, end_runs, running_of, runs_now, runs_true, start_runs, until_more, until_now, while_runs}
 use Rattle.kt_sched.proofs.Gaining.{Gained, GainsUpTo, counts_more, due_put, entries_more, gained_event, gains_more, storable_entry}
 use Rattle.kt_sched.proofs.Once.{recorded_first, recorded_most}
+use Rattle.std.proofs.lemmas.Option.{same_Some}
+use Rattle.kt_base.proofs.Lists.{same_number}
 
 -- the core, the launcher and the sink stand after the same answers
 pub record Loop {L S : Type 0} (l : launcher.Ghosts L) (s : sink.Ghosts S) (plan : List Job) (n : ℕ) (old : L) (before : S) (sched : SchedState) (new : L)
@@ -86,7 +88,7 @@ module _ {L S : Type 0} {l : launcher.Ghosts L} {s : sink.Ghosts S} {plan : List
     due = λ z. x.1;
   }
   startable i Cleanup x f = record {
-    may = owes x.1 i ∙ same_is i;
+    may = owes x.1 i ∙ same_number i;
     now = f.0;
     history_is = f.1;
     clears = λ j. ap (λ y. if j == i then false else y) (owes x.1 j) ∙ cleared i j (cases_eq j i);
@@ -124,7 +126,7 @@ module _ {L S : Type 0} {l : launcher.Ghosts L} {s : sink.Ghosts S} {plan : List
       };
       until = until_more plan n fed.stopped T (Start i role a) k.until (λ z. tt) (t.quiet a);
       gained = gained_event k.gained (Start i role a) p k.stands.puts.stored t.due
-          (λ y g. ap (λ (y : Job). is_whole y (history i T)) (some_is y t.now.job (sym g ∙ t.now.place)) ∙ t.now.unfinished);
+          (λ y g. ap (λ (y : Job). is_whole y (history i T)) (same_Some y t.now.job (sym g ∙ t.now.place)) ∙ t.now.unfinished);
       asked = d;
     }
 

@@ -1,8 +1,10 @@
 -- each position stands in the record order once
 use Rattle.kt_sched.proofs.Common.{slice_get, filter, count_by, Option, Some, None, is_some, is_none, not, ◌==◌, ◌&&◌, ◌||◌, if◌then◌else◌, ◌≡◌, ◌≢◌, ℕ, suc, ◌+◌, ◌≤◌, Bool, true, false, cond, List, [], ◌∷◌, ◌++◌, length, refl, sym, ◌∙◌, ap, subst, arith, inl, inr, and-false, and-true, and_from, nat_tests, cases_lt, length-filter, count_by-le-length, slice_get_within, Judged, Job, Event, Trace, NoEvent, Then, position_of, history, is_whole, has_whole_history, turns, finished_by, is_open, was_open, recorded, IsPlan, is_decided, positions, NamesEachOnce}
-use Rattle.kt_sched.proofs.Lists.{cond_zero, counted_one, counted_only, some_is, count-cons, count_alike, count_by-append, filter_none, pick, within_some}
+use Rattle.kt_sched.proofs.Lists.{cond_zero, counted_one, counted_only, count-cons, count_alike, count_by-append, filter_none, pick, within_some}
 use Rattle.kt_sched.proofs.Turns.{count_turns, history_other, put_at_positions, recorded_more, finishes, opens_now}
-use Rattle.kt_sched.proofs.Lists.{same_is, other_is_not}
+use Rattle.kt_sched.proofs.Lists.{other_is_not}
+use Rattle.std.proofs.lemmas.Option.{same_Some}
+use Rattle.kt_base.proofs.Lists.{same_number}
 
 -- a case whose entry was due
 abbrev pub is_done : List Job → ℕ → Trace → Job → Bool
@@ -76,7 +78,7 @@ module _ (plan : List Job) (n : ℕ) (T : Trace) (e : Event) (p : IsPlan plan) (
 
           other : here ≡ false → has_whole_history (Then T e) job ≡ has_whole_history T job
           other r =
-              let apart : job.position ≢ position_of e = λ s. cc (ap (λ i. i == position_of e) s, same_is (position_of e), r) in
+              let apart : job.position ≢ position_of e = λ s. cc (ap (λ i. i == position_of e) s, same_number (position_of e), r) in
               ap (is_whole job) (history_other (position_of e) job.position T e refl apart)
 
   pub recorded_event : Recorded plan n T → Recorded plan n (Then T e)
@@ -99,7 +101,7 @@ recorded_first plan n q =
     ∙ (count_turns (λ job. q job.position && is_open plan n NoEvent job) plan
     ∙ count_alike (λ job. q job.position && is_open plan n NoEvent job) (λ job. q job.position && is_done plan n NoEvent job) plan plan refl
     (λ i x y g k. ap (λ b. q x.position && b) (at_first x x.decided refl)
-    ∙ ap (λ (job : Job). q job.position && is_done plan n NoEvent job) (some_is x y (sym g ∙ k)))))
+    ∙ ap (λ (job : Job). q job.position && is_done plan n NoEvent job) (same_Some x y (sym g ∙ k)))))
   where
     at_first : (job : Job) → (o : Option Judged) → job.decided ≡ o → is_open plan n NoEvent job ≡ is_done plan n NoEvent job
     at_first job (Some v) d = sym (ap (λ (o : Option Judged). if is_some o then was_open plan n NoEvent job else has_whole_history NoEvent job) d)
@@ -136,6 +138,6 @@ module _ {plan : List Job} (n : ℕ) (T : Trace) (p : IsPlan plan) (r : Recorded
         ∙ count_all plan));
     once = λ i l.
         let w = within_some plan i l in
-        let some = and_from _ _ (ap (λ k. k == i) (p.placed i w.0 w.1) ∙ same_is i) (h i w.0 w.1) in
+        let some = and_from _ _ (ap (λ k. k == i) (p.placed i w.0 w.1) ∙ same_number i) (h i w.0 w.1) in
         omega (arith, named_at_most_once i, r (λ k. k == i), counted_one (named_so i) plan i w.0 w.1 some);
   }

@@ -1,11 +1,12 @@
 -- a decided case becomes ready, and an answer to a put
 use Rattle.kt_sched.proofs.Common.{◌==◌, ◌<◌, nat_lt, nat_tests, if◌then◌else◌, not, slice_get, Option, Some, None, filter, is_some, ◌≡◌, ℕ, ◌+◌, after_put, Bool, true, false, List, ◌∷◌, refl, sym, ◌∙◌, ap, subst, arith, inl, inr, append-nil, cases_eq, Judged, Job, Stage, Decided, Case, CaseRecord, of, active, turns, is_open, Fed, has_failed, SchedState, Stands, IsStage, HasRecord, HasTurn, HasDecided, AreGone, is_decided, is_undecided, decided_record_of, decided_record, record_in, positions, opened, slice_get_within, ◌≤◌, ◌++◌, length, drop, recorded, listed}
 use Rattle.kt_sched.specs.declared.next.Next.TheVariants as next
-use Rattle.kt_sched.proofs.Lists.{slice_get-drop, drop_at, some_is, take_filter}
+use Rattle.kt_sched.proofs.Lists.{slice_get-drop, drop_at, take_filter}
 use Rattle.kt_sched.proofs.Stages.{decided_stage}
 use Rattle.kt_sched.proofs.Located.{AtTurn, decided_is, has_turn, active_is, one_place, asked_as}
 use Rattle.kt_sched.proofs.Upcoming.{exclusive_needs_none}
 use Rattle.kt_sched.proofs.Decided.{open_here}
+use Rattle.std.proofs.lemmas.Option.{same_Some}
 
 record_there : (o : Option Judged) → is_some o ≡ true → (t : CaseRecord) × (decided_record_of o ≡ Some t)
 record_there None e = absurd (cc)
@@ -38,7 +39,7 @@ module _ {plan : List Job} {n : ℕ} {fed : Fed} {b : SchedState} {i : ℕ} (h :
   gone_now f = record {
     gone = λ k job l g d. elim (cases_eq k b.turn) [
       | inl e ↦
-          let same = some_is a.job job (sym a.turn ∙ (ap (slice_get (turns plan)) (sym e) ∙ g)) in
+          let same = same_Some a.job job (sym a.turn ∙ (ap (slice_get (turns plan)) (sym e) ∙ g)) in
           (h.puts.gone f).due k job (omega (arith, e)) g ∙ (ap (is_open plan n fed.trace) (sym same) ∙ ripe.2)
       | inr x ↦ (h.puts.gone f).gone k job (omega (arith, l, x)) g d
     ];
@@ -57,8 +58,8 @@ module _ {plan : List Job} {n : ℕ} {fed : Fed} {b : SchedState} {i : ℕ} (h :
         λ l. (h.turn.met k j c g x).0 (omega (arith, l)),
         λ l w. elim (cases_eq k b.turn) [
           | inl q ↦
-              let m = some_is j i (sym g ∙ (ap (slice_get b.order) q ∙ t.1)) in
-              let s = some_is c a.case (sym x ∙ (ap (slice_get b.cases) m ∙ a.found)) in
+              let m = same_Some j i (sym g ∙ (ap (slice_get b.order) q ∙ t.1)) in
+              let s = same_Some c a.case (sym x ∙ (ap (slice_get b.cases) m ∙ a.found)) in
               absurd (cc (ap (λ (y : Case). y.stage) s, ripe.0, w))
           | inr q ↦ (h.turn.met k j c g x).1 (omega (arith, l, q)) w
         ],
@@ -72,7 +73,7 @@ module _ {plan : List Job} {n : ℕ} {fed : Fed} {b : SchedState} {i : ℕ} (h :
       ready = λ f. h.puts.ready f ∙ (rw e (ap positions run ∙ ap (λ k. k ∷ positions (opened plan n fed.trace (b.turn + 1))) a.at));
       ripe = λ j m x o. let q = one_place h m b.turn i (o ∙ sym x) t.1 in omega (arith, q);
     };
-    told = λ j x y. subst (HasRecord b.cases) (some_is i j x) told_now;
+    told = λ j x y. subst (HasRecord b.cases) (same_Some i j x) told_now;
     asked = tt;
   }
     where

@@ -3,7 +3,8 @@ use Rattle.kt_sched.proofs.Common.{is_some, nat_le, IfSome, append-nil, ◌+◌,
 use Rattle.kt_sched.specs.declared.job.StartAnswer.TheVariants as told
 use Rattle.kt_sched.specs.declared.launcher.Launcher as launcher
 use Rattle.kt_sched.proofs.Turns.{history_same, history_other}
-use Rattle.kt_sched.proofs.Lists.{same_is, other_is_not}
+use Rattle.kt_sched.proofs.Lists.{other_is_not}
+use Rattle.kt_base.proofs.Lists.{same_number}
 
 -- the child at a position of a plan
 abbrev pub child_at : List Job → ℕ → Option Child
@@ -49,7 +50,7 @@ module _ (plan : List Job) (T : Trace) (running : ℕ → Role → Option Child)
       → (if k == position_of e && same_role r role then x else running k r) ≡ running_of plan (Then T e) k r
   changed e role r k x (inl q) y =
       subst (λ j. (if j == position_of e && same_role r role then x else running j r) ≡ running_of plan (Then T e) j r) (sym q)
-      (ap (λ b. if b && same_role r role then x else running (position_of e) r) (same_is (position_of e)) ∙ y)
+      (ap (λ b. if b && same_role r role then x else running (position_of e) r) (same_number (position_of e)) ∙ y)
   changed e role r k x (inr q) y =
       ap (λ b. if b && same_role r role then x else running k r) (other_is_not k (position_of e) q) ∙ (h k r ∙ sym (runs_other plan T e k r q))
 
@@ -110,7 +111,7 @@ module _ (plan : List Job) (T : Trace) (running : ℕ → Role → Option Child)
         owed_by c d q = refl
 
 pub cleared : (i k : ℕ) → (k ≡ i) ⊎ (k ≢ i) → (if k == i then false else k == i) ≡ false
-cleared i k (inl q) = rw (q, same_is i) refl
+cleared i k (inl q) = rw (q, same_number i) refl
 cleared i k (inr q) = rw (other_is_not k i q) refl
 
 -- what a launcher says that runs does run

@@ -1,11 +1,12 @@
 -- the answers of a launcher, each of which the state takes
 use Rattle.kt_sched.proofs.Common.{◌≢◌, slice_get, length, Option, Some, None, ◌≡◌, ℕ, ◌+◌, ◌<◌, Bool, true, false, cond, List, refl, sym, ◌∙◌, ap, subst, arith, length-set, slice_get_within, Next, Role, Body, Cleanup, Ended, StartAnswer, Stage, Waiting, Owing, Taken, Case, same_role, Event, Start, End, Job, Fed, body_start_of, stage_runs, SchedState, Stands, IsAfter, IsStanding, Takes, Replaced, Declares, can_start, owing_at, ready_at, is_active_stage, is_over, is_owed, after_event}
 use Rattle.kt_sched.specs.declared.next.Next.TheVariants as next
-use Rattle.kt_sched.proofs.Lists.{cond_one, some_is, other_is_not}
+use Rattle.kt_sched.proofs.Lists.{cond_one, other_is_not}
 use Rattle.kt_sched.proofs.Stages.{runs_active, moves}
 use Rattle.kt_sched.proofs.Located.{asked_as, located, owes, replaced_twice, some_active}
 use Rattle.kt_sched.proofs.Upcoming.{upcoming}
 use Rattle.kt_sched.proofs.EventSteps.{After, AskedFor, OwedBy, event_taken}
+use Rattle.std.proofs.lemmas.Option.{same_Some}
 
 -- a case that can be started, and counted
 pub record StartFits (b : SchedState) (role : Role) (was : Stage) : Type 0 where
@@ -21,11 +22,11 @@ module _ {plan : List Job} {n : ℕ} {fed : Fed} {b : SchedState} (h : Stands pl
   fits i Body {was} q r =
       let k = asked_as h (next.Start i Body) q in
       let u = upcoming h i k.0 k.3 k.2 in
-      let w : was ≡ Waiting = ap (λ (c : Case). c.stage) (some_is _ u.0.case (sym r.found ∙ u.0.found)) ∙ u.1 in
+      let w : was ≡ Waiting = ap (λ (c : Case). c.stage) (same_Some _ u.0.case (sym r.found ∙ u.0.found)) ∙ u.1 in
       record { can = ap (can_start Body) w; more = λ v. k.2.2; turn = λ y. slice_get_within b.order b.turn i k.2.1 }
   fits i Cleanup {was} q r =
       let o = owes h i (asked_as h (next.Start i Cleanup) q).1 in
-      let w : was ≡ Owing o.1 = ap (λ (c : Case). c.stage) (some_is _ _ (sym r.found ∙ o.2)) in
+      let w : was ≡ Owing o.1 = ap (λ (c : Case). c.stage) (same_Some _ _ (sym r.found ∙ o.2)) in
       record { can = ap (can_start Cleanup) w; more = λ v. absurd (cc (ap is_active_stage w, v)); turn = λ y. absurd (cc (y)) }
 
   none_owed : {i : ℕ} → b.pending ≡ None → OwedBy i b.pending
@@ -83,7 +84,7 @@ module _ {b seen : SchedState} (view : b ≡ seen) (standing : IsStanding b) whe
       → Replaced b.cases mid e.position Taken was → (stage_runs e.role was ≡ true) × (0 < b.active) × (e.position < length mid)
   end_fits e {was} w r =
       let found = ap (λ (x : SchedState). slice_get x.cases e.position) view ∙ w.1 in
-      let v = ap (λ (c : Case). stage_runs e.role c.stage) (some_is _ w.0 (sym r.found ∙ found)) ∙ w.2 in
+      let v = ap (λ (c : Case). stage_runs e.role c.stage) (same_Some _ w.0 (sym r.found ∙ found)) ∙ w.2 in
       (v, some_active standing.3 e.position _ r.found (runs_active e.role was v), replaced_within r)
 
   pub ended : (e : Ended) {was now left : Stage} {mid cs : List Case} {a : ℕ} {p r : Option ℕ} {v flag : Bool} → seen.asked ≡ next.Wait
@@ -94,7 +95,7 @@ module _ {b seen : SchedState} (view : b ≡ seen) (standing : IsStanding b) whe
       let w = replaced_twice b.cases mid cs e.position Taken now left was c d in
       let l = located h e.position w.job was w.found in
       let same = l.kept (λ x. absurd (cc ((moves flag was (End e) now f).fresh, ap is_over x))) in
-      let flag_is = g.is ∙ (ap (λ (y : Case). y.job.cleanup) (some_is g.case _ (sym g.found ∙ w.found)) ∙ ap (λ (j : Job). j.cleanup) same) in
+      let flag_is = g.is ∙ (ap (λ (y : Case). y.job.cleanup) (same_Some g.case _ (sym g.found ∙ w.found)) ∙ ap (λ (j : Job). j.cleanup) same) in
       event_taken h (record {
         place = l.place;
         moved = w;

@@ -1,6 +1,7 @@
 -- the turn order, which has every case once and exclusive ones last, and one event more
 use Rattle.kt_sched.proofs.Common.{nat_tests, ◌⊎◌, slice_get, count_by, filter, Some, not, ◌==◌, ◌≡◌, ◌≢◌, ℕ, ◌+◌, ◌<◌, ◌≤◌, Bool, true, false, cond, List, length, refl, ◌∙◌, ap, subst, arith, inl, inr, false_from_ne_true, sum_by-filter_both, cases_eq, slice_get_within, Job, turns, None, is_none, map, ◌&&◌, [], ◌∷◌, ◌++◌, sym, and-true, map-append, Event, Trace, Then, position_of, of, event_count, mark_of, history, is_whole, has_whole_history, Due, dues, put_at, finished_by, is_open, was_open, recorded, IsPlan, positions}
-use Rattle.kt_sched.proofs.Lists.{counted_one, counted_some, count_by-append, counted_only, counted_two, filter_in, in_append, other_is_not, same_is, pick, filter_only}
+use Rattle.kt_sched.proofs.Lists.{counted_one, counted_some, count_by-append, counted_only, counted_two, filter_in, in_append, other_is_not, pick, filter_only}
+use Rattle.kt_base.proofs.Lists.{same_number}
 
 -- each case stands at its position
 abbrev pub Placed : List Job → Type 0
@@ -47,7 +48,7 @@ turn_distinct plan h k l a b g j e = elim (cases_eq k l) [ inl q ↦ q | inr d �
     f job = job.position == b.position
 
     two : k ≢ l → 1 < count_by f (turns plan)
-    two d = counted_two f (turns plan) k l a b g (ap (λ i. i == b.position) e ∙ same_is b.position) j (same_is b.position) d
+    two d = counted_two f (turns plan) k l a b g (ap (λ i. i == b.position) e ∙ same_number b.position) j (same_number b.position) d
 
     one : count_by f plan ≤ 1
     one =
@@ -57,13 +58,13 @@ turn_distinct plan h k l a b g j e = elim (cases_eq k l) [ inl q ↦ q | inr d �
 pub turn_covers : (plan : List Job) → Placed plan → (i : ℕ) (job : Job) → slice_get plan i ≡ Some job → (k : ℕ) × (slice_get (turns plan) k ≡ Some job)
 turn_covers plan h i job g =
     let f = λ (x : Job). x.position == job.position in
-    let w = counted_some f (turns plan) (omega (arith, count_turns f plan, counted_one f plan i job g (same_is job.position))) in
+    let w = counted_some f (turns plan) (omega (arith, count_turns f plan, counted_one f plan i job g (same_number job.position))) in
     let e : w.1.position ≡ job.position = grind (arith, nat_tests, w.3) in
     (w.0, w.2 ∙ (sym (turn_inside plan h w.0 w.1 w.2) ∙ (ap (slice_get plan) (e ∙ h i job g) ∙ g)))
 
 -- the events of the case of an event, and of another
 pub of_same : (i : ℕ) (T : Trace) (e : Event) → position_of e ≡ i → of i (Then T e) ≡ of i T ++ e ∷ []
-of_same i T e h = rw (h, same_is i) refl
+of_same i T e h = rw (h, same_number i) refl
 
 pub of_other : (i k : ℕ) (T : Trace) (e : Event) → position_of e ≡ i → k ≢ i → of k (Then T e) ≡ of k T
 of_other i k T e h n = rw (h, other_is_not i k (λ q. n (sym q))) refl
@@ -113,7 +114,7 @@ finished_is {plan} T e {job} b h d g w v =
     does : finishes T e job ≡ b
     does =
         subst (λ k. (k == i && (is_none job.decided && (is_whole job (history k (Then T e)) && not (is_whole job (history k T))))) ≡ b)
-        (sym (h.placed i job g)) (rw (v, w, d, same_is i) (and-true b))
+        (sym (h.placed i job g)) (rw (v, w, d, same_number i) (and-true b))
 
     placed : (c : Bool) → positions (pick c job []) ≡ pick c i []
     placed true = ap (λ k. k ∷ []) (h.placed i job g)

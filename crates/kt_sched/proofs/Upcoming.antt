@@ -1,9 +1,10 @@
 -- the case whose turn it is, the next body in turn order, and exclusive cases, which run alone
 use Rattle.kt_sched.proofs.Common.{slice_get, Some, None, take, drop, filter, is_none, ◌≡◌, ℕ, ◌+◌, true, List, [], ◌++◌, length, refl, sym, ◌∙◌, ap, subst, arith, take-append_seam, drop-append_seam, length-map, take-append-drop, filter-append, Job, Stage, Waiting, Case, of, turns, body_starts, undecided_turns, next_to_start, Fed, SchedState, Stands, IsStage, HasTurn, IsSettled, Order, positions, is_undecided, ◌||◌, ◌<◌, ◌⊎◌, false, inl, inr, cases_Bool, or_left, or_right, cases_lt, cases_eq, Body, Cleanup, has_whole_history, owed, IsQuiet, AloneAtStart, IsOrdinary, is_active_stage}
-use Rattle.kt_sched.proofs.Lists.{some_is, drop_at, filter_in, get_drop, slice_get-drop, counted_two, list_all_from}
+use Rattle.kt_sched.proofs.Lists.{drop_at, filter_in, get_drop, slice_get-drop, counted_two, list_all_from}
 use Rattle.kt_sched.proofs.Stages.{waiting_stage, fresh_inactive, over_stage}
 use Rattle.kt_sched.proofs.Located.{AtTurn, decided_is, exclusive_is, has_turn, at_turn, active_is, inactive, owes, says_at}
 use Rattle.kt_sched.proofs.Turns.{turn_covers, turn_sorted}
+use Rattle.std.proofs.lemmas.Option.{same_Some}
 
 module _ {plan : List Job} {n : ℕ} {fed : Fed} {b : SchedState} (h : Stands plan n fed b) where
   abbrev begun : List Job
@@ -68,7 +69,7 @@ module _ {plan : List Job} {n : ℕ} {fed : Fed} {b : SchedState} (h : Stands pl
   -- the case whose turn it is, if it may start
   module _ {i : ℕ} {job : Job} (o : slice_get b.order b.turn ≡ Some i) (g : slice_get plan i ≡ Some job) where
     same : (has_turn h i o).job ≡ job
-    same = some_is _ job (sym (has_turn h i o).place ∙ g)
+    same = same_Some _ job (sym (has_turn h i o).place ∙ g)
 
     turn_is : slice_get (turns plan) b.turn ≡ Some job
     turn_is = (has_turn h i o).turn ∙ ap Some same

@@ -8,6 +8,7 @@ pub mod TurnOrder
 pub mod ScheduleRules
 pub mod RecordOrder
 pub mod EntryOf
+pub mod FaultWords
 pub mod Fed
 pub mod Next
 pub mod SchedState

@@ -1,24 +1,28 @@
-use kt_base::Entry;
-use std::error::Error;
-use std::fmt;
+use kt_base::{Entry, OUT_OF_MEMORY};
+use thiserror::Error;
 
 /// Why an entry was not put.
-#[derive(Clone, Copy, Debug)]
+#[derive(Clone, Copy, Debug, Error)]
+#[error("{}", self.words())]
 pub enum SinkFault {
     Memory,
     Other,
 }
 
-impl fmt::Display for SinkFault {
-    fn fmt<W: fmt::Write>(&self, f: &mut fmt::Formatter<W>) -> fmt::Result {
-        f.write_str(match self {
-            SinkFault::Memory => "out of memory",
+impl SinkFault {
+    ghost use Rattle.std.specs.Prelude.{◌≡◌};
+    ghost use Rattle.kt_sched.specs.FaultWords.{sink_words};
+
+    /// The words of the fault's line (this profile). `Display` prints them.
+    pub fn words(&self) -> &'static str
+        ensures { result.now ≡ sink_words self.now }
+    {
+        match self {
+            SinkFault::Memory => OUT_OF_MEMORY,
             SinkFault::Other => "results store failed",
-        })
+        }
     }
 }
-
-impl Error for SinkFault {}
 
 /// Takes the entries, in the order in which they are recorded. How a sink keeps them is its own affair. A failed put
 /// leaves those that were put before.

@@ -4,6 +4,7 @@ use Rattle.kt_script.proofs.Common.{append-nil, Token, Kind, Name, Quoted, OpenP
 use Rattle.kt_script.specs.declared.syntax.Literal.TheVariants as literal
 use Rattle.kt_script.specs.declared.syntax.Arg.TheVariants as arg
 use Rattle.kt_script.specs.Grammar as grammar
+use Rattle.std.proofs.lemmas.Option.{same_Some}
 
 -- where the rest of a statement leads
 abbrev pub walk : Step → List Kind → Option Step
@@ -86,9 +87,6 @@ statement_walks words a (assign {words = w} {parts = ps} n more v) =
 abbrev pub joined : List Stmt → Place × List Stmt → Place × List Stmt
 joined front end = (end.0, front ++ end.1)
 
-pub some_is : {A : Type 0} (x y : A) → Some x ≡ Some y → x ≡ y
-some_is x y e = cc
-
 pub ends_is : (b a : Action) (rest : List Kind) → walk (Ends b) rest ≡ Some (Ends a) → (rest ≡ []) × (b ≡ a)
 ends_is b a [] e = (refl, cc)
 ends_is b a (k ∷ rest) e = absurd cc
@@ -130,7 +128,7 @@ joined_none (Some end) = refl
 
 pub run-append : (xs : List Token) (p q : Place) (ys : List Token) (ss : List Stmt) → run p xs ≡ Some (q, ss) → run p (xs ++ ys) ≡ option_map (joined ss) (run q ys)
 run-append [] p q ys ss e =
-    let same = some_is (p, []) (q, ss) e in
+    let same = same_Some (p, []) (q, ss) e in
     sym (joined_none (run p ys)) ∙ ap (λ (x : Place × List Stmt). option_map (joined x.1) (run x.0 ys)) same
 run-append (t ∷ xs) p q ys ss e =
     let b = bind_some (next p t) (λ to. option_map (joined (listed to.1)) (run to.0 xs)) (q, ss) e in

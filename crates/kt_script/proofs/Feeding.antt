@@ -1,8 +1,8 @@
 -- What a parser has read after one token more.
 use Rattle.std.proofs.Common.{◌≡◌, ℕ, List, [], ◌∷◌, ◌++◌, Option, Some, None, refl, ap, sym, ◌∙◌}
 use Rattle.kt_script.proofs.Common.{Token, Place, Parser, Stmt, after_bracket, open_lines, next, listed, place_of, ended_by, HasRead}
-use Rattle.kt_script.proofs.Complete.{some_is}
 use Rattle.kt_script.proofs.Sound.{run-push}
+use Rattle.std.proofs.lemmas.Option.{same_Some}
 
 open_lines-push : (lines : List ℕ) (ts : List Token) (t : Token) → open_lines lines (ts ++ t ∷ []) ≡ after_bracket (open_lines lines ts) t.line t.kind
 open_lines-push lines [] t = refl
@@ -18,7 +18,7 @@ reads_on old new place after read t to h step leads statements brackets = record
 pub fed : (old new : Parser) (place after : Place) (t : Token) (o : Option (Place × Option Stmt)) → next place t ≡ o → Some after ≡ place_of o → new.statements ≡ old.statements ++ ended_by o
     → new.brackets.items ≡ after_bracket old.brackets.items t.line t.kind → (read : List Token) → HasRead place old read → HasRead after new (read ++ t ∷ [])
 fed old new place after t None step leads statements brackets read h = absurd cc
-fed old new place after t (Some to) step leads statements brackets read h = reads_on old new place after read t to h step (sym (some_is after to.0 leads)) statements brackets
+fed old new place after t (Some to) step leads statements brackets read h = reads_on old new place after read t to h step (sym (same_Some after to.0 leads)) statements brackets
 
 pub unfit : (o : Option (Place × Option Stmt)) → None ≡ place_of o → o ≡ None
 unfit None e = refl

@@ -8,7 +8,7 @@ use Rattle.kt_script.proofs.SomeReading.{some_reading}
 
 -- ---- one at the most
 
-two_due : (text : List ℕ) (f g : ScriptFault) → IsDue text f → IsDue text g → f ≡ g
+pub two_due : (text : List ℕ) (f g : ScriptFault) → IsDue text f → IsDue text g → f ≡ g
 two_due text f g (inl x) (inl y) = x.1 ∙ sym y.1
 two_due text f g (inl x) (inr (inl y)) = absurd (omega arith)
 two_due text f g (inl x) (inr (inr y)) = absurd (omega arith)
@@ -20,7 +20,7 @@ two_due text f g (inr (inr x)) (inr (inl y)) = absurd (y.1 x.1)
 two_due text f g (inr (inr x)) (inr (inr y)) =
     one_fault x.2 f g x.4 (subst (λ (ts : List Token). IsFaultOf ts g) (same_tokens text y.2 x.2 y.3 x.3) y.4)
 
-not_both : (text : List ℕ) (stmts : List Stmt) (f : ScriptFault) → Spells text stmts → IsDue text f → ⊥
+pub not_both : (text : List ℕ) (stmts : List Stmt) (f : ScriptFault) → Spells text stmts → IsDue text f → ⊥
 not_both text stmts f s (inl x) = omega (arith, s.short, x.0)
 not_both text stmts f s (inr (inl x)) = x.1 s.utf8
 not_both text stmts f s (inr (inr x)) =
@@ -32,6 +32,14 @@ one_answer text (Ok x) (Ok y) p q =
 one_answer text (Ok x) (Err g) p q = absurd (not_both text x g p q)
 one_answer text (Err f) (Ok y) p q = absurd (not_both text y f q p)
 one_answer text (Err f) (Err g) p q = ap Err (two_due text f g p q)
+
+-- what a text spells
+abbrev spelled : List Stmt → Result (List Stmt) ScriptFault → List Stmt
+spelled d (Ok stmts) = stmts
+spelled d (Err fault) = d
+
+pub two_spelled : (text : List ℕ) (a b : List Stmt) → Spells text a → Spells text b → a ≡ b
+two_spelled text a b s t = ap (spelled a) (one_answer text (Ok a) (Ok b) s t)
 
 -- ---- one at the least
 

@@ -1,7 +1,7 @@
 -- A text has no other tokens than those that are read.
 use Rattle.std.proofs.Common.{◌≡◌, ℕ, suc, ◌+◌, ◌-◌, ◌<◌, Bool, true, false, cond, List, [], ◌∷◌, ◌++◌, length, drop, Option, Some, None, refl, ap, sym, subst, ◌∙◌, arith, length-append, eqb, IfSome}
 use Rattle.kt_script.proofs.Common.{prefix_len, take-append_seam, drop-append_seam, append-nil, Flaw, Kind, OpenParen, CloseParen, OpenBrace, CloseBrace, OpenBracket, CloseBracket, Equals, Comma, Semicolon, Dot, Token, eqb-true, is_space, token, broken, begins_with_letter, decimal_from, mark_of, line_after, line_past, Blank, space, line_comment, long_comment, HasFlaw, large_number, lettered_number, endless_string, bad_escape, endless_comment, leveled_comment, lone_dash, strange, Word, a_name, a_number, a_string, a_mark, no_word, IsTokens, the_end, blank_and, word_and, piece_at, tokens, tokens_in}
-use Rattle.kt_script.proofs.PieceTokens.{tokens-piece}
+use Rattle.kt_script.proofs.PieceTokens.{tokens-end, tokens-piece}
 use Rattle.kt_script.proofs.ReadWords.{at_strange, name_is, digits_are, number_is, large_is, lettered_is}
 use Rattle.kt_script.proofs.ReadStrings.{string_is, endless_is, bad_escape_is, long_is, endless_comment_is, leveled_is, line_is, dash_is}
 
@@ -77,12 +77,8 @@ blank_step line bytes after (space {c = c} {after = rest} is) = space_step line 
 blank_step line bytes after (line_comment {words = w} {after = rest} long level each stop) = read_step line (45 ∷ 45 ∷ w) rest None (record { piece = line_is w rest long level each stop; some = omega arith })
 blank_step line bytes after (long_comment {words = w} {after = rest} closes) = read_step line (45 ∷ 45 ∷ 91 ∷ 91 ∷ w) rest None (record { piece = long_is w rest closes; some = omega arith })
 
-tokens-none : (line : ℕ) → tokens line 0 [] ≡ []
-unfolding tokens
-tokens-none line = refl
-
 pub one_reading : (line : ℕ) (text : List ℕ) (ts : List Token) → IsTokens line text ts → ts ≡ tokens line 0 text
-one_reading line text ts the_end = sym (tokens-none line)
+one_reading line text ts the_end = sym (tokens-end line)
 one_reading line text ts (blank_and {blank = b} {rest = rest} {ts = us} is more) = one_reading (line_past line b) rest us more ∙ sym (blank_step line b rest is)
 one_reading line text ts (word_and {bytes = w} {rest = rest} {kind = k} {ts = us} is more) =
     ap (λ (xs : List Token). record { line = line; kind = k } ∷ xs) (one_reading (line_past line w) rest us more) ∙ sym (read_step line w rest (Some k) (word_read w rest k is))

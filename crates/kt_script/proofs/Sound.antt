@@ -1,8 +1,9 @@
 -- Where the code's steps lead, a script is or begins; where they don't go on, none does.
 use Rattle.std.proofs.Common.{◌≡◌, ℕ, List, [], ◌∷◌, ◌++◌, Option, Some, None, refl, ap, sym, ◌∙◌, subst, append_assoc, inl, inr, option_map}
 use Rattle.kt_script.proofs.Common.{append-nil, Token, Place, Start, Whole, Within, Stmt, State, Script, fault_of, last, open_lines, end_fault, IsFaultOf, step, next, listed, run, IsResting}
-use Rattle.kt_script.proofs.Complete.{some_is, joined, run-append, script_runs}
+use Rattle.kt_script.proofs.Complete.{joined, run-append, script_runs}
 use Rattle.kt_script.proofs.Standing.{Stands, whole_script, from_start, finished, stands_begins}
+use Rattle.std.proofs.lemmas.Option.{same_Some}
 
 -- ---- the laws
 
@@ -19,7 +20,7 @@ accepted ts p ss e r = resting_script p ss ts r (from_start ts p ss e)
 pub only : (ts : List Token) (p : Place) (ss rs : List Stmt) → run Start ts ≡ Some (p, ss) → Script ts rs → IsResting p × (rs ≡ ss)
 only ts p ss rs e script =
     let s = script_runs ts rs script Start tt in
-    let same : (s.place, rs) ≡ (p, ss) = some_is (s.place, rs) (p, ss) (sym s.runs ∙ e) in
+    let same : (s.place, rs) ≡ (p, ss) = same_Some (s.place, rs) (p, ss) (sym s.runs ∙ e) in
     let place : s.place ≡ p = ap (λ (x : Place × List Stmt). x.0) same in
     (subst IsResting place s.rests, ap (λ (x : Place × List Stmt). x.1) same)
 

@@ -1,9 +1,10 @@
 -- What holds where tokens have led to a place: a script is done, or a statement has begun.
 use Rattle.std.proofs.Common.{◌≡◌, ℕ, List, [], ◌∷◌, ◌++◌, Option, Some, None, refl, ap, sym, ◌∙◌, subst, append_assoc, ◌⊎◌, inl, inr, option_map, IfSome}
 use Rattle.kt_script.proofs.Common.{append-nil, Token, Kind, Name, Semicolon, Place, Start, Whole, Within, Stmt, Action, State, Named, Step, To, Ends, Statement, kinds, placed, Script, no_stmts, stmt_and, ended_and, Begins, step, begin, go_on, next, landed, listed, run}
-use Rattle.kt_script.proofs.Complete.{bind_some, map_some, some_is, joined}
+use Rattle.kt_script.proofs.Complete.{bind_some, map_some, joined}
 use Rattle.kt_script.proofs.Ending.{Ending, EndsFrom}
 use Rattle.kt_script.proofs.EndingSteps.{step_goes, some_end}
+use Rattle.std.proofs.lemmas.Option.{same_Some}
 
 -- ---- scripts one after the other
 
@@ -64,13 +65,13 @@ enters done ts t n script is = record {
 }
 
 begin_is : (line : ℕ) (k : Kind) (to : Place × Option Stmt) → begin line k ≡ Some to → (n : List ℕ) × (k ≡ Name n) × (to ≡ (Within line (Named n), None))
-begin_is line (Name n) to e = (n, refl, sym (some_is (Within line (Named n), None) to e))
+begin_is line (Name n) to e = (n, refl, sym (same_Some (Within line (Named n), None) to e))
 begin_is line _ to e = absurd cc
 
 go_on_is : (line : ℕ) (k : Kind) (to : Place × Option Stmt) → go_on line k ≡ Some to
     → ((n : List ℕ) × (k ≡ Name n) × (to ≡ (Within line (Named n), None))) ⊎ ((k ≡ Semicolon) × (to ≡ (Start, None)))
-go_on_is line (Name n) to e = inl (n, refl, sym (some_is (Within line (Named n), None) to e))
-go_on_is line Semicolon to e = inr (refl, sym (some_is (Start, None) to e))
+go_on_is line (Name n) to e = inl (n, refl, sym (same_Some (Within line (Named n), None) to e))
+go_on_is line Semicolon to e = inr (refl, sym (same_Some (Start, None) to e))
 go_on_is line _ to e = absurd cc
 
 kinds-push : (xs : List Token) (t : Token) (w : List Kind) → kinds (xs ++ t ∷ []) ++ w ≡ kinds xs ++ t.kind ∷ w
@@ -125,7 +126,7 @@ stands_next (Within line q) done ts t to h e =
 
 stands_run : (ts : List Token) (p q : Place) (done ss : List Stmt) (front : List Token) → Stands p done front → run p ts ≡ Some (q, ss) → Stands q (done ++ ss) (front ++ ts)
 stands_run [] p q done ss front h e =
-    let same = some_is (p, []) (q, ss) e in
+    let same = same_Some (p, []) (q, ss) e in
     let here : Stands p (done ++ []) (front ++ []) = rw (append-nil, append-nil) h in
     subst (λ (x : Place × List Stmt). Stands x.0 (done ++ x.1) (front ++ [])) same here
 stands_run (t ∷ ts) p q done ss front h e =

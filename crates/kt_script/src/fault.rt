@@ -1,13 +1,13 @@
 ghost use Rattle.std.specs.Prelude.{◌≡◌};
 ghost use Rattle.kt_script.specs.declared.fault.ScriptFault.TheVariants as fault;
 
-use kt_base::NoMemory;
-use std::error::Error;
-use std::fmt;
+use kt_base::{NoMemory, OUT_OF_MEMORY};
+use thiserror::Error;
 
 /// Why a text was refused. A number is a line, counted from 1: the line of the token that is at
 /// fault, of what was opened and not closed, or of the statement that was not finished.
-#[derive(Clone, Copy, Debug)]
+#[derive(Clone, Copy, Debug, Error)]
+#[error("{}", self.words())]
 pub enum ScriptFault {
     NoMemory(NoMemory),
     /// The bytes are not UTF-8.
@@ -30,7 +30,7 @@ impl ScriptFault {
         ensures { result.now ≡ script_words self.now }
     {
         match self {
-            ScriptFault::NoMemory(_) => "out of memory",
+            ScriptFault::NoMemory(_) => OUT_OF_MEMORY,
             ScriptFault::NotUtf8 => "not UTF-8",
             ScriptFault::BadToken(_) => "bad token",
             ScriptFault::NotLiteral(_) => "not in the literal profile",
@@ -39,14 +39,6 @@ impl ScriptFault {
         }
     }
 }
-
-impl fmt::Display for ScriptFault {
-    fn fmt<W: fmt::Write>(&self, f: &mut fmt::Formatter<W>) -> fmt::Result {
-        f.write_str(self.words())
-    }
-}
-
-impl Error for ScriptFault {}
 
 impl From<NoMemory> for ScriptFault {
     ghost from_gives = { λ refusal e. e ≡ fault.NoMemory refusal };

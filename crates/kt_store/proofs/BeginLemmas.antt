@@ -1,6 +1,6 @@
 -- What the INSERT of `begin` does.
-use Rattle.std.proofs.Common.{Bool, IsTrue, Less, List, None, Ok, Option, Some, [], ap, append-nil, arith, cond, drop, false, fold, inl, inr, length, length-append, map, pos, refl, subst, suc, sym, true, unwrap_or, ℕ, ℤ, ◌++◌, ◌+ℤ◌, ◌+◌, ◌<◌, ◌∙◌, ◌∷◌, ◌≡◌}
-use Rattle.kt_store.proofs.Common.{ints, Value, Null, Int, Row, value_cmp, rowid, put_row, id_in, next_rowid, put_all, taken_by, map-append, all-append, unary, Integer, cast, edit_of, Chosen, Database, IsDatabase, value_rows, Does, Tally, last_id, begin_text, runs_1, schema_2, AreNumbered, IsRun, Keeps, Tables, entry_row, entry_rows, new_run, pair_rows, prop_rows, run_row, flat_map, Trees, Mode, Command, Insert, Values, Enforced, works, State, HasCleanDisk, IsStore, StandsFor, Leaves, MayTell, Told, Ghosts, Held, state, Run}
+use Rattle.std.proofs.Common.{IsTrue, Less, List, None, Ok, Option, Some, [], ap, append-nil, arith, drop, fold, inl, inr, length, length-append, map, pos, refl, subst, suc, sym, unwrap_or, ℕ, ℤ, ◌++◌, ◌+ℤ◌, ◌+◌, ◌<◌, ◌∙◌, ◌∷◌, ◌≡◌}
+use Rattle.kt_store.proofs.Common.{ints, Int, Row, value_cmp, rowid, put_row, id_in, next_rowid, put_all, taken_by, map-append, all-append, edit_of, Chosen, Database, IsDatabase, value_rows, Does, Tally, last_id, begin_text, runs_1, schema_2, AreNumbered, IsRun, Keeps, Tables, entry_row, entry_rows, new_run, pair_rows, prop_rows, run_row, flat_map, Trees, Mode, Command, Insert, Values, Enforced, works, State, HasCleanDisk, IsStore, StandsFor, Leaves, MayTell, Told, Ghosts, Held, state, Run}
 use Rattle.std.specs.List.Sorted.{IsPermutation}
 use Rattle.std.proofs.lemmas.Grind.{flat_map-append}
 use Rattle.kt_store.proofs.SqlFacts.{begin_is, begin_terms}

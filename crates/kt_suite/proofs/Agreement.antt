@@ -2,7 +2,7 @@
 use Rattle.std.proofs.Common.{Option, Some, None, Result, Ok, Err, Bool, ◌≡◌, ℕ, List, [], ◌∷◌, ◌++◌, refl, sym, subst, ap, ◌∙◌}
 use Rattle.kt_suite.proofs.Common.{ScriptFault, Stmt, Spells, IsDue, ReadFault, SuiteCause, NoSyntax, Script, Meaning, Program, Asked, Read, Exists, SameQuestion, fault_at, read_fault, script_line, meaning_of, opening_fault, beside, Site, site_fault, looked_up, Mark, Asks, File, Fault, Part, Says, Includes, said, suite_after, StatementsSay, none, one, FileSays, unread, no_script, no_statement, unopened, opened, Unfolds, end, says, refused, entered, TreeGives}
 use Rattle.kt_suite.specs.declared.statement.Meaning.TheVariants as meaning
-use Rattle.kt_suite.proofs.ScriptLaws.{one_script, one_fault, not_both}
+use Rattle.kt_script.proofs.OneAnswer.{two_spelled, two_due, not_both}
 
 -- two lists of marks are the same as far as the same answers come
 pub data Agree : List Mark → List Mark → Type 0 where
@@ -79,11 +79,11 @@ behind_text file text why stmts ps qs i s = absurd (not_both text stmts why s i)
 behind_answer : (file : List ℕ) (answer : Result (List ℕ) ReadFault) (ps qs : List Part) → AfterAnswer file answer ps → AfterAnswer file answer qs → AgreeParts ps qs
 behind_answer file (Err why) _ _ (b_unread _) (b_unread _) = same_part _ [] [] no_parts
 behind_answer file (Ok text) _ _ (b_faulty _ f i) (b_faulty _ g j) =
-    subst (λ (z : ScriptFault). AgreeParts (Says (Fault (fault_at file (script_line f) (Script f))) ∷ []) (Says (Fault (fault_at file (script_line z) (Script z))) ∷ [])) (one_fault text f g i j) (same_part _ [] [] no_parts)
+    subst (λ (z : ScriptFault). AgreeParts (Says (Fault (fault_at file (script_line f) (Script f))) ∷ []) (Says (Fault (fault_at file (script_line z) (Script z))) ∷ [])) (two_due text f g i j) (same_part _ [] [] no_parts)
 behind_answer file (Ok text) _ qs (b_faulty _ f i) (b_script _ stmts _ s b) = behind_text file text f stmts _ qs i s
 behind_answer file (Ok text) ps _ (b_script _ stmts _ s b) (b_faulty _ f i) = behind_text file text f stmts ps _ i s
 behind_answer file (Ok text) ps qs (b_script _ stmts _ s a) (b_script _ other _ t b) =
-    behind_statements file stmts ps qs a (subst (λ (z : List Stmt). AfterStatements file z qs) (one_script text other stmts t s) b)
+    behind_statements file stmts ps qs a (subst (λ (z : List Stmt). AfterStatements file z qs) (two_spelled text other stmts t s) b)
 
 both_answering : (file : List ℕ) (ps qs : List Part) → Answering file ps → Answering file qs → AgreeParts ps qs
 both_answering file _ _ (by a ps h) (by b qs k) =

@@ -1,6 +1,6 @@
 -- The words of faults as bytes.
-use Rattle.std.proofs.Common.{◌≡◌, ℕ, List, ◌++◌, refl, ap, ◌∙◌}
-use Rattle.kt_suite.proofs.Common.{encode, utf8, utf8-append, ScriptFault, SuiteCause, fixed_words, cause_words}
+use Rattle.std.proofs.Common.{◌≡◌, ℕ, refl}
+use Rattle.kt_suite.proofs.Common.{encode, utf8, ScriptFault, SuiteCause, fixed_words, cause_words}
 use Rattle.kt_script.specs.FaultWords.{script_words}
 use Rattle.kt_script.specs.declared.fault.ScriptFault.TheVariants as script
 use Rattle.kt_suite.specs.declared.cause.SuiteCause.TheVariants as cause
@@ -50,12 +50,3 @@ utf8-cause cause.MissingProgram = refl
 utf8-cause cause.Unreadable = refl
 utf8-cause cause.TooMany = refl
 utf8-cause (cause.Script fault) = utf8-script fault
-
-pub utf8_three : (a b c : List ℕ) → utf8 (a ++ b ++ c) ≡ utf8 a ++ utf8 b ++ utf8 c
-utf8_three a b c = utf8-append (a ++ b) c ∙ ap (λ (z : List ℕ). z ++ utf8 c) (utf8-append a b)
-
-utf8_four : (a b c d : List ℕ) → utf8 (a ++ b ++ c ++ d) ≡ utf8 a ++ utf8 b ++ utf8 c ++ utf8 d
-utf8_four a b c d = utf8-append (a ++ b ++ c) d ∙ ap (λ (z : List ℕ). z ++ utf8 d) (utf8_three a b c)
-
-pub utf8_five : (a b c d e : List ℕ) → utf8 (a ++ b ++ c ++ d ++ e) ≡ utf8 a ++ utf8 b ++ utf8 c ++ utf8 d ++ utf8 e
-utf8_five a b c d e = utf8-append (a ++ b ++ c ++ d) e ∙ ap (λ (z : List ℕ). z ++ utf8 e) (utf8_four a b c d)

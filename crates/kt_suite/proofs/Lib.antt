@@ -2,7 +2,6 @@ pub mod Common
 pub mod Directories
 pub mod Tables
 pub mod TableLoops
-pub mod ScriptLaws
 pub mod Counting
 pub mod Unfolding
 pub mod Openings

@@ -1,17 +1,14 @@
 -- A file is asked for and opened.
-use Rattle.std.proofs.Common.{Some, None, Result, Ok, Err, ◌≡◌, ℕ, List, [], ◌∷◌, length, arith, refl, sym, subst, ◌⊎◌, inl, inr}
+use Rattle.std.proofs.Common.{Some, None, Result, Ok, Err, ◌≡◌, ℕ, List, ◌∷◌, length, sym, subst, ◌⊎◌, inl, inr}
 use Rattle.kt_suite.proofs.Common.{ScriptFault, Stmt, Spells, IsDue, ReadFault, SuiteCause, NoSyntax, Script, SuiteFault, Asked, Read, IsText, fault_at, read_fault, script_line, IsNoMemory, opening_fault, unread, no_script, no_statement, unopened, WellOpened, well, empty, badly, unclear, Opened, opens, declines, lacks}
 use Rattle.kt_script.specs.Faults.{IfFault}
 use Rattle.kt_suite.specs.Inner.Faults.{Blames}
 use Rattle.kt_script.specs.declared.fault.ScriptFault.TheVariants as script
-
-nothing : {X : Type 0} (xs : List X) → length xs ≡ 0 → xs ≡ []
-nothing [] e = refl
-nothing (x ∷ xs) e = absurd (omega (arith, e))
+use Rattle.std.proofs.lemmas.List.{nil_from_length}
 
 pub well_empty : (file : List ℕ) (stmts : List Stmt) (fault : SuiteFault) → length stmts ≡ 0 → Blames file 1 NoSyntax fault → WellOpened file stmts (Err fault)
 well_empty file stmts fault e (inl n) = unclear fault n
-well_empty file stmts fault e (inr f) = subst (λ (f : SuiteFault). WellOpened file stmts (Err f)) (sym f) (empty (nothing stmts e))
+well_empty file stmts fault e (inr f) = subst (λ (f : SuiteFault). WellOpened file stmts (Err f)) (sym f) (empty (nil_from_length stmts e))
 
 pub well_wrong : (file : List ℕ) (stmts : List Stmt) (first : Stmt) (rest : List Stmt) (cause : SuiteCause) (fault : SuiteFault) → stmts ≡ first ∷ rest → Some cause ≡ opening_fault first.action
     → Blames file first.line cause fault → WellOpened file stmts (Err fault)

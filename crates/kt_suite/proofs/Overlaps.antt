@@ -3,9 +3,7 @@ use Rattle.std.proofs.Common.{◌≡◌, ℕ, Bool, true, false, List, [], ◌�
 use Rattle.kt_suite.proofs.Common.{eq-eqb, eqb-true, and_parts, and_from, Filter, is_within, IsWithin, parts_match, matches, parts_cover, covers, overlap, ShareCase}
 use Rattle.std.proofs.lemmas.Slice.Eq.{bytes_eq-Decides}
 use Rattle.kt_suite.proofs.WithinPaths.{within-append, append-within}
-
-eqb_is : (xs ys : List ℕ) → bytes_eq xs ys ≡ true → xs ≡ ys
-eqb_is xs ys e = (bytes_eq-Decides xs ys).0 e
+use Rattle.kt_base.proofs.Names.{same}
 
 is_eqb : (xs ys : List ℕ) → xs ≡ ys → bytes_eq xs ys ≡ true
 is_eqb xs ys e = (bytes_eq-Decides xs ys).1 e
@@ -88,13 +86,13 @@ covered : (program : List ℕ) (part : Option (List ℕ)) (other : List ℕ) (ot
     → parts_cover program part (record { program = other; case_name = other_part }) ≡ true → parts_match other other_part path case_name ≡ true → parts_match program part path case_name ≡ true
 covered program None other None path case_name e f = within_within program other path e f
 covered program None other (Some own) path case_name e f =
-    ap (λ (p : List ℕ). is_within program p) (eqb_is path other (and_parts (bytes_eq path other) (bytes_eq case_name own) f).0) ∙ e
+    ap (λ (p : List ℕ). is_within program p) (same path other (and_parts (bytes_eq path other) (bytes_eq case_name own) f).0) ∙ e
 covered program (Some mine) other None path case_name e f = absurd (let h = and_parts (bytes_eq program other) false e in let n : false ≡ true = h.1 in cc)
 covered program (Some mine) other (Some own) path case_name e f =
-    let same : (bytes_eq program other ≡ true) × (bytes_eq mine own ≡ true) = and_parts (bytes_eq program other) (bytes_eq mine own) e in
+    let alike : (bytes_eq program other ≡ true) × (bytes_eq mine own ≡ true) = and_parts (bytes_eq program other) (bytes_eq mine own) e in
     let found : (bytes_eq path other ≡ true) × (bytes_eq case_name own ≡ true) = and_parts (bytes_eq path other) (bytes_eq case_name own) f in
-    and_from (bytes_eq path program) (bytes_eq case_name mine) (is_eqb path program (eqb_is path other found.0 ∙ sym (eqb_is program other same.0)))
-    (is_eqb case_name mine (eqb_is case_name own found.1 ∙ sym (eqb_is mine own same.1)))
+    and_from (bytes_eq path program) (bytes_eq case_name mine) (is_eqb path program (same path other found.0 ∙ sym (same program other alike.0)))
+    (is_eqb case_name mine (same case_name own found.1 ∙ sym (same mine own alike.1)))
 
 shared_by : (filter other : Filter) → covers filter other ≡ true → (path case_name : List ℕ) × IsTrue (matches filter path case_name) × IsTrue (matches other path case_name)
 shared_by filter other e =
@@ -118,15 +116,15 @@ meet : (program : List ℕ) (part : Option (List ℕ)) (other : List ℕ) (other
     → (parts_cover program part (record { program = other; case_name = other_part }) || parts_cover other other_part (record { program = program; case_name = part })) ≡ true
 meet program None other None path case_name e f = nested program other path e f
 meet program None other (Some own) path case_name e f =
-    or_left (is_within program other) _ (ap (λ (p : List ℕ). is_within program p) (sym (eqb_is path other (and_parts (bytes_eq path other) (bytes_eq case_name own) f).0)) ∙ e)
+    or_left (is_within program other) _ (ap (λ (p : List ℕ). is_within program p) (sym (same path other (and_parts (bytes_eq path other) (bytes_eq case_name own) f).0)) ∙ e)
 meet program (Some mine) other None path case_name e f =
-    or_right _ (is_within other program) (ap (λ (p : List ℕ). is_within other p) (sym (eqb_is path program (and_parts (bytes_eq path program) (bytes_eq case_name mine) e).0)) ∙ f)
+    or_right _ (is_within other program) (ap (λ (p : List ℕ). is_within other p) (sym (same path program (and_parts (bytes_eq path program) (bytes_eq case_name mine) e).0)) ∙ f)
 meet program (Some mine) other (Some own) path case_name e f =
     let first : (bytes_eq path program ≡ true) × (bytes_eq case_name mine ≡ true) = and_parts (bytes_eq path program) (bytes_eq case_name mine) e in
     let second : (bytes_eq path other ≡ true) × (bytes_eq case_name own ≡ true) = and_parts (bytes_eq path other) (bytes_eq case_name own) f in
     or_left (bytes_eq program other && bytes_eq mine own) _
-    (and_from (bytes_eq program other) (bytes_eq mine own) (is_eqb program other (sym (eqb_is path program first.0) ∙ eqb_is path other second.0))
-    (is_eqb mine own (sym (eqb_is case_name mine first.1) ∙ eqb_is case_name own second.1)))
+    (and_from (bytes_eq program other) (bytes_eq mine own) (is_eqb program other (sym (same path program first.0) ∙ same path other second.0))
+    (is_eqb mine own (sym (same case_name mine first.1) ∙ same case_name own second.1)))
 
 pub sharing : (filter other : Filter) → ShareCase filter other → IsTrue (overlap filter other)
 sharing filter other s = meet filter.program filter.case_name other.program other.case_name s.0 s.1 s.2 s.3

@@ -3,6 +3,7 @@ use Rattle.std.proofs.Common.{drop, Option, None, Ok, Err, ◌≡◌, ◌-◌, �
 use Rattle.kt_suite.proofs.Common.{append_assoc, append-nil, take_at, Stmt, SuiteFault, Registry, Chain, Asked, Read, meaning_of, Mark, Asks, Part, Says, said, suite_after, StatementsSay, none, one, opened, Unfolds, end, says, questions_in, Counted, Walked, through, stops, short, FileGives, MeaningGives, Opened, opens}
 use Rattle.kt_suite.proofs.Counting.{counted-append, counted-reading, same_reading, chain_of_marks, chain_then, next-append}
 use Rattle.kt_suite.proofs.Unfolding.{unfolds-append, some_marks, some_parts}
+use Rattle.std.proofs.lemmas.List.{nil_from_length}
 
 -- a registry while a file is read
 abbrev pub begun : Registry → List ℕ → Registry
@@ -86,10 +87,6 @@ reading_stops asks old mid new start file r suite stmt rest left _ e f (short fr
     (counted-reading (begun start file) last (f.front ++ front) start.reading (counted-append (begun start file) r last f.front front f.counted k))
     n
 
-nothing : {X : Type 0} (xs : List X) → length xs ≡ 0 → xs ≡ []
-nothing [] e = refl
-nothing (x ∷ xs) e = absurd (omega (arith, e))
-
 without : (xs : List (List ℕ)) (x : List ℕ) → take (length (xs ++ x ∷ []) - 1) (xs ++ x ∷ []) ≡ xs
 without xs x = take_at xs (x ∷ []) (length (xs ++ x ∷ []) - 1) (omega (arith, length-append xs (x ∷ [])))
 
@@ -100,6 +97,6 @@ pub reading_all : {T : Type 0} (asks : T → Asked → T → Type 0) (old new : 
 reading_all asks old new start file r after suite left e f a =
     let same : r.reading ≡ start.reading ++ file ∷ [] = same_reading (begun start file) r f.front f.counted in
     let back : take (length r.reading - 1) r.reading ≡ start.reading = ap (λ (xs : List (List ℕ)). take (length xs - 1) xs) same ∙ without start.reading file in
-    let whole : FileGives start.reading file (f.front ++ []) = f.goes_on [] [] (subst (λ (xs : List Stmt). StatementsSay file suite xs []) (sym (nothing left e)) (none suite)) (end _) in
+    let whole : FileGives start.reading file (f.front ++ []) = f.goes_on [] [] (subst (λ (xs : List Stmt). StatementsSay file suite xs []) (sym (nil_from_length left e)) (none suite)) (end _) in
     through f.front after (file_gives_to start.reading file (f.front ++ []) f.front (append-nil f.front) whole) f.chain
     (subst (λ (x : Registry). Counted start f.front x) (sym (a ∙ ap (λ (xs : List (List ℕ)). record r { reading = xs }) back)) (counted-reading (begun start file) r f.front start.reading f.counted))

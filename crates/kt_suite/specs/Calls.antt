@@ -1,5 +1,6 @@
 -- The calls and keys that a Kyuafile knows by name.
-use Rattle.std.specs.Prelude.{ℕ, List, codes, bytes_eq, if◌then◌else◌}
+use Rattle.std.specs.Prelude.{ℕ, List, [], ◌∷◌, codes, bytes_eq, if◌then◌else◌, unwrap_or}
+use Rattle.kt_base.specs.Words.{named}
 use Rattle.kt_base.specs.declared.child.Interface.TheVariants.{Atf, Tap, Plain}
 use Rattle.kt_metadata.specs.Properties.{is_kyuafile_property}
 use Rattle.kt_suite.specs.declared.call.Call.{Call}
@@ -7,16 +8,19 @@ use Rattle.kt_suite.specs.declared.call.Call.TheVariants as call
 use Rattle.kt_suite.specs.declared.call.Key.{Key}
 use Rattle.kt_suite.specs.declared.call.Key.TheVariants as key
 
+-- the calls by their names
+abbrev pub calls : List (List ℕ × Call)
+calls =
+    (codes "syntax", call.Syntax)
+    ∷ (codes "test_suite", call.TestSuite)
+    ∷ (codes "include", call.Include)
+    ∷ (codes "atf_test_program", call.Program Atf)
+    ∷ (codes "tap_test_program", call.Program Tap)
+    ∷ (codes "plain_test_program", call.Program Plain) ∷ []
+
 -- what a call of this name asks for
 abbrev pub call_named : List ℕ → Call
-call_named name =
-    if bytes_eq name (codes "syntax") then call.Syntax
-    else if bytes_eq name (codes "test_suite") then call.TestSuite
-    else if bytes_eq name (codes "include") then call.Include
-    else if bytes_eq name (codes "atf_test_program") then call.Program Atf
-    else if bytes_eq name (codes "tap_test_program") then call.Program Tap
-    else if bytes_eq name (codes "plain_test_program") then call.Program Plain
-    else call.Unknown
+call_named name = unwrap_or (named calls name) call.Unknown
 
 -- what a key of this name declares of a program
 abbrev pub key_named : List ℕ → Key

@@ -4,11 +4,12 @@ ghost use Rattle.kt_base.specs.Utf8.{utf8};
 ghost use Rattle.kt_suite.specs.FaultWords.{cause_words, fixed_words};
 ghost use Rattle.kt_suite.specs.declared.cause.SuiteCause.TheVariants as cause;
 
-use kt_base::{Decimal, NoMemory, OutputFault, emit, emit_all};
+use crate::ReadFault;
+use kt_base::{Decimal, NoMemory, OUT_OF_MEMORY, OutputFault, emit, emit_all};
+use kt_metadata::PropFault;
 use kt_script::ScriptFault;
-use std::error::Error;
-use std::fmt;
 use std::io::Write;
+use thiserror::Error;
 
 /// Stands before the number of `WrongSyntax`.
 const SYNTAX: &str = "syntax ";
@@ -18,13 +19,15 @@ const NOT_SUPPORTED: &str = " not supported";
 
 /// Why a tree of Kyuafiles was refused, by the rules of kyuafile(5) and of this profile. `Display`
 /// prints the words of the fault's line (this profile).
-#[derive(Clone, Copy, Debug)]
+#[derive(Clone, Copy, Debug, Error)]
+#[error("{}", self.words())]
 pub enum SuiteCause {
     /// It has no file and no line.
     NoMemory(NoMemory),
     /// The first statement of a file isn't a call of `syntax`.
     NoSyntax,
     /// The file declares a syntax other than 2.
+    #[error("{SYNTAX}{0}{NOT_SUPPORTED}")]
     WrongSyntax(u64),
     /// An unknown call, an assignment, or a second `syntax`.
     UnknownCall,
@@ -58,19 +61,19 @@ impl SuiteCause {
         ensures { result.now ≡ fixed_words self.now }
     {
         match self {
-            SuiteCause::NoMemory(_) => "out of memory",
+            SuiteCause::NoMemory(_) => OUT_OF_MEMORY,
             SuiteCause::NoSyntax => "syntax(2) expected",
             SuiteCause::WrongSyntax(_) => "",
             SuiteCause::UnknownCall => "unknown call",
-            SuiteCause::UnknownProperty => "unknown property",
-            SuiteCause::BadValue => "bad value",
+            SuiteCause::UnknownProperty => PropFault::UnknownProperty.words(),
+            SuiteCause::BadValue => PropFault::BadValue.words(),
             SuiteCause::NoSuite => "no test suite",
             SuiteCause::PathHasDirectory => "program name has a directory",
             SuiteCause::BadInclude => "bad include path",
             SuiteCause::IncludeLoop => "include loop",
             SuiteCause::TooDeep => "includes too deep",
             SuiteCause::MissingProgram => "program not found",
-            SuiteCause::Unreadable => "file could not be read",
+            SuiteCause::Unreadable => ReadFault::Failed.words(),
             SuiteCause::TooMany => "too many programs or files",
             SuiteCause::Script(fault) => fault.words(),
         }
@@ -97,17 +100,6 @@ impl SuiteCause {
         }
     }
 }
-
-impl fmt::Display for SuiteCause {
-    fn fmt<W: fmt::Write>(&self, f: &mut fmt::Formatter<W>) -> fmt::Result {
-        match self {
-            SuiteCause::WrongSyntax(n) => write!(f, "{SYNTAX}{n}{NOT_SUPPORTED}"),
-            _ => f.write_str(self.words()),
-        }
-    }
-}
-
-impl Error for SuiteCause {}
 
 impl From<NoMemory> for SuiteCause {
     ghost from_gives = { λ refusal c. c ≡ cause.NoMemory refusal };

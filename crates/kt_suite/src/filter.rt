@@ -4,14 +4,14 @@ ghost use Rattle.kt_suite.specs.Filters.{counts, plain_path, case_fault, parts_f
 ghost use Rattle.kt_suite.specs.declared.filter.FilterFault.TheVariants as fault;
 
 use crate::within::{is_same, is_within};
-use kt_base::{NoMemory, Text};
+use kt_base::{NoMemory, OUT_OF_MEMORY, Text};
 use std::alloc::Global;
-use std::error::Error;
-use std::fmt;
+use thiserror::Error;
 
 /// Why a filter, or a list of them, was refused. A number is a position in the list, from 0. `Display`
 /// prints the words of the fault's line (this profile), which shows the filter itself.
-#[derive(Clone, Copy, Debug)]
+#[derive(Clone, Copy, Debug, Error)]
+#[error("{}", self.words())]
 pub enum FilterFault {
     NoMemory(NoMemory),
     /// It names no program.
@@ -34,7 +34,7 @@ impl FilterFault {
         ensures { result.now ≡ filter_words self.now }
     {
         match self {
-            FilterFault::NoMemory(_) => "out of memory",
+            FilterFault::NoMemory(_) => OUT_OF_MEMORY,
             FilterFault::Empty => "empty",
             FilterFault::Absolute => "absolute",
             FilterFault::EmptyCase => "empty case",
@@ -43,14 +43,6 @@ impl FilterFault {
         }
     }
 }
-
-impl fmt::Display for FilterFault {
-    fn fmt<W: fmt::Write>(&self, f: &mut fmt::Formatter<W>) -> fmt::Result {
-        f.write_str(self.words())
-    }
-}
-
-impl Error for FilterFault {}
 
 impl From<NoMemory> for FilterFault {
     ghost from_gives = { λ refusal e. e ≡ fault.NoMemory refusal };

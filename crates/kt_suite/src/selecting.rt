@@ -6,13 +6,13 @@ ghost use Rattle.kt_suite.specs.Selecting.{most_items, matches_item, is_selected
 ghost use Rattle.kt_suite.specs.declared.selecting.SelectFault.TheVariants as fault;
 
 use crate::Filter;
-use kt_base::{NoMemory, Text};
+use kt_base::{NoMemory, OUT_OF_MEMORY, Text};
 use std::alloc::Global;
-use std::error::Error;
-use std::fmt;
+use thiserror::Error;
 
 /// Why nothing was selected. `Display` prints the words of the fault's line (this profile).
-#[derive(Clone, Copy, Debug)]
+#[derive(Clone, Copy, Debug, Error)]
+#[error("{}", self.words())]
 pub enum SelectFault {
     NoMemory(NoMemory),
     /// Over 100,000 items.
@@ -27,19 +27,11 @@ impl SelectFault {
         ensures { result.now ≡ select_words self.now }
     {
         match self {
-            SelectFault::NoMemory(_) => "out of memory",
+            SelectFault::NoMemory(_) => OUT_OF_MEMORY,
             SelectFault::TooMany => "too many cases",
         }
     }
 }
-
-impl fmt::Display for SelectFault {
-    fn fmt<W: fmt::Write>(&self, f: &mut fmt::Formatter<W>) -> fmt::Result {
-        f.write_str(self.words())
-    }
-}
-
-impl Error for SelectFault {}
 
 impl From<NoMemory> for SelectFault {
     ghost from_gives = { λ refusal e. e ≡ fault.NoMemory refusal };

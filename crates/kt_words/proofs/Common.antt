@@ -1,6 +1,7 @@
 -- The names that most proofs of this crate cite, passed on from one place. Declares nothing.
 pub use Rattle.std.proofs.lemmas.Iterator.{YieldsList-from_slice, items_from_collect}
 pub use Rattle.std.specs.List.{list_all, prefix_len}
+unfoldable pub use Rattle.std.specs.Str.{chars}
 pub use Rattle.clap.proofs.WalkLemmas.{first_value-rows, raw_values-rows}
 pub use Rattle.clap.specs.Simple.{app_of_fields, argument_words, entered, label_of, names_of, on_top, rows_at}
 pub use Rattle.clap.specs.Words.{AddsArg, AddsSubcommand, App, HasKind, HasMatchesOf, IsAmong, IsParsedFrom, Row, Rule, Shape, Text, all_of, app_of, built, fault_of, first_of, found_of, is_simple, is_simple_and_free, kind_of, matches_of, new_app, rows_of, rule_of, subcommand_of, subcommand_rows, subcommand_rows_of, with_rule, with_subcommand}

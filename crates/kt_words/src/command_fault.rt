@@ -1,14 +1,14 @@
-ghost use Rattle.std.specs.Prelude.{◌≡◌};
+ghost use Rattle.std.specs.Prelude.{◌≡◌, chars};
 ghost use Rattle.clap.specs.Words.{kind_of};
 ghost use Rattle.clap.specs.declared.error.kind.ErrorKind.TheVariants.{OutOfMemory};
+ghost use Rattle.kt_words.specs.FaultWords.{command_words};
 ghost use Rattle.kt_words.specs.Reading.{RefusesWords};
 ghost use Rattle.kt_words.specs.declared.command_fault.CommandFault.TheVariants as fault;
 
 use clap::error::ErrorKind;
-use kt_base::{NoMemory, Text};
+use kt_base::{NoMemory, OUT_OF_MEMORY, Text};
 use std::alloc::Global;
-use std::error::Error;
-use std::fmt;
+use thiserror::Error;
 
 /// Memory ran out while words were read. Only a refusal of the allocator, or of `clap`, makes this value.
 #[derive(Clone, Copy, Debug)]
@@ -20,8 +20,9 @@ pub struct Shortage {
 #[derive(Clone, Copy, Debug)]
 struct Refusal;
 
-/// Why a command line was refused. `Display` is the text of the fault line (this profile), or what `clap` says.
-#[derive(Debug, Drop)]
+/// Why a command line was refused.
+#[derive(Debug, Drop, Error)]
+#[error("{}", self.words())]
 pub enum CommandFault {
     NoMemory(Shortage),
     /// The words are no command; this is what `clap` says of them, or the help that was asked for.
@@ -32,19 +33,6 @@ pub enum CommandFault {
     BadRun,
 }
 
-impl fmt::Display for CommandFault {
-    fn fmt<W: fmt::Write>(&self, f: &mut fmt::Formatter<W>) -> fmt::Result {
-        f.write_str(match self {
-            CommandFault::NoMemory(_) => "out of memory",
-            CommandFault::Usage(text) => text.as_str(),
-            CommandFault::BadKind => "bad results filter",
-            CommandFault::BadRun => "bad run number",
-        })
-    }
-}
-
-impl Error for CommandFault {}
-
 impl From<NoMemory> for CommandFault {
     ghost from_gives = { λ _ e. e ≡ fault.NoMemory (record { refusal = record {} }) };
 
@@ -54,6 +42,19 @@ impl From<NoMemory> for CommandFault {
 }
 
 impl CommandFault {
+    /// The words of the fault's line (this profile), or all that `clap` says. `Display` prints them.
+    #[tactic(auto, unfolding(crate::proofs::Common::chars))]
+    pub fn words(&self) -> &str
+        ensures { chars result.now ≡ command_words self.now }
+    {
+        match self {
+            CommandFault::NoMemory(_) => OUT_OF_MEMORY,
+            CommandFault::Usage(text) => text.as_str(),
+            CommandFault::BadKind => "bad results filter",
+            CommandFault::BadRun => "bad run number",
+        }
+    }
+
     /// What `clap` says of words that are no command.
     pub(crate) fn of_words(alloc: Global, error: clap::Error) -> CommandFault
         ensures { RefusesWords (kind_of error ≡ OutOfMemory) result }

@@ -8,7 +8,7 @@ use crate::driving::running_children::{RunningChildren, refuse};
 use crate::driving::starts::{memory_refusal, spawning, take_number, want_and_limit};
 use crate::planning::{Case, Purpose};
 use crate::{Os, Paths, workdir_plan};
-use kt_base::{NoMemory, Refused, Role, Text};
+use kt_base::{NoMemory, OUT_OF_MEMORY, Refused, Role, Text};
 use kt_removal::numbered_path;
 use kt_sched::{Ended, Job, Launcher, StartAnswer};
 use std::alloc::Global;
@@ -31,7 +31,7 @@ impl DriverFault {
         ensures { result.now ≡ driver_words self }
     {
         match self {
-            DriverFault::NoMemory(_) => "out of memory",
+            DriverFault::NoMemory(_) => OUT_OF_MEMORY,
             DriverFault::NoWorkDirectory => "no work directory",
         }
     }

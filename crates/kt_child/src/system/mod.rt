@@ -16,7 +16,7 @@ pub enum OsFault {
     #[error("system call failed")]
     Failed,
     /// The call itself was refused memory.
-    #[error("out of memory")]
+    #[error(transparent)]
     Memory(NoMemory),
 }
 

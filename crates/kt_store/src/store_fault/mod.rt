@@ -3,6 +3,7 @@
 pub(crate) mod statements;
 pub(crate) mod trees;
 
+use kt_base::OUT_OF_MEMORY;
 use thiserror::Error;
 
 /// Why a call of the store is refused. `Display` prints its words.
@@ -36,7 +37,7 @@ impl StoreFault {
         ensures { result.now ≡ fault_words self.now }
     {
         match self {
-            StoreFault::NoMemory(_) => "out of memory",
+            StoreFault::NoMemory(_) => OUT_OF_MEMORY,
             _ => "results store failed",
         }
     }

@@ -1,8 +1,8 @@
 use Rattle.std.proofs.Common.{codes, sym}
 use Rattle.kt_cli.proofs.Common.{encode, utf8, shows_as, shows_both, shows_error, shows_more}
 use Rattle.kt_plan.specs.StopWords.{stop_words}
-use Rattle.kt_cli.proofs.Utf8Sums.{utf8_three}
 use Rattle.kt_cli.proofs.messages.write_stop.Goals as goal
+use Rattle.kt_base.proofs.Showing.{utf8_three}
 
 pub returns-in_err-emit : goal.returns-in_err-emit
 unfolding encode

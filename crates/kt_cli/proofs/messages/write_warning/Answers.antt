@@ -1,7 +1,7 @@
 use Rattle.std.proofs.Common.{codes, sym}
 use Rattle.kt_cli.proofs.Common.{encode, shows_as}
-use Rattle.kt_cli.proofs.Utf8Sums.{utf8_three}
 use Rattle.kt_cli.proofs.messages.write_warning.Goals as goal
+use Rattle.kt_base.proofs.Showing.{utf8_three}
 
 pub returns : goal.returns
 unfolding encode

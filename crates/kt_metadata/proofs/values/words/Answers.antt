@@ -1,7 +1,7 @@
 use Rattle.std.proofs.Common.{◌≡◌, ◌∙◌, ◌∷◌, ◌++◌, ◌+◌, List, ℕ, ap, sym, arith, drop, length}
 use Rattle.kt_metadata.proofs.Common.{common_steps, words, words_from}
-use Rattle.kt_metadata.proofs.WordsEnding.{no-length}
 use Rattle.kt_metadata.proofs.values.words.Goals as goal
+use Rattle.std.proofs.lemmas.List.{nil_from_length}
 
 pub loop-c-init : goal.loop-c-init
 loop-c-init c =
@@ -16,4 +16,4 @@ loop-c-preserved c =
 pub returns : goal.returns
 returns c =
     let none : length (drop c.loop-c.c-index c.deref-c-items.result.now) ≡ 0 = grind (arith, common_steps) in
-    c.in_ok-end_word.ensures ∙ ap (λ (rest : List ℕ). c.loop-c.found ++ words_from c.loop-c.word rest) (sym (no-length (drop c.loop-c.c-index c.deref-c-items.result.now) none)) ∙ c.loop-c.invariant
+    c.in_ok-end_word.ensures ∙ ap (λ (rest : List ℕ). c.loop-c.found ++ words_from c.loop-c.word rest) (sym (nil_from_length (drop c.loop-c.c-index c.deref-c-items.result.now) none)) ∙ c.loop-c.invariant

@@ -1,8 +1,8 @@
 use Rattle.std.proofs.Common.{rules, ◌≡◌, ◌∷◌, List, ap, refl, take, Ok, Err}
 use Rattle.kt_cli.proofs.Common.{Candidate, world_of}
-use Rattle.kt_cli.proofs.Saying.{nothing}
 use Rattle.kt_cli.proofs.Testings.{idle_answer, short_only, printed_memory, debug_parts, debug_short, debugged_as}
 use Rattle.kt_cli.proofs.commands.debugging.debug_picked.Goals as goal
+use Rattle.std.proofs.lemmas.List.{nil_from_length}
 
 pub returns-in-Err-clause-told : goal.returns-in-Err-clause-told
 returns-in-Err-clause-told g c = λ start selects.
@@ -14,7 +14,7 @@ returns-in_default-clause-told g c = λ start selects.
     let a : c.as_slice-cases.result.now ≡ c.args.picked.now.chosen.cases = search rules in
     let b : c.as_slice.result.now ≡ c.args.options.now.filters = search rules in
     let d : c.as_slice-unmatched.result.now ≡ c.args.picked.now.chosen.unmatched = search rules in
-    idle_answer (world_of g.W.Tree g.W.Launcher g.W.World) c.args.options.now _ _ _ _ _ _ c.args.picked.now _ _ _ selects a (nothing _ c.in_default.ensures.cases) b d c.write_warnings-warned.ensures c.ended.ensures
+    idle_answer (world_of g.W.Tree g.W.Launcher g.W.World) c.args.options.now _ _ _ _ _ _ c.args.picked.now _ _ _ selects a (nil_from_length _ c.in_default.ensures.cases) b d c.write_warnings-warned.ensures c.ended.ensures
 
 pub returns-in-Ok-answer-clause-told : goal.returns-in-Ok-answer-clause-told
 returns-in-Ok-answer-clause-told g c = λ start selects.

@@ -1,8 +1,8 @@
 use Rattle.std.proofs.Common.{rules, ◌≡◌, ◌≤◌, ◌+◌, suc, drop, length, ◌++◌, ◌∷◌, [], List, arith, ap, subst, sym}
 use Rattle.kt_cli.proofs.Common.{common_steps, vec_len, vec_capacity, Command, Exit, scene, world_of}
-use Rattle.kt_cli.proofs.Saying.{nothing}
 use Rattle.kt_cli.proofs.Sequencing.{GoesOn, goes_first, goes_more, goes_all}
 use Rattle.kt_cli.proofs.commands.execution.execute_all.Goals as goal
+use Rattle.std.proofs.lemmas.List.{nil_from_length}
 
 pub loop-command-init : goal.loop-command-init
 loop-command-init g c =
@@ -40,4 +40,4 @@ returns-clause-did g c =
     let none : length rest ≡ 0 = grind (arith, common_steps) in
     let old = scene c.args.world.now c.args.results.now (g.O.Write.contents c.args.out.now) in
     let new = scene c.loop-command.world c.loop-command.results (g.O.Write.contents c.loop-command.out) in
-    goes_all (world_of g.W.Tree g.W.Launcher g.W.World) g.R.Keeping _ _ _ _ (subst (λ (cs : List Command). GoesOn (world_of g.W.Tree g.W.Launcher g.W.World) g.R.Keeping c.args.commands.now cs old new c.loop-command.exits.items) (nothing rest none) c.loop-command.invariant.goes)
+    goes_all (world_of g.W.Tree g.W.Launcher g.W.World) g.R.Keeping _ _ _ _ (subst (λ (cs : List Command). GoesOn (world_of g.W.Tree g.W.Launcher g.W.World) g.R.Keeping c.args.commands.now cs old new c.loop-command.exits.items) (nil_from_length rest none) c.loop-command.invariant.goes)

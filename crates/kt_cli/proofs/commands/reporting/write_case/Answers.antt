@@ -1,8 +1,8 @@
 use Rattle.std.proofs.Common.{Ok, Err, refl}
 use Rattle.kt_cli.proofs.Common.{WritesCase, Outputs}
-use Rattle.kt_cli.proofs.JunitSteps.{error_is}
 use Rattle.kt_cli.proofs.StoreChains.{stored_call}
 use Rattle.kt_cli.proofs.commands.reporting.write_case.Goals as goal
+use Rattle.kt_base.proofs.Lists.{error_is}
 
 pub returns-in_err-outputs : goal.returns-in_err-outputs
 returns-in_err-outputs g c =

@@ -1,6 +1,7 @@
 use Rattle.kt_cli.proofs.Common.{WritesJunit}
-use Rattle.kt_cli.proofs.JunitSteps.{error_is, writes_none, heading_cut, writes_next, case_stops, writes_all, end_cut}
+use Rattle.kt_cli.proofs.JunitSteps.{writes_none, heading_cut, writes_next, case_stops, writes_all, end_cut}
 use Rattle.kt_cli.proofs.commands.reporting.write_junit.Goals as goal
+use Rattle.kt_base.proofs.Lists.{error_is}
 
 pub returns-in_err-junit_heading : goal.returns-in_err-junit_heading
 returns-in_err-junit_heading g c =

@@ -1,7 +1,7 @@
 use Rattle.std.proofs.Common.{codes, sym, ◌∙◌}
 use Rattle.kt_cli.proofs.Common.{encode, decimal, shows_as}
-use Rattle.kt_cli.proofs.Utf8Sums.{utf8_three}
 use Rattle.kt_cli.proofs.commands.reporting.write_no_run.Goals as goal
+use Rattle.kt_base.proofs.Showing.{utf8_three}
 
 pub returns : goal.returns
 unfolding encode

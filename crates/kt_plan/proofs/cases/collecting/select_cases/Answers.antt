@@ -2,8 +2,9 @@ use Rattle.std.proofs.Common.{Result}
 use Rattle.kt_plan.proofs.Common.{Answered, Stop, leads_by}
 use Rattle.kt_plan.specs.Selecting.{SelectsOrShort}
 use Rattle.kt_plan.specs.declared.cases.Picked.{Picked}
-use Rattle.kt_plan.proofs.SelectLaws.{error_is, unsettled_answer, uncollected_answer, selected_answer}
+use Rattle.kt_plan.proofs.SelectLaws.{unsettled_answer, uncollected_answer, selected_answer}
 use Rattle.kt_plan.proofs.cases.collecting.select_cases.Goals as goal
+use Rattle.kt_base.proofs.Lists.{error_is}
 
 pub returns-in_err-settings-clause-selects : goal.returns-in_err-settings-clause-selects
 returns-in_err-settings-clause-selects g c =

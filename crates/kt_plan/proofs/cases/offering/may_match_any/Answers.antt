@@ -1,8 +1,8 @@
 use Rattle.std.proofs.Common.{true, false, ◌≡◌, ◌∷◌, ◌∙◌, sym, refl, ◌+◌, arith, drop, length}
 use Rattle.kt_plan.proofs.Common.{common_steps, MayMatch}
-use Rattle.kt_plan.proofs.Rests.{none_left}
 use Rattle.kt_plan.proofs.Wanting.{among_after, found_first, ahead_after, none_matches}
 use Rattle.kt_plan.proofs.cases.offering.may_match_any.Goals as goal
+use Rattle.std.proofs.lemmas.List.{nil_from_length}
 
 pub loop-filter-init : goal.loop-filter-init
 loop-filter-init c = record { among = λ one h. h; ahead = λ any. any }
@@ -24,4 +24,4 @@ loop-filter-preserved c =
 pub returns : goal.returns
 returns c =
     let none : length (drop c.loop-filter.filter-index c.args.filters.now) ≡ 0 = grind (arith, common_steps) in
-    (λ f. absurd (cc), λ any. absurd (none_matches (drop c.loop-filter.filter-index c.args.filters.now) c.args.filters.now c.args.path.now (none_left _ none) c.loop-filter.invariant.ahead any))
+    (λ f. absurd (cc), λ any. absurd (none_matches (drop c.loop-filter.filter-index c.args.filters.now) c.args.filters.now c.args.path.now (nil_from_length _ none) c.loop-filter.invariant.ahead any))

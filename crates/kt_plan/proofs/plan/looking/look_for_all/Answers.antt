@@ -2,8 +2,8 @@ use Rattle.std.proofs.Common.{◌≡◌, ◌∷◌, ◌+◌, ap, arith, drop, le
 use Rattle.kt_plan.proofs.Common.{common_steps, err_from_is_err_and, meta_in, needs_by, needs_of}
 use Rattle.kt_plan.proofs.Chains.{asked_short}
 use Rattle.kt_plan.proofs.LookLaws.{looking_next, looking_all, looking_stopped}
-use Rattle.kt_plan.proofs.Rests.{none_left}
 use Rattle.kt_plan.proofs.plan.looking.look_for_all.Goals as goal
+use Rattle.std.proofs.lemmas.List.{nil_from_length}
 
 pub returns-in_err-look_for_case : goal.returns-in_err-look_for_case
 returns-in_err-look_for_case g c =
@@ -20,4 +20,4 @@ loop-candidate-preserved g c =
 pub returns : goal.returns
 returns g c =
     let none : length (drop c.loop-candidate.candidate-index c.args.cases.now) ≡ 0 = grind (arith, common_steps) in
-    looking_all g.W.World.tells (needs_of c.args.cases.now) c.args.world.now c.args.host.now (needs_of (drop c.loop-candidate.candidate-index c.args.cases.now)) c.loop-candidate.world c.loop-candidate.host (ap needs_of (none_left (drop c.loop-candidate.candidate-index c.args.cases.now) none)) c.loop-candidate.invariant
+    looking_all g.W.World.tells (needs_of c.args.cases.now) c.args.world.now c.args.host.now (needs_of (drop c.loop-candidate.candidate-index c.args.cases.now)) c.loop-candidate.world c.loop-candidate.host (ap needs_of (nil_from_length (drop c.loop-candidate.candidate-index c.args.cases.now) none)) c.loop-candidate.invariant

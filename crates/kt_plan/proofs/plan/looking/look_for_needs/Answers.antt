@@ -3,8 +3,8 @@ use Rattle.kt_plan.proofs.Common.{common_steps, err_from_is_err_and, Need, Meta,
 use Rattle.kt_metadata.specs.Effective.{effective}
 use Rattle.kt_plan.proofs.Chains.{asked_short}
 use Rattle.kt_plan.proofs.LookLaws.{looking_next, looking_all, looking_stopped}
-use Rattle.kt_plan.proofs.Rests.{none_left}
 use Rattle.kt_plan.proofs.plan.looking.look_for_needs.Goals as goal
+use Rattle.std.proofs.lemmas.List.{nil_from_length}
 
 among_next : (needs : List Need) (i : ℕ) (d : Need) (meta : Meta) → i < length needs → needs_among (drop i needs) meta ≡ needs_in (get_or needs i d) (needed (get_or needs i d) meta) ++ needs_among (drop (i + 1) needs) meta
 among_next needs i d meta few =
@@ -28,4 +28,4 @@ loop-need-preserved g c =
 pub returns : goal.returns
 returns g c =
     let none : length (drop c.loop-need.need-index c.args.needs.now) ≡ 0 = grind (arith, common_steps) in
-    looking_all g.W.World.tells (needs_among c.args.needs.now (effective c.args.props.now)) c.args.world.now c.args.host.now (needs_among (drop c.loop-need.need-index c.args.needs.now) (effective c.args.props.now)) c.loop-need.world c.loop-need.host (ap (λ (needs : List Need). needs_among needs (effective c.args.props.now)) (none_left (drop c.loop-need.need-index c.args.needs.now) none)) c.loop-need.invariant
+    looking_all g.W.World.tells (needs_among c.args.needs.now (effective c.args.props.now)) c.args.world.now c.args.host.now (needs_among (drop c.loop-need.need-index c.args.needs.now) (effective c.args.props.now)) c.loop-need.world c.loop-need.host (ap (λ (needs : List Need). needs_among needs (effective c.args.props.now)) (nil_from_length (drop c.loop-need.need-index c.args.needs.now) none)) c.loop-need.invariant

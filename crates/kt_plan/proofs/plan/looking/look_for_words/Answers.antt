@@ -2,8 +2,8 @@ use Rattle.std.proofs.Common.{◌≡◌, ◌∷◌, [], ◌+◌, ap, arith, drop
 use Rattle.kt_plan.proofs.Common.{common_steps, err_from_is_err_and, needs_in}
 use Rattle.kt_plan.proofs.Chains.{asked_short}
 use Rattle.kt_plan.proofs.LookLaws.{looking_next, looking_all, looking_stopped}
-use Rattle.kt_plan.proofs.Rests.{none_left}
 use Rattle.kt_plan.proofs.plan.looking.look_for_words.Goals as goal
+use Rattle.std.proofs.lemmas.List.{nil_from_length}
 
 pub returns-in_err-look_for_word : goal.returns-in_err-look_for_word
 returns-in_err-look_for_word g c =
@@ -20,4 +20,4 @@ loop-word-preserved g c =
 pub returns : goal.returns
 returns g c =
     let none : length (drop c.loop-word.word-index c.args.words.now) ≡ 0 = grind (arith, common_steps) in
-    looking_all g.W.World.tells (needs_in c.args.need c.args.words.now) c.args.world.now c.args.host.now (needs_in c.args.need (drop c.loop-word.word-index c.args.words.now)) c.loop-word.world c.loop-word.host (ap (needs_in c.args.need) (none_left (drop c.loop-word.word-index c.args.words.now) none)) c.loop-word.invariant
+    looking_all g.W.World.tells (needs_in c.args.need c.args.words.now) c.args.world.now c.args.host.now (needs_in c.args.need (drop c.loop-word.word-index c.args.words.now)) c.loop-word.world c.loop-word.host (ap (needs_in c.args.need) (nil_from_length (drop c.loop-word.word-index c.args.words.now) none)) c.loop-word.invariant

@@ -1,9 +1,10 @@
+use Rattle.std.proofs.Common.{◌∙◌}
 use Rattle.kt_plan.proofs.Common.{encode}
 use Rattle.kt_plan.proofs.stop.Stop.print.Goals as goal
 
 pub returns-in-NoMemory : goal.returns-in-NoMemory
 unfolding encode
-returns-in-NoMemory g c = rw c.in-NoMemory.is c.emit.ensures
+returns-in-NoMemory g c = rw c.in-NoMemory.is (rw c.as_bytes.ensures.value at c.emit.ensures)
 
 pub returns-in-UnreadConfiguration : goal.returns-in-UnreadConfiguration
 unfolding encode
@@ -15,4 +16,4 @@ returns-in-NeedsCase g c = rw c.in-NeedsCase.is c.emit-in-NeedsCase.ensures
 
 pub returns-in-TooManyCases : goal.returns-in-TooManyCases
 unfolding encode
-returns-in-TooManyCases g c = rw c.in-TooManyCases.is c.emit-in-TooManyCases.ensures
+returns-in-TooManyCases g c = rw c.in-TooManyCases.is (rw (c.as_bytes-in-TooManyCases.ensures.value ∙ c.words.ensures) at c.emit-in-TooManyCases.ensures)

@@ -1,8 +1,8 @@
 use Rattle.kt_sched.proofs.Common.{sym, subst, SchedState, Stands, HasDecided, HasRecord, HasTurn}
-use Rattle.kt_sched.proofs.Lists.{some_is}
 use Rattle.kt_sched.proofs.Located.{start_within}
 use Rattle.kt_sched.proofs.Opened.{stands_opened, told_now}
 use Rattle.kt_sched.proofs.sched.Sched.open_decided.Goals as goal
+use Rattle.std.proofs.lemmas.Option.{same_Some}
 
 pub is_decided-requires : goal.is_decided-requires
 is_decided-requires c =
@@ -23,4 +23,4 @@ pub returns-then-is_decided-clause-told : goal.returns-then-is_decided-clause-to
 returns-then-is_decided-clause-told c = λ q k e.
     let t = subst (λ (b : SchedState). HasTurn b c.in-Some.i) (sym c.self.view_is) c.in-Some.ensures in
     let d = subst (HasDecided c.self.inside.cases.items c.in-Some.i) c.if-is_decided.true c.is_decided.ensures in
-    subst (HasRecord c.self.inside.cases.items) (some_is c.in-Some.i k e) (told_now c.self.invariant.3 t d)
+    subst (HasRecord c.self.inside.cases.items) (same_Some c.in-Some.i k e) (told_now c.self.invariant.3 t d)

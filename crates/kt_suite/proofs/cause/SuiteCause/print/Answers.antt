@@ -1,7 +1,8 @@
 use Rattle.std.proofs.Common.{codes, ap, sym, ◌∙◌}
 use Rattle.kt_suite.proofs.Common.{encode, decimal, utf8, shows_as}
-use Rattle.kt_suite.proofs.FaultWords.{utf8-cause, fixed-cause, utf8_three}
+use Rattle.kt_suite.proofs.FaultWords.{utf8-cause, fixed-cause}
 use Rattle.kt_suite.proofs.cause.SuiteCause.print.Goals as goal
+use Rattle.kt_base.proofs.Showing.{utf8_three}
 
 pub returns-in-WrongSyntax : goal.returns-in-WrongSyntax
 unfolding encode

@@ -1,7 +1,7 @@
 use Rattle.std.proofs.Common.{codes, sym, ◌∙◌}
 use Rattle.kt_suite.proofs.Common.{encode, decimal, utf8, shows_as, shows_both, shows_error, shows_more, cause_words}
-use Rattle.kt_suite.proofs.FaultWords.{utf8_five}
 use Rattle.kt_suite.proofs.fault.SuiteFault.print_placed.Goals as goal
+use Rattle.kt_base.proofs.Showing.{utf8_five}
 
 pub returns-in_err-emit_all : goal.returns-in_err-emit_all
 unfolding encode

@@ -1,0 +1,33 @@
+-- The words of faults are ASCII.
+use Rattle.std.proofs.Common.{◌≡◌, refl}
+use Rattle.kt_cli.proofs.Common.{chars, RunFault, NoMemory, SinkFailed, StoreFault}
+use Rattle.kt_sched.specs.FaultWords.{run_words}
+use Rattle.kt_sched.specs.declared.sink.SinkFault.TheVariants as sink
+use Rattle.kt_store.specs.Ask.{fault_words}
+use Rattle.kt_store.specs.declared.store_fault.StoreFault.TheVariants as store
+use Rattle.kt_child.specs.Driving.Roots.{driver_words}
+use Rattle.kt_child.specs.declared.driving.driver.DriverFault.{DriverFault}
+use Rattle.kt_child.specs.declared.driving.driver.DriverFault.TheVariants as driver
+
+pub chars-run : (fault : RunFault) → chars (run_words fault) ≡ run_words fault
+unfolding chars
+chars-run (NoMemory refusal) = refl
+chars-run (SinkFailed sink.Memory) = refl
+chars-run (SinkFailed sink.Other) = refl
+
+pub chars-store : (fault : StoreFault) → chars (fault_words fault) ≡ fault_words fault
+unfolding chars
+chars-store (store.NoMemory shortage) = refl
+chars-store (store.Store statement) = refl
+chars-store store.NoRun = refl
+chars-store store.RunClosed = refl
+chars-store store.RepeatedPosition = refl
+chars-store store.StoreFull = refl
+chars-store store.UnknownSchema = refl
+chars-store store.BadPosition = refl
+chars-store store.Incomplete = refl
+
+pub chars-driver : (fault : DriverFault) → chars (driver_words fault) ≡ driver_words fault
+unfolding chars
+chars-driver (driver.NoMemory refusal) = refl
+chars-driver driver.NoWorkDirectory = refl
