@@ -114,7 +114,7 @@ found=$(echo "$files" | LC_ALL=C xargs awk '
     sub(/[^A-Za-z0-9_].*/, "", word)
     owner = word
   }
-  /^}/ { owner = "" ; owner_is_trait = owner_is_impl_of_trait = 0 }
+  /^[}]/ { owner = "" ; owner_is_trait = owner_is_impl_of_trait = 0 }
   /^[ \t]*(pub(\([a-z]*\))? )?(final )?(const )?fn / {
     word = $0
     sub(/.*fn /, "", word)
@@ -127,7 +127,7 @@ found=$(echo "$files" | LC_ALL=C xargs awk '
   # Ghost members of a type or of a trait.
   /^[ \t]*ghost [a-z_]+( =|:)/ { is_public = (crate, owner) in exported || crate == "kyua"; in_clause = 1 }
   /^[ \t]*(requires|ensures) / { in_clause = 1 }
-  /^[ \t]*{$/ { in_clause = 0 }
+  /^[ \t]*[{]$/ { in_clause = 0 }
   in_clause { note(is_public ? "public" : "private", $0); if (/;$/) in_clause = 0 }
   END {
     for (i = 1; i <= names_count; i++) {

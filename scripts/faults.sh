@@ -1,7 +1,7 @@
 #!/usr/bin/env bash
-# Looks in the sources of the program for a fault that a body could make by itself. No contract refuses one: memory may run out
-# at any call that takes some, a read and a write may fail, and a command may then say so. Each rule names the only places where it
-# may be broken, with the reason, and wrong bodies that it must find.
+# Looks in the sources of the program for what a body could do by itself and no contract refuses: make a fault, since memory may run
+# out at any call that takes some, a read and a write may fail, and a command may then say so; remove, move or cut a file; start a
+# process more. Each rule names the only places where it may be broken, with the reason, and wrong bodies that it must find.
 # Prints each other place, each place named here that is no longer there, and each wrong body that is not found. The last line is
 # 'N passed, M failed', over the rules and these bodies.
 set -eu -o pipefail
@@ -28,8 +28,8 @@ own_writers() {
   local writing
   writing=$(sed -n 's/^.*fn \([a-z_]*\)<[A-Z]: Write.*/\1/p; s/^.*fn \([a-z_]*\)<.*, [A-Z]: Write.*/\1/p' "$1" |
     sort -u | tr '\n' ' ')
-  awk -F '\t' -v names="$writing" '
-    BEGIN { count = split(names, list, " "); for (n = 1; n <= count; n++) writes[list[n]] = 1 }
+  NAMES=$writing awk -F '\t' '
+    BEGIN { count = split(ENVIRON["NAMES"], list, " "); for (n = 1; n <= count; n++) writes[list[n]] = 1 }
     # Looks at the text of one file, in which the lines are joined by spaces.
     function look(file, text,   at, name, rest, depth, sign, here) {
       if (text !~ /Write/) return
@@ -63,12 +63,18 @@ own_writers() {
 
 # paths FILE PATTERN: prints the paths that have a line of this pattern.
 paths() {
-  awk -F '\t' -v pattern="$2" '$2 ~ pattern { print $1 }' "$1" | uniq
+  PATTERN=$2 awk -F '\t' '$2 ~ ENVIRON["PATTERN"] { print $1 }' "$1" | uniq
 }
 
 # lines FILE PATTERN: prints the lines of this pattern, with their paths.
 lines() {
-  awk -F '\t' -v pattern="$2" '$2 ~ pattern { print $1 ": " $2 }' "$1"
+  PATTERN=$2 awk -F '\t' '$2 ~ ENVIRON["PATTERN"] { print $1 ": " $2 }' "$1"
+}
+
+# lines_of_main FILE PATTERN: prints such lines of the file of `main`, in which `rt.alloc()` and `rt.stderr()` don't count.
+lines_of_main() {
+  PATTERN=$2 awk -F '\t' '
+    $1 == "kyua/src/main.rt" { line = $2; gsub(/rt[.](alloc|stderr)[(][)]/, "", line); if (line ~ ENVIRON["PATTERN"]) print $1 ": " $2 }' "$1"
 }
 
 # Counts a check whose faults stand in the file told, and prints them.
@@ -87,11 +93,13 @@ rule() {
   name=$1
   shift
   finder=("$@")
-  awk -v places="$room/places" '
-    BEGIN { printf "" > places }
+  PLACES=$room/places awk '
+    BEGIN { places = ENVIRON["PLACES"]; printf "" > places }
     /^#/ { reason = 1; next }
     !reason { print "there is no reason for " $0 }
     { print > places }' > "$room/told"
+  # Some awk takes a backslash or a number of times otherwise than others do.
+  case ${2-} in *\\* | *[!'[']'{'*) echo "a pattern with a backslash or a brace: $2" >> "$room/told" ;; esac
   sort "$room/places" > "$room/named"
   "$1" "$room/sources" "${@:2}" | sort > "$room/found"
   comm -13 "$room/named" "$room/found" >> "$room/told"
@@ -104,8 +112,9 @@ body() {
   cat > "$room/new"
   sed "s,^,$1	," "$room/new" > "$room/new lines"
   : > "$room/told"
-  if ! awk -F '\t' -v path="$1" -v line="$2" -v new="$room/new lines" '
-    $1 == path && $2 == line { while ((getline text < new) > 0) print text; close(new); seen++; next }
+  if ! PLACE=$1 LINE=$2 NEW="$room/new lines" awk -F '\t' '
+    BEGIN { new = ENVIRON["NEW"] }
+    $1 == ENVIRON["PLACE"] && $2 == ENVIRON["LINE"] { while ((getline text < new) > 0) print text; close(new); seen++; next }
     { print }
     END { exit seen == 0 }' "$room/sources" > "$room/changed"; then
     echo "the line of a wrong body is not there: $1: $2" > "$room/told"
@@ -144,7 +153,7 @@ BODY
 
 # A size of any kind can be asked for, so one that no machine has, too.
 rule 'asks for memory of a chosen size' lines \
-  '(with_capacity|from_elem|(^|[^_])reserve[a-z_]*|repeat[a-z_]*|resize[a-z_]*|allocate[a-z_]*)[(]|vec!\[[^\]]*;|Layout' <<'PLACES'
+  '(with_capacity|from_elem|(^|[^_])reserve[a-z_]*|repeat[a-z_]*|resize[a-z_]*|allocate[a-z_]*)[(]|vec![[][^]]*;|Layout' <<'PLACES'
 # Room for one child, which runs at most 256 times over, and for the cleanups that are due.
 kt_child/src/driving/running_children.rt: children.reserve(1)?;
 kt_child/src/driving/running_children.rt: pending.reserve(children.len() + 1)?;
@@ -308,6 +317,153 @@ Some(place) if place.len() > 1_024 => Err(ReadFault::Missing),
 Some(place) => self.machine.front(place),
 BODY
 
+# For a file that is there, one that is missing is no evidence, no output and no list.
+rule 'says that a file or a work directory is not there' lines \
+  '(FileRead|DriverFault|Self)::(Missing|NoWorkDirectory)($|[^ ]| [^=])' <<'PLACES'
+# The system found no file of this name.
+kt_child/src/host/reads.rt: ErrorKind::NotFound => Ok(FileRead::Missing),
+# Arms that take such an answer.
+kt_child/src/ending/ends.rt: Ok(FileRead::Missing) | Err(_) => Bytes::new(alloc),
+kt_child/src/ending/ends.rt: Ok(FileRead::Missing) | Err(_) => ListBytes::Unreadable,
+kt_child/src/ending/parts.rt: FileRead::Missing if *got == 0 => Some(ReadEnd::Missing),
+# None of the roots could be made, the work directory has no path from the root of the host, or the process has no working directory.
+kt_child/src/driving/driver.rt: Err(DriverFault::NoWorkDirectory)
+kt_cli/src/host/host_execution.rt: return Err((DriverFault::NoWorkDirectory, os));
+kt_cli/src/host/surroundings.rt: None => Err(DriverFault::NoWorkDirectory),
+PLACES
+body kt_child/src/host/reads.rt 'match error.kind() {' <<'BODY'
+match error.kind() {
+ErrorKind::PermissionDenied => Ok(FileRead::Missing),
+BODY
+body kt_child/src/host/reads.rt 'read_opened(rt.alloc(), open_regular(rt, path.as_str()), from, limit)' <<'BODY'
+if path.as_bytes().len() > 255 { return Ok(FileRead::Missing); }
+read_opened(rt.alloc(), open_regular(rt, path.as_str()), from, limit)
+BODY
+body kt_cli/src/host/surroundings.rt 'None => Err(DriverFault::NoWorkDirectory),' <<'BODY'
+Some(here) if here.as_str().len() > 255 => Err(DriverFault::NoWorkDirectory),
+None => Err(DriverFault::NoWorkDirectory),
+BODY
+
+# By any name: what is removed or moved, cut or written over, and the functions of our own that do it.
+rule 'removes, moves or cuts what has a name' lines \
+  '(^|[^a-z_])(remove_(file|files|dir|dir_all|directory)|move_directory|rename|hard_link|symlink|set_len|truncate|unlink[a-z_]*|rmdir[a-z_]*|open_overwrite)($|[^a-z_<])|(File::create|fs::write|fs::copy)($|[^a-z_])' <<'PLACES'
+# What removals remove and move, by the name of the library or, where a path is not UTF-8, of the C library.
+kt_removal/src/entries.rt: Ok(text) => fs::remove_file(rt, text),
+kt_removal/src/entries.rt: Err(_) => answer(os::unlink(path)),
+kt_removal/src/entries.rt: Ok(text) => fs::remove_dir(rt, text),
+kt_removal/src/entries.rt: Err(_) => answer(os::rmdir(path)),
+kt_removal/src/entries.rt: Ok(text) => fs::rename(rt, text, to.as_str()),
+kt_removal/src/entries.rt: Err(_) => answer(os::rename(path, to.as_bytes())),
+# An entry of the directory that is emptied.
+kt_removal/src/removals.rt: if entries::remove_file(rt, path.as_slice()).is_ok() {
+kt_removal/src/removals.rt: self.remove_directory(rt, path.as_slice());
+kt_removal/src/removals.rt: match entries::remove_directory(rt, path) {
+kt_removal/src/removals.rt: self.has_place(rt) && entries::move_directory(rt, path, to).is_ok()
+# A directory that was emptied, the place for what is moved, and the root.
+kt_removal/src/removals.rt: fs::remove_dir(rt, path.as_str()).is_ok() || fs::remove_file(rt, path.as_str()).is_ok()
+kt_removal/src/removals.rt: if fs::remove_dir(rt, self.place.as_str()).is_err() {
+kt_removal/src/removals.rt: let _ = fs::remove_dir(rt, place.as_str());
+kt_removal/src/removals.rt: fs::remove_dir(rt, root.as_str()).is_ok()
+# What the driver put into the directory of a case, and that directory.
+kt_removal/src/named.rt: let _ = entries::remove_file(rt, path.as_slice());
+kt_removal/src/named.rt: Ok(path) => entries::remove_directory(rt, path.as_slice()).is_ok(),
+kt_removal/src/named.rt: remove_files(rt, directory, names);
+kt_removal/src/named.rt: remove_files(rt, directory, &FILES);
+kt_removal/src/named.rt: fs::remove_dir(rt, directory.as_str()).is_ok()
+kt_removal/src/named.rt: fs::remove_dir(rt, directory.as_str()).is_ok()
+# A directory that was just made, and can't be used.
+kt_child/src/host/outputs.rt: let _ = fs::remove_dir(rt, path);
+kt_child/src/host/outputs.rt: let _ = fs::remove_dir(rt, root.as_str());
+# The first name of a new file of results, once it has its own.
+kt_store/src/new_file.rt: let is_named = is_whole && fs::hard_link(rt, new.as_str(), file.as_str()).is_ok();
+kt_store/src/new_file.rt: let _ = fs::remove_file(rt, new.as_str());
+kt_store/src/new_file.rt: let _ = fs::remove_file(rt, new.as_str());
+PLACES
+body kt_store/src/new_file.rt 'if found.nlink() > 1 {' <<'BODY'
+if found.len() > 268_435_456 { let _ = fs::remove_file(rt, file.as_str()); }
+if found.nlink() > 1 {
+BODY
+body kt_store/src/new_file.rt 'if found.nlink() > 1 {' <<'BODY'
+if let Ok(file) = OpenOptions::new().write(true).open(rt, file.as_str()) { let _ = file.set_len(0); }
+if found.nlink() > 1 {
+BODY
+body kt_store/src/new_file.rt 'if found.nlink() > 1 {' <<'BODY'
+let _ = OpenOptions::new().write(true)
+.truncate(true)
+.open(rt, file.as_str());
+if found.nlink() > 1 {
+BODY
+body kt_removal/src/removals.rt 'self.has_place(rt) && entries::move_directory(rt, path, to).is_ok()' <<'BODY'
+let _ = entries::remove_file(rt, self.root.as_bytes());
+self.has_place(rt) && entries::move_directory(rt, path, to).is_ok()
+BODY
+body kt_removal/src/removals.rt 'self.has_place(rt) && entries::move_directory(rt, path, to).is_ok()' <<'BODY'
+let move_it = fs::rename;
+self.has_place(rt) && move_it(rt, self.root.as_str(), to.as_str()).is_ok()
+BODY
+body kt_child/src/host/outputs.rt 'let root = path.copy()?;' <<'BODY'
+let _ = fs::remove_dir_all(rt, rt.alloc(), path.as_str());
+let root = path.copy()?;
+BODY
+body kt_child/src/host/outputs.rt 'let root = path.copy()?;' <<'BODY'
+let _ = fs::hard_link(rt, path.as_str(), "kyua.db");
+let root = path.copy()?;
+BODY
+
+# No clause can count processes.
+rule 'starts a process' lines '(^|[^a-z])([a-z]+_)*spawn(_as)?($|[^a-z_<])|[.](status|output)[(][a-z&]' <<'PLACES'
+# Once for each child: one function calls the library, each other the next, down from the call of the system.
+kt_child/src/host/command.rt: command.spawn(rt)
+kt_child/src/host/command.rt: or_fault(spawn_as(rt, asked, command))
+kt_child/src/host/command.rt: let started = fill_and_spawn(rt, asked, &mut command);
+kt_child/src/host/host_child.rt: use crate::host::command::{Asked, spawn};
+kt_child/src/host/host_child.rt: drop(self.process.replace(spawn(rt, asked, out, err)?));
+kt_child/src/host/host_os.rt: fn spawn(
+# The call of the system, of which the trace of a driver has each.
+kt_child/src/driving/starts.rt: match os.spawn(
+kt_child/src/driving/starts.rt: open_and_spawn(os, plan)
+kt_child/src/driving/starts.rt: let tried = open_and_spawn(os, plan);
+kt_child/src/system/os.rt: fn spawn(
+PLACES
+body kt_child/src/host/command.rt 'let started = fill_and_spawn(rt, asked, &mut command);' <<'BODY'
+if asked.words.as_slice().len() > 60 {
+let mut twin = bare(rt.alloc(), asked.program)?;
+drop(fill_and_spawn(rt, asked, &mut twin));
+}
+let started = fill_and_spawn(rt, asked, &mut command);
+BODY
+body kt_child/src/host/command.rt 'command.spawn(rt)' <<'BODY'
+let _ = command.status(rt);
+command.spawn(rt)
+BODY
+
+# A command is carried out by kt_cli, whose clauses say what it does.
+rule 'does what is not said of a command' lines_of_main \
+  '(^|[^A-Za-z_])(fs|env|process|os|thread|net|rt|time|Files|Clock|Env|Processes)::|std::[{]|rt[.]' <<'PLACES'
+# The words that the process was given, and its exit.
+kyua/src/main.rt: let command = read_words(rt.alloc(), env::args(rt));
+kyua/src/main.rt: use std::process::ExitCode;
+kyua/src/main.rt: use std::{env, io};
+# Types of which the host's objects are made.
+kyua/src/main.rt: use std::fs::File;
+kyua/src/main.rt: use std::rt::{Clock, Files};
+PLACES
+body kyua/src/main.rt 'keep_large_blocks(rt.alloc());' <<'BODY'
+keep_large_blocks(rt.alloc());
+let _ = std::fs::remove_file(&rt, "kyua.db-wal");
+BODY
+body kyua/src/main.rt 'keep_large_blocks(rt.alloc());' <<'BODY'
+keep_large_blocks(rt.alloc());
+let _ = rt.create_dir("kyua.db-wal");
+BODY
+body kyua/src/main.rt 'keep_large_blocks(rt.alloc());' <<'BODY'
+keep_large_blocks(rt.alloc());
+let _ = Files::create_dir(&rt, "kyua.db-wal");
+BODY
+body kyua/src/main.rt 'use std::process::ExitCode;' <<'BODY'
+use std::process::{Command, ExitCode};
+BODY
+
 rule 'ends a command that failed' lines 'status: FAILED' <<'PLACES'
 # What was held could not be written, or the writer had failed before.
 kt_cli/src/output/line_output.rt: Err(_fault) => Exit { status: FAILED },
@@ -318,7 +474,7 @@ let moment = world.now();
 if moment == 0 { return Exit { status: FAILED }; }
 BODY
 
-rule 'says that a write failed' lines '(^|[^a-z_])failed = |(^|[^a-z_])sent ([-+*|&]?=|[<>!])|[|]{2} sent|sent [|]{2}' <<'PLACES'
+rule 'says that a write failed' lines '(^|[^a-z_])failed = |(^|[^a-z_])sent ([-+*|&]?=|[<>!])|[|][|] sent|sent [|][|]' <<'PLACES'
 # What `send` says of the writer, and its flush.
 kt_cli/src/output/line_output.rt: self.failed = hand_on(&mut self.held, &mut self.out);
 kt_cli/src/output/line_output.rt: self.failed = hand_on(&mut self.held, &mut self.out);
@@ -344,6 +500,9 @@ body kt_base/src/emission.rt 'Ok(n) => sent += n,' <<'BODY'
 Ok(n) if sent == 4_096 => return (n, true),
 Ok(n) => sent += n,
 BODY
+body kt_base/src/emission.rt 'if failed {' <<'BODY'
+if failed || sent.is_power_of_two() {
+BODY
 
 rule 'writes to a writer of its own' own_writers <<'PLACES'
 # The writers that these hold, or were lent for the errors.
@@ -365,7 +524,7 @@ self.written = line(&entry, &mut full);
 BODY
 
 # By another name none of the rules above would find a value.
-types='(Refused|SinkFault|Claim|TapFault|ListBytes|ReadEnd|OsFault|ReadFault)'
+types='(Refused|SinkFault|Claim|TapFault|ListBytes|ReadEnd|OsFault|ReadFault|FileRead|DriverFault)'
 rule 'gives a name to what has one' lines "[A-Za-z] as [A-Z][A-Za-z]*([,;}]|\$)|::[*]|type [A-Z].*= .*$types|use .*$types::" <<'PLACES'
 # A trait whose name others have, and the error of SQLite, which has rules of its own.
 kt_store/src/store_fault/statements.rt: Alter, Connection, Error as SqlError, ErrorCode, FileFrom, FileStore, Row, Start, Transaction,
