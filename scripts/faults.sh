@@ -187,15 +187,10 @@ children.reserve(usize::MAX)?;
 BODY
 
 # A value for which no refused allocation is needed, or a line that tells of one. An arm that takes such a value isn't meant.
-rule 'says that memory ran out' lines '(Refused|SinkFault|Self)::Memory($|[^ ]| [^=])|write_shortage[(]' <<'PLACES'
+rule 'says that memory ran out' lines '(Refused|SinkFault|Self)::Memory($|[^ ]| [^=])' <<'PLACES'
 # Made of a refusal, by a function that takes one.
 kt_child/src/driving/starts.rt: Refused::Memory
 kt_cli/src/commands/recorder.rt: StoreFault::NoMemory(_) => SinkFault::Memory,
-# Each tells of a value that only a refusal makes, or of a put that failed.
-kt_cli/src/messages.rt: CommandFault::NoMemory(_) => write_shortage(out),
-kt_cli/src/messages.rt: RunFault::SinkFailed(SinkFault::Memory) => write_shortage(out),
-kt_cli/src/messages.rt: StoreFault::NoMemory(_) => write_shortage(out),
-kt_cli/src/messages.rt: write_shortage(out)
 PLACES
 body kt_cli/src/commands/testing.rt 'let moment = world.now();' <<'BODY'
 if options.filters.len() > 300 {
@@ -209,25 +204,27 @@ if self.written.is_err() {
 BODY
 
 # The text itself, or a piece of it.
-rule 'has the text of a refusal' lines '"[^"]*([Mm]emory|out of( "|"))' <<'PLACES'
-# The one line of a command, and the one of a fault before it.
-kt_cli/src/messages.rt: emit(b"kyua: E: out of memory\n", out)
-kt_plan/src/stop.rt: Stop::NoMemory(_) => emit(b"out of memory", out),
-# How a value that only a refusal makes is displayed.
-kt_atflist/src/list_fault.rt: Err(_) => f.write_str("out of memory"),
-kt_child/src/driving/driver.rt: DriverFault::NoMemory(_) => "out of memory",
-kt_config/src/fault.rt: ConfigFault::NoMemory(_) => "out of memory",
-kt_metadata/src/fault.rt: PropFault::NoMemory(_) => "out of memory",
-kt_report/src/report_fault.rt: ReportFault::NoMemory(_) => "out of memory",
-kt_sched/src/run_fault.rt: RunFault::NoMemory(_) => f.write_str("out of memory"),
-kt_sched/src/sink.rt: SinkFault::Memory => "out of memory",
-kt_script/src/fault.rt: ScriptFault::NoMemory(_) => "out of memory",
-kt_store/src/store_fault/mod.rt: StoreFault::NoMemory(_) => f.write_str("out of memory"),
-kt_suite/src/cause.rt: SuiteCause::NoMemory(_) => "out of memory",
-kt_suite/src/filter.rt: FilterFault::NoMemory(_) => "out of memory",
-kt_suite/src/selecting.rt: SelectFault::NoMemory(_) => "out of memory",
-kt_suite/src/tree.rt: ReadFault::Memory(_) => "out of memory",
-kt_words/src/command_fault.rt: CommandFault::NoMemory(_) => "out of memory",
+rule 'has the text of a refusal' lines \
+  '"[^"]*([Mm]emory|out of( "|"))|(=|>|[(&])[ ]?OUT_OF_MEMORY|"[{]OUT_OF_MEMORY|OUT_OF_MEMORY([.]|$)' <<'PLACES'
+# The one text, which others take from here.
+kt_base/src/no_memory.rt: pub const OUT_OF_MEMORY: &str = "out of memory";
+# The words of values that only a refusal makes.
+kt_base/src/no_memory.rt: #[error("{OUT_OF_MEMORY}")]
+kt_child/src/driving/driver.rt: DriverFault::NoMemory(_) => OUT_OF_MEMORY,
+kt_config/src/fault.rt: ConfigFault::NoMemory(_) => OUT_OF_MEMORY,
+kt_metadata/src/fault.rt: PropFault::NoMemory(_) => OUT_OF_MEMORY,
+kt_sched/src/run_fault.rt: RunFault::NoMemory(_) => OUT_OF_MEMORY,
+kt_script/src/fault.rt: ScriptFault::NoMemory(_) => OUT_OF_MEMORY,
+kt_store/src/store_fault/mod.rt: StoreFault::NoMemory(_) => OUT_OF_MEMORY,
+kt_suite/src/cause.rt: SuiteCause::NoMemory(_) => OUT_OF_MEMORY,
+kt_suite/src/filter.rt: FilterFault::NoMemory(_) => OUT_OF_MEMORY,
+kt_suite/src/selecting.rt: SelectFault::NoMemory(_) => OUT_OF_MEMORY,
+kt_suite/src/tree.rt: ReadFault::Memory(_) => OUT_OF_MEMORY,
+kt_words/src/command_fault.rt: CommandFault::NoMemory(_) => OUT_OF_MEMORY,
+kt_plan/src/stop.rt: Stop::NoMemory(_) => emit(OUT_OF_MEMORY.as_bytes(), out),
+# The words of a put that failed so, and the line of a refusal that this function takes.
+kt_sched/src/sink.rt: SinkFault::Memory => OUT_OF_MEMORY,
+kt_cli/src/messages.rt: write_fault(OUT_OF_MEMORY, out)
 # The reason of a refused start, by the phrase that stands for it.
 kt_base/src/phrase.rt: Phrase::NoMemoryToStart => "Test case could not be started for want of memory",
 # The property of a case that needs some.
@@ -281,6 +278,8 @@ kt_child/src/host/reads.rt: _ => Err(OsFault::Failed),
 kt_cli/src/host/host_machine.rt: ErrorKind::NotFound => ReadFault::Missing,
 kt_cli/src/host/host_machine.rt: _ => ReadFault::Failed,
 kt_removal/src/entries.rt: Err(io::Error::from_raw_os_error(os::errno()))
+# The words of a fault.
+kt_suite/src/cause.rt: SuiteCause::Unreadable => ReadFault::Failed.words(),
 # What is no regular file is not read, nor what was put in its place, a path that is too long names none, no output is made beside a link,
 # and a link is no directory.
 kt_child/src/host/reads.rt: return Err(io::Error::from(ErrorKind::InvalidInput));
@@ -354,23 +353,12 @@ kt_removal/src/entries.rt: Ok(text) => fs::remove_dir(rt, text),
 kt_removal/src/entries.rt: Err(_) => answer(os::rmdir(path)),
 kt_removal/src/entries.rt: Ok(text) => fs::rename(rt, text, to.as_str()),
 kt_removal/src/entries.rt: Err(_) => answer(os::rename(path, to.as_bytes())),
-# An entry of the directory that is emptied.
-kt_removal/src/removals.rt: if entries::remove_file(rt, path.as_slice()).is_ok() {
+kt_removal/src/entries.rt: fs::remove_dir(rt, directory.as_str()).is_ok()
+# Calls of these, which ask for a path that may be removed.
+kt_removal/src/removals.rt: if self.remove_file(rt, path.as_slice()).is_ok() {
+kt_removal/src/removals.rt: self.is_gone(rt, path) || self.remove_file(rt, path.as_bytes()).is_ok()
 kt_removal/src/removals.rt: self.remove_directory(rt, path.as_slice());
-kt_removal/src/removals.rt: match entries::remove_directory(rt, path) {
-kt_removal/src/removals.rt: self.has_place(rt) && entries::move_directory(rt, path, to).is_ok()
-# A directory that was emptied, the place for what is moved, and the root.
-kt_removal/src/removals.rt: fs::remove_dir(rt, path.as_str()).is_ok() || fs::remove_file(rt, path.as_str()).is_ok()
-kt_removal/src/removals.rt: if fs::remove_dir(rt, self.place.as_str()).is_err() {
-kt_removal/src/removals.rt: let _ = fs::remove_dir(rt, place.as_str());
-kt_removal/src/removals.rt: fs::remove_dir(rt, root.as_str()).is_ok()
-# What the driver put into the directory of a case, and that directory.
-kt_removal/src/named.rt: let _ = entries::remove_file(rt, path.as_slice());
-kt_removal/src/named.rt: Ok(path) => entries::remove_directory(rt, path.as_slice()).is_ok(),
-kt_removal/src/named.rt: remove_files(rt, directory, names);
-kt_removal/src/named.rt: remove_files(rt, directory, &FILES);
-kt_removal/src/named.rt: fs::remove_dir(rt, directory.as_str()).is_ok()
-kt_removal/src/named.rt: fs::remove_dir(rt, directory.as_str()).is_ok()
+kt_removal/src/named.rt: let _ = self.remove_file(rt, path.as_slice());
 # A directory that was just made, and can't be used.
 kt_child/src/host/outputs.rt: let _ = fs::remove_dir(rt, path);
 kt_child/src/host/outputs.rt: let _ = fs::remove_dir(rt, root.as_str());
@@ -393,13 +381,13 @@ let _ = OpenOptions::new().write(true)
 .open(rt, file.as_str());
 if found.nlink() > 1 {
 BODY
-body kt_removal/src/removals.rt 'self.has_place(rt) && entries::move_directory(rt, path, to).is_ok()' <<'BODY'
-let _ = entries::remove_file(rt, self.root.as_bytes());
-self.has_place(rt) && entries::move_directory(rt, path, to).is_ok()
+body kt_removal/src/removals.rt 'if self.has_place(rt) && self.move_to(rt, path, &to).is_ok() {' <<'BODY'
+let _ = fs::remove_file(rt, self.root.as_str());
+if self.has_place(rt) && self.move_to(rt, path, &to).is_ok() {
 BODY
-body kt_removal/src/removals.rt 'self.has_place(rt) && entries::move_directory(rt, path, to).is_ok()' <<'BODY'
+body kt_removal/src/removals.rt 'if self.has_place(rt) && self.move_to(rt, path, &to).is_ok() {' <<'BODY'
 let move_it = fs::rename;
-self.has_place(rt) && move_it(rt, self.root.as_str(), to.as_str()).is_ok()
+if self.has_place(rt) && move_it(rt, self.root.as_str(), to.as_str()).is_ok() {
 BODY
 body kt_child/src/host/outputs.rt 'let root = path.copy()?;' <<'BODY'
 let _ = fs::remove_dir_all(rt, rt.alloc(), path.as_str());
