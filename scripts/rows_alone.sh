@@ -4,8 +4,9 @@
 # - each row that repeats something 4,000 times or more under a limit of one processor second, or of N below a comment `# At most N
 #   processor seconds.`: ten times what it takes. A body whose time grows with the square of what is large in the row needs more;
 # - each row with allocations refused, one in each copy of the process that goes on from there (refuse_each.c). Its answer must be the
-#   one that is due, or differ from it in what memory_answers.py allows there and in nothing else. Twelve allocations of each row are
-#   tried, or two of one that takes long, others whenever the sources change.
+#   one that is due, or differ from it in what memory_answers.py allows there and in nothing else. Each allocation of a row below a
+#   comment `# Each allocation refused.` is tried, and of each other row twelve, or two of one that takes long, others whenever the
+#   sources change.
 #
 # With ROWS_PLACES=all each allocation of a row is tried, up to 4,000 of them. Rows with more are tried by the place in the code that
 # asks, not by number: of the allocations that have one list of return addresses the first four, the last, those whose number is a power
@@ -37,7 +38,8 @@ places=${ROWS_PLACES:-some}
 first=$((16#$(hash_of_sources | cut -c 1-7)))
 export room program places data first
 
-# Puts each row of a file into a folder of its own, FILE.LINE, as that file, with its limit if it has one.
+# Puts each row of a file into a folder of its own, FILE.LINE, as that file, with its limit if it has one, and with a file `each` if
+# each of its allocations is tried.
 #   rows_of FILE
 rows_of() {
   awk -v file="$1" -v room="$room/rows" '
@@ -46,6 +48,7 @@ rows_of() {
       system("mkdir -p " here)
       answered = 0
       if (limit) set_limit()
+      if (each) { printf "" > (here "/each"); close(here "/each"); each = 0 }
     }
     function set_limit() {
       print limit > (here "/limit")
@@ -54,6 +57,7 @@ rows_of() {
       limit = 0
     }
     /^[ \t]*# At most [0-9]+ processor seconds?\.$/ { limit = $4; next }
+    /^[ \t]*# Each allocation refused\.$/ { each = 1; next }
     /^[ \t]*(#|$)/ { next }
     {
       is_answer = /^[ \t]*->/
@@ -95,13 +99,14 @@ is_due() {
 # Lets copies of a row go on, in each of which one of its allocations is refused, and keeps what they answer.
 #   without_memory FILE
 without_memory() {
-  local step=1 from=1 chosen
-  if [ "$places" = all ] && [ "$count" -gt 4000 ]; then
+  local step=1 from=1 chosen tried=$places
+  [ ! -e each ] || tried=all
+  if [ "$tried" = all ] && [ "$count" -gt 4000 ]; then
     LD_PRELOAD=$room/refuse.so COUNTED=$PWD/count BY_PLACE=1 "$program" "$1" > /dev/null 2> told
     read -r count chosen < count
     # A copy goes half the way on the average.
     export PLACES=$PWD/count EVERY=$((chosen * (spent + 2) / 2000 / ${ROWS_SECONDS:-600} + 1))
-  elif [ "$places" != all ]; then
+  elif [ "$tried" != all ]; then
     if [ "$spent" -gt 100 ]; then step=$((count / 2 + 1)); else step=$((count / 12 + 1)); fi
     from=$(((first + ${PWD##*.}) % step + 1))
   fi
