@@ -60,11 +60,6 @@ IsAt from old new = 0 < from → IfSome old (λ position. new ≡ Some from)
 abbrev pub IsEarly : ℕ → ℕ → ℕ → Type 0
 IsEarly limit told millis = 1000 * limit + millis < 20 * (told + 1)
 
--- A child is heard late after this many milliseconds: more than two of its answers are missing, 100 of which stand for a
--- second, and it isn't past its limit.
-abbrev pub IsLate : ℕ → ℕ → ℕ → Type 0
-IsLate limit told millis = (told < 100 * limit) × (10 * (told + 2) < millis)
-
 -- one more answer is of the first half of those for the limit
 abbrev pub IsFree : ℕ → ℕ → Type 0
 IsFree limit told = told + 1 ≤ 50 * limit

@@ -88,6 +88,7 @@ impl<R: Processes + AllocGlobal + Drop> HostOs<R> {
 
 impl<R: Processes + Clock + AllocGlobal + Drop> HostOs<R> {
     ghost use Rattle.std.specs.Prelude.{◌≡◌, Some};
+    ghost use Rattle.kt_child.specs.Common.{Looks};
 
     /// Whether some child is heard late, as a poll of this turn or of one of the last saw it.
     fn is_late(&mut self) -> bool
@@ -95,6 +96,7 @@ impl<R: Processes + Clock + AllocGlobal + Drop> HostOs<R> {
         ensures limit { self.new.limit ≡ self.old.limit }
         ensures last { self.new.last ≡ self.old.last }
         ensures late { self.new.late ≡ Some result }
+        ensures looks { Looks self.old.children.entries self.old.late self.new.late }
     {
         let late = match self.late {
             Some(late) => late,
@@ -108,11 +110,12 @@ impl<R: Processes + Clock + AllocGlobal + Drop> HostOs<R> {
 impl<R: Processes + Files<File = File> + Clock + AllocGlobal + Clone + Drop> Os for HostOs<R> {
     // Promised: the state of the children that are kept here, and that answers about them and a file are the library's.
     ghost use Rattle.std.specs.Prelude.{◌≡◌};
-    ghost use Rattle.kt_child.specs.Common.{IsLastEnd, stand_in, HostLeads, limit_after};
+    ghost use Rattle.kt_child.specs.Common.{IsLastEnd, Looks, stand_in, HostLeads, limit_after};
 
     ghost leads = { λ old call new. HostLeads (stand_in old.children.entries) call
         (stand_in new.children.entries) (IsLastEnd new.last) new.late
-        × (new.limit ≡ limit_after call old.limit) };
+        × (new.limit ≡ limit_after call old.limit)
+        × Looks old.children.entries old.late new.late };
 
     fn set_limit(&mut self, _child: Child, limit: u64) {
         self.limit = limit;

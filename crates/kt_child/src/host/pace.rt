@@ -1,7 +1,8 @@
 ghost use Rattle.std.specs.Prelude.{◌≡◌, ◌↔◌, ◌+◌, ◌-◌, ◌/◌, ◌^◌, ◌<◌, ◌≤◌, min, IsSomeAnd, IsTrue};
 ghost use Rattle.std.specs.Time.{instant_nanos};
 ghost use Rattle.std.specs.declared.time.Instant.{Instant as Moment};
-ghost use Rattle.kt_child.specs.Inner.Host.{IsEarly, IsFree, IsLate, next_slice, whole_slice};
+ghost use Rattle.kt_child.specs.Host.Lateness.{IsLate};
+ghost use Rattle.kt_child.specs.Inner.Host.{IsEarly, IsFree, next_slice, whole_slice};
 
 use std::rt::Clock;
 use std::time::Instant;
