@@ -153,24 +153,24 @@ fn has_new_end<P: OpenProcess + Drop>(children: &mut Children<P>) -> bool
     false
 }
 
-/// Rests until a child has ended, at the latest after a pause, and returns whether one has. The first pause after an end
-/// looks more often at its beginning.
+/// Rests until a child has ended, at the latest after a pause, and returns whether one was seen; at its end it doesn't look,
+/// since each child is polled then. So many pauses went by since an end.
 pub(crate) fn await_end<P: OpenProcess + Drop, R: Files + Clock + AllocGlobal>(
     children: &mut Children<P>,
     removals: &mut Option<Removals>,
     rt: &R,
-    first: bool,
+    pauses: u32,
 ) -> bool
     ensures { AllProceed (stand_in children.old.entries) (stand_in children.new.entries) }
 {
     let mut rested = 0;
     while rested < PAUSE {
-        let slice = slice_after(first, rested);
+        let slice = slice_after(children.len(), pauses, rested);
         rest(removals, rt, slice);
-        if has_new_end(children) {
+        rested += slice;
+        if rested < PAUSE && has_new_end(children) {
             return true;
         }
-        rested += slice;
     }
     false
 }

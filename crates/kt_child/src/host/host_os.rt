@@ -5,12 +5,11 @@ use crate::host::children::Children;
 use crate::host::command::Asked;
 use crate::host::host_child::HostChild;
 use crate::host::outputs::{create_directory, create_output, create_root};
-use crate::host::pace::{PAUSE, is_quiet};
 use crate::host::reads::read_regular;
 use crate::host::{children, fault_of, or_fault};
 use crate::{Child, EnvPlan, FileRead, Os, OsFault, Polled};
 use kt_base::{Items, Text};
-use kt_removal::{Removals, rest};
+use kt_removal::Removals;
 use std::fs::File;
 use std::os::unix::process::ExitStatusExt;
 use std::process::{ExitStatus, Processes};
@@ -202,15 +201,9 @@ impl<R: Processes + Files<File = File> + Clock + AllocGlobal + Clone + Drop> Os 
         if self.quiet % TURNS_OF_A_LOOK == 0 {
             self.late = None;
         }
-        let quiet = self.quiet.saturating_add(1);
-        if is_quiet(self.quiet) {
-            self.quiet = quiet;
-            rest(&mut self.removals, &self.rt, PAUSE);
-            return Ok(());
-        }
-        let first = quiet == 1;
-        let ended = children::await_end(&mut self.children, &mut self.removals, &self.rt, first);
-        self.quiet = if ended { 0 } else { quiet };
+        let pauses = self.quiet;
+        let ended = children::await_end(&mut self.children, &mut self.removals, &self.rt, pauses);
+        self.quiet = if ended { 0 } else { pauses.saturating_add(1) };
         Ok(())
     }
 
