@@ -1,7 +1,7 @@
 #!/usr/bin/env bash
 # Says how late the end of a case is seen: half of the programs that sleep 5 ms must be over by 9 ms for their times, since a runner
 # that doesn't look for an end within a pause of 10 ms sees it behind that, and half of those that sleep 205 ms by 208, since one whose
-# pauses end early looks no more by then. Each ends in the middle of a pause. Exits with 1 if that isn't so.
+# pauses end early looks seldom by then. Each ends in the middle of a pause. Exits with 1 if that isn't so.
 # KYUA names the program to measure; else the one that kyua.sh runs. It wants a quiet machine, or `chrt -f 1` in front of it.
 set -eu
 . "$(dirname "$0")/../scratch.sh"

@@ -2,3 +2,4 @@
 pub mod HostAnswers
 pub mod HostFiles
 pub mod HostStands
+pub mod Lateness

@@ -1,6 +1,9 @@
 -- What the host may answer, whatever the system does.
 use Rattle.std.specs.Prelude.{◌≡◌, ◌≢◌, ◌≤◌, ◌/◌, ◌%◌, ◌==◌, ◌<◌, ℕ, List, length, take, true, false, Some, None, IsSome, ◌⊎◌, Bool, Option, Result, Ok, Err}
 use Rattle.std.specs.Process.{status_bits}
+use Rattle.std.specs.IoError.{error_kind}
+use Rattle.std.specs.declared.io.Error.{Error}
+use Rattle.std.specs.declared.io.ErrorKind.TheVariants.{NotFound}
 use Rattle.std.specs.declared.process.status.ExitStatus.{ExitStatus}
 use Rattle.kt_child.specs.Types.{Child, FileRead, OsFault, Polled}
 use Rattle.kt_child.specs.declared.system.FileRead.TheVariants.{Missing, Part}
@@ -14,9 +17,14 @@ abbrev pub IsFilled : ℕ → Result FileRead OsFault → Type 0
 IsFilled limit (Ok (Part bytes true)) = length bytes ≡ limit
 IsFilled limit answer = Unit {0}
 
+-- a file is missing only if an error of the system says so
+abbrev pub IsSaidMissing : Result FileRead OsFault → Type 0
+IsSaidMissing (Ok Missing) = (error : Error) × (error_kind error ≡ NotFound)
+IsSaidMissing answer = Unit {0}
+
 -- a read with this limit returns no more bytes, and exactly this many if more follow
 abbrev pub IsHostRead : ℕ → Result FileRead OsFault → Type 0
-IsHostRead limit answer = IsReadWithin limit answer × IsFilled limit answer
+IsHostRead limit answer = IsReadWithin limit answer × IsFilled limit answer × IsSaidMissing answer
 
 -- A read with this limit of a file that has these bytes left: the first of them, as many as the limit, and whether more
 -- follow.

@@ -1,5 +1,5 @@
 -- The system of the host, as private functions keep it.
-use Rattle.std.specs.Prelude.{◌≡◌, ◌≢◌, Result, Ok, Err, ℕ, List, [], ◌∷◌, false, Option, Some, None, IsSome, map, if◌then◌else◌, ◌++◌, ◌+◌, ◌≤◌, ◌<◌, length, IfSome, Bool, ◌*◌, ◌-◌, ◌/◌, min}
+use Rattle.std.specs.Prelude.{◌≡◌, ◌≢◌, Result, Ok, Err, ℕ, List, [], ◌∷◌, false, Option, Some, None, IsSome, map, if◌then◌else◌, ◌++◌, ◌+◌, ◌≤◌, ◌<◌, length, IfSome, Bool, ◌*◌, ◌-◌, ◌/◌, max, min}
 use Rattle.std.specs.declared.io.ErrorKind.{ErrorKind}
 use Rattle.std.specs.declared.io.ErrorKind.TheVariants.{NotFound, OutOfMemory}
 use Rattle.kt_child.specs.Types.{EnvPlan, FileRead, OsFault, Variable}
@@ -60,22 +60,20 @@ IsAt from old new = 0 < from → IfSome old (λ position. new ≡ Some from)
 abbrev pub IsEarly : ℕ → ℕ → ℕ → Type 0
 IsEarly limit told millis = 1000 * limit + millis < 20 * (told + 1)
 
--- A child is heard late after this many milliseconds: more than two of its answers are missing, 100 of which stand for a
--- second, and it isn't past its limit.
-abbrev pub IsLate : ℕ → ℕ → ℕ → Type 0
-IsLate limit told millis = (told < 100 * limit) × (10 * (told + 2) < millis)
-
 -- one more answer is of the first half of those for the limit
 abbrev pub IsFree : ℕ → ℕ → Type 0
 IsFree limit told = told + 1 ≤ 50 * limit
 
--- the microseconds of a slice after this many: in the first pause after an end each is longer by a sixteenth of them, from 50 on
-abbrev pub whole_slice : Bool → ℕ → ℕ
-whole_slice first micros = if first then 50 + micros / 16 else 350
+-- The microseconds of a slice, with so many children and so many microseconds after an end: 50 and a sixteenth of these, up to
+-- 350; but not less than 14 for each child past the eighth, nor than a 384th of these microseconds for each child and 4 more.
+-- At most 512 children count.
+abbrev pub whole_slice : ℕ → ℕ → ℕ
+whole_slice children since =
+    max (max (min (50 + since / 16) 350) (14 * (min children 512 - 8))) (since * (min children 512 + 4) / 384)
 
--- and of those, as many as are left of 10,000
-abbrev pub next_slice : Bool → ℕ → ℕ
-next_slice first micros = min (whole_slice first micros) (10000 - micros)
+-- and of those, as many as are left of the 10,000 of a pause; so many pauses went by before
+abbrev pub next_slice : ℕ → ℕ → ℕ → ℕ
+next_slice children pauses micros = min (whole_slice children (10000 * pauses + micros)) (10000 - micros)
 
 -- a child that is reported as running has a process, of which no end was seen unless some child was late
 abbrev pub RunsIn : Bool → Stand → Type 0

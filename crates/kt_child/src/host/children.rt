@@ -1,5 +1,7 @@
-ghost use Rattle.std.specs.Prelude.{◌≡◌, None, Some, Ok, IsSome, IsTrue, IfNone, IfOk, IfSome, OnOk};
-ghost use Rattle.kt_child.specs.Common.{AllProceed, AllStay, OthersStay, Proceeds, RunsIn, stand_in, stand_of};
+ghost use Rattle.std.specs.Prelude.{◌≡◌, ◌↔◌, None, Some, Result, Ok, IsSome, IsTrue, IfNone, IfOk, IfSome, OnOk};
+ghost use Rattle.std.specs.declared.io.Error.{Error};
+ghost use Rattle.std.specs.declared.time.Instant.{Instant as Time};
+ghost use Rattle.kt_child.specs.Common.{AllProceed, AllStay, IsAnyLate, OthersStay, Proceeds, RunsIn, Sees, stand_in, stand_of};
 
 use crate::host::command::Asked;
 use crate::host::host_child::HostChild;
@@ -79,17 +81,26 @@ pub(crate) fn launch<P: OpenProcess + Drop, R: Processes<Started = P> + Clock + 
     }
 }
 
-/// Whether some child is heard late.
-pub(crate) fn is_any_late<P: OpenProcess + Drop, C: Clock>(children: &Children<P>, rt: &C) -> bool {
-    let Ok(now) = Instant::now(rt) else {
-        return false;
-    };
+/// Whether some child is heard late, at this time.
+fn is_any_late_at<P: OpenProcess + Drop>(children: &Children<P>, now: Instant) -> bool
+    ensures { IsTrue result ↔ IsAnyLate children.now.entries now }
+{
     for place in 0..children.len() {
         if children[place].is_late_at(now) {
             return true;
         }
     }
     false
+}
+
+/// Whether some child is heard late. None is where the clock fails.
+pub(crate) fn is_any_late<P: OpenProcess + Drop, C: Clock>(children: &Children<P>, rt: &C) -> bool
+    ensures { (time : Result Time Error) × Sees children.now.entries time result }
+{
+    match Instant::now(rt) {
+        Ok(now) => is_any_late_at(children, now),
+        Err(_error) => false,
+    }
 }
 
 /// How a child ended, if it has. While some child is heard late, another may be told as running without a look.
@@ -142,24 +153,24 @@ fn has_new_end<P: OpenProcess + Drop>(children: &mut Children<P>) -> bool
     false
 }
 
-/// Rests until a child has ended, at the latest after a pause, and returns whether one has. The first pause after an end
-/// looks more often at its beginning.
+/// Rests until a child has ended, at the latest after a pause, and returns whether one was seen; at its end it doesn't look,
+/// since each child is polled then. So many pauses went by since an end.
 pub(crate) fn await_end<P: OpenProcess + Drop, R: Files + Clock + AllocGlobal>(
     children: &mut Children<P>,
     removals: &mut Option<Removals>,
     rt: &R,
-    first: bool,
+    pauses: u32,
 ) -> bool
     ensures { AllProceed (stand_in children.old.entries) (stand_in children.new.entries) }
 {
     let mut rested = 0;
     while rested < PAUSE {
-        let slice = slice_after(first, rested);
+        let slice = slice_after(children.len(), pauses, rested);
         rest(removals, rt, slice);
-        if has_new_end(children) {
+        rested += slice;
+        if rested < PAUSE && has_new_end(children) {
             return true;
         }
-        rested += slice;
     }
     false
 }

@@ -40,7 +40,7 @@ impl<P: OpenProcess + Drop> Drop for HostChild<P> {
 
 impl<P: OpenProcess + Drop> HostChild<P> {
     ghost use Rattle.std.specs.Prelude.{◌≡◌, ◌↔◌, ◌+◌, ◌-◌, ◌^◌, min, Some, None, Ok, true, false, IsTrue, IsSome, IsNone, IsOk, IsErr, IfOk, OnOk};
-    ghost use Rattle.kt_child.specs.Common.{IsFree, Proceeds, RunsIn, stand_of};
+    ghost use Rattle.kt_child.specs.Common.{IsFree, IsLateAt, Proceeds, RunsIn, stand_of};
     ghost use Rattle.std.specs.declared.process.status.ExitStatus.{ExitStatus as Status};
 
     /// A child that does not run, with its limit in seconds and the file of its output.
@@ -128,7 +128,9 @@ impl<P: OpenProcess + Drop> HostChild<P> {
     }
 
     /// Whether it is heard late, at this time.
-    pub(crate) fn is_late_at(&self, now: Instant) -> bool {
+    pub(crate) fn is_late_at(&self, now: Instant) -> bool
+        ensures { IsTrue result ↔ IsLateAt now self.now }
+    {
         !self.seen && self.process.is_some() && self.pace.is_late_at(now)
     }
 

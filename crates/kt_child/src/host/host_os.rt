@@ -5,12 +5,11 @@ use crate::host::children::Children;
 use crate::host::command::Asked;
 use crate::host::host_child::HostChild;
 use crate::host::outputs::{create_directory, create_output, create_root};
-use crate::host::pace::{PAUSE, is_quiet};
 use crate::host::reads::read_regular;
 use crate::host::{children, fault_of, or_fault};
 use crate::{Child, EnvPlan, FileRead, Os, OsFault, Polled};
 use kt_base::{Items, Text};
-use kt_removal::{Removals, rest};
+use kt_removal::Removals;
 use std::fs::File;
 use std::os::unix::process::ExitStatusExt;
 use std::process::{ExitStatus, Processes};
@@ -88,6 +87,7 @@ impl<R: Processes + AllocGlobal + Drop> HostOs<R> {
 
 impl<R: Processes + Clock + AllocGlobal + Drop> HostOs<R> {
     ghost use Rattle.std.specs.Prelude.{◌≡◌, Some};
+    ghost use Rattle.kt_child.specs.Common.{Looks};
 
     /// Whether some child is heard late, as a poll of this turn or of one of the last saw it.
     fn is_late(&mut self) -> bool
@@ -95,6 +95,7 @@ impl<R: Processes + Clock + AllocGlobal + Drop> HostOs<R> {
         ensures limit { self.new.limit ≡ self.old.limit }
         ensures last { self.new.last ≡ self.old.last }
         ensures late { self.new.late ≡ Some result }
+        ensures looks { Looks self.old.children.entries self.old.late self.new.late }
     {
         let late = match self.late {
             Some(late) => late,
@@ -108,11 +109,12 @@ impl<R: Processes + Clock + AllocGlobal + Drop> HostOs<R> {
 impl<R: Processes + Files<File = File> + Clock + AllocGlobal + Clone + Drop> Os for HostOs<R> {
     // Promised: the state of the children that are kept here, and that answers about them and a file are the library's.
     ghost use Rattle.std.specs.Prelude.{◌≡◌};
-    ghost use Rattle.kt_child.specs.Common.{IsLastEnd, stand_in, HostLeads, limit_after};
+    ghost use Rattle.kt_child.specs.Common.{IsLastEnd, Looks, stand_in, HostLeads, limit_after};
 
     ghost leads = { λ old call new. HostLeads (stand_in old.children.entries) call
         (stand_in new.children.entries) (IsLastEnd new.last) new.late
-        × (new.limit ≡ limit_after call old.limit) };
+        × (new.limit ≡ limit_after call old.limit)
+        × Looks old.children.entries old.late new.late };
 
     fn set_limit(&mut self, _child: Child, limit: u64) {
         self.limit = limit;
@@ -199,15 +201,9 @@ impl<R: Processes + Files<File = File> + Clock + AllocGlobal + Clone + Drop> Os 
         if self.quiet % TURNS_OF_A_LOOK == 0 {
             self.late = None;
         }
-        let quiet = self.quiet.saturating_add(1);
-        if is_quiet(self.quiet) {
-            self.quiet = quiet;
-            rest(&mut self.removals, &self.rt, PAUSE);
-            return Ok(());
-        }
-        let first = quiet == 1;
-        let ended = children::await_end(&mut self.children, &mut self.removals, &self.rt, first);
-        self.quiet = if ended { 0 } else { quiet };
+        let pauses = self.quiet;
+        let ended = children::await_end(&mut self.children, &mut self.removals, &self.rt, pauses);
+        self.quiet = if ended { 0 } else { pauses.saturating_add(1) };
         Ok(())
     }
 

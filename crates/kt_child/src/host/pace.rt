@@ -1,7 +1,8 @@
-ghost use Rattle.std.specs.Prelude.{◌≡◌, ◌↔◌, ◌+◌, ◌-◌, ◌/◌, ◌^◌, ◌<◌, ◌≤◌, min, IsSomeAnd, IsTrue};
+ghost use Rattle.std.specs.Prelude.{◌≡◌, ◌↔◌, ◌+◌, ◌-◌, ◌*◌, ◌/◌, ◌^◌, ◌<◌, ◌≤◌, min, IsSomeAnd, IsTrue};
 ghost use Rattle.std.specs.Time.{instant_nanos};
 ghost use Rattle.std.specs.declared.time.Instant.{Instant as Moment};
-ghost use Rattle.kt_child.specs.Inner.Host.{IsEarly, IsFree, IsLate, next_slice, whole_slice};
+ghost use Rattle.kt_child.specs.Host.Lateness.{IsLate};
+ghost use Rattle.kt_child.specs.Inner.Host.{IsEarly, IsFree, next_slice, whole_slice};
 
 use std::rt::Clock;
 use std::time::Instant;
@@ -9,30 +10,28 @@ use std::time::Instant;
 /// The longest pause, in microseconds.
 pub(crate) const PAUSE: u64 = 10_000;
 
-/// After this many pauses without an end, a pause no longer looks for one.
-const QUIET_PAUSES: u32 = 100;
-
-/// The microseconds of a slice if time for it is left, after this many: they grow in the first pause after an end.
-fn whole_slice(first: bool, micros: u64) -> u64
-    ensures value { result ≡ whole_slice first micros }
+/// The microseconds of a slice if time for it is left, with so many children and so long after an end. A look at many children
+/// takes longer, and a pause without an end is the less likely to see one, the longer there was none.
+fn whole_slice(children: usize, since: u64) -> u64
+    requires { since < 2 ^ 50 }
+    ensures value { result ≡ whole_slice children since }
     ensures moves { 0 < result }
 {
-    if first { 50 + micros / 16 } else { 350 }
+    let children = children.min(512) as u64;
+    let short = (50 + since / 16).min(350);
+    let many = 14 * children.saturating_sub(8);
+    short.max(many).max(since * (children + 4) / 384)
 }
 
-/// The microseconds of the next slice of a pause, after this many.
-pub(crate) fn slice_after(first: bool, micros: u64) -> u64
-    ensures value { result ≡ next_slice first micros }
+/// The microseconds of the next slice of a pause, after this many of it, and so many pauses without an end.
+pub(crate) fn slice_after(children: usize, pauses: u32, micros: u64) -> u64
+    requires { micros ≤ 10000 }
+    ensures value { result ≡ next_slice children pauses micros }
     ensures moves { micros < 10000 → 0 < result }
+    ensures fits { micros + result ≤ 10000 }
 {
-    whole_slice(first, micros).min(PAUSE.saturating_sub(micros))
-}
-
-/// Whether a pause no longer looks for an end, after this many without one.
-pub(crate) fn is_quiet(pauses: u32) -> bool
-    ensures { IsTrue result ↔ (100 ≤ pauses) }
-{
-    pauses >= QUIET_PAUSES
+    let since = PAUSE * u64::from(pauses) + micros;
+    whole_slice(children, since).min(PAUSE - micros)
 }
 
 /// The milliseconds for each answer of the second half, which is spread over the limit.
