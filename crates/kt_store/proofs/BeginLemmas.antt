@@ -1,6 +1,6 @@
 -- What the INSERT of `begin` does.
-use Rattle.std.proofs.Common.{Bool, IsTrue, Less, List, None, Ok, Option, Some, [], ap, append-nil, arith, cond, drop, false, fold, inl, inr, length, length-append, map, pos, refl, subst, suc, sym, true, unwrap_or, ℕ, ℤ, ◌++◌, ◌+ℤ◌, ◌+◌, ◌<◌, ◌∙◌, ◌∷◌, ◌≡◌}
-use Rattle.kt_store.proofs.Common.{ints, Value, Null, Int, Row, value_cmp, rowid, put_row, id_in, next_rowid, put_all, taken_by, map-append, all-append, unary, Integer, cast, edit_of, Chosen, Database, IsDatabase, value_rows, Does, Tally, last_id, begin_text, runs_1, schema_2, AreNumbered, IsRun, Keeps, Tables, entry_row, entry_rows, new_run, pair_rows, prop_rows, run_row, flat_map, Trees, Mode, Command, Insert, Values, Enforced, works, State, HasCleanDisk, IsStore, StandsFor, Leaves, MayTell, Told, Ghosts, Held, state, Run}
+use Rattle.std.proofs.Common.{IsTrue, Less, List, None, Ok, Option, Some, [], ap, append-nil, arith, drop, fold, inl, inr, length, length-append, map, pos, refl, subst, suc, sym, unwrap_or, ℕ, ℤ, ◌++◌, ◌+ℤ◌, ◌+◌, ◌<◌, ◌∙◌, ◌∷◌, ◌≡◌}
+use Rattle.kt_store.proofs.Common.{ints, Int, Row, value_cmp, rowid, put_row, id_in, next_rowid, put_all, taken_by, map-append, all-append, edit_of, Chosen, Database, IsDatabase, value_rows, Does, Tally, last_id, begin_text, runs_1, schema_2, AreNumbered, IsRun, Keeps, Tables, entry_row, entry_rows, new_run, pair_rows, prop_rows, run_row, flat_map, Trees, Mode, Command, Insert, Values, Enforced, works, State, HasCleanDisk, IsStore, StandsFor, Leaves, MayTell, Told, Ghosts, Held, state, Run}
 use Rattle.std.specs.List.Sorted.{IsPermutation}
 use Rattle.std.proofs.lemmas.Grind.{flat_map-append}
 use Rattle.kt_store.proofs.SqlFacts.{begin_is, begin_terms}
@@ -64,7 +64,7 @@ abbrev pub begin_command : Command
 begin_command = Insert 1 (Values begin_terms 5)
 
 -- where no key refers to `runs` that acts
-begin_works : (params : Row) (trees : Trees) → let edit = edit_of trees runs_1 [] Chosen 0 (value_rows params 5 1 begin_terms) in works schema_2 Enforced 0 edit.table.tree (taken_by trees edit) edit.news ≡ []
+pub begin_works : (params : Row) (trees : Trees) → let edit = edit_of trees runs_1 [] Chosen 0 (value_rows params 5 1 begin_terms) in works schema_2 Enforced 0 edit.table.tree (taken_by trees edit) edit.news ≡ []
 begin_works params trees = refl
 
 begin_changed : (limit : Option ℕ) (mode : Mode) (total started : ℕ) (db after : Database) (text : List ℕ) (tally : Tally) → mode.keys ≡ Enforced → db.schema ≡ schema_2

@@ -1,7 +1,6 @@
 -- What queries of the entries answer.
-use Rattle.std.proofs.Common.{◌≡◌, ◌≢◌, ◌==◌, ◌&&◌, ℕ, zero, suc, ◌+◌, ◌<◌, pos, List, [], ◌∷◌, ◌++◌, map, drop, filter, Bool, true, false, cond, Less, Equal, Greater, Some, None, Option, slice_get, refl, sym, ap, ap₂, subst, ◌∙◌, arith, IsPermutation, append-nil}
-use Rattle.kt_store.proofs.Common.{ints, nat_tests, IsPermutation-map, filter-append, flat_map, list_all, option_to_list, Term, col, holds, IsPermutation-filter, Null, Int, Row, value_cmp, value_cmp-Int, is_true, from_truth, binary, Run, Entry, entries_of, entry_row, entry_rows, run_at, AreNumbered}
-use Rattle.std.specs.Ordering.{is_eq}
+use Rattle.std.proofs.Common.{◌≡◌, ◌≢◌, ◌==◌, ◌&&◌, ℕ, zero, suc, ◌+◌, ◌<◌, pos, List, [], ◌∷◌, ◌++◌, map, drop, filter, Bool, true, false, cond, Some, None, Option, slice_get, refl, sym, ap, ap₂, subst, ◌∙◌, arith, IsPermutation, append-nil}
+use Rattle.kt_store.proofs.Common.{nat_tests, IsPermutation-map, filter-append, flat_map, list_all, option_to_list, Term, col, holds, IsPermutation-filter, Null, Int, Row, is_true, from_truth, binary, Run, Entry, entries_of, entry_row, entry_rows, run_at, AreNumbered}
 use Rattle.kt_store.proofs.SqlFacts.{is}
 use Rattle.kt_store.proofs.Values.{same_test}
 

@@ -1,6 +1,6 @@
 -- What the query for all runs answers.
-use Rattle.std.proofs.Common.{◌≡◌, ℕ, zero, suc, ◌<◌, pos, List, [], ◌∷◌, ◌++◌, length, map, filter, take, true, Less, refl, sym, ap, subst, ◌∙◌, arith, get_or}
-use Rattle.kt_store.proofs.Common.{ints, nat_tests, AllByRecursion, map-map, Int, Row, IsAscending, value_cmp, column, ascending, value_cmp-Int, col, output, output_cmp, Binary, State, Shown, reads_as, Run, runs_text, schema_2, run_row, AreNumbered, head_columns, IsStore}
+use Rattle.std.proofs.Common.{◌≡◌, ℕ, zero, suc, ◌<◌, List, [], ◌∷◌, ◌++◌, length, map, filter, take, true, Less, refl, sym, ap, subst, ◌∙◌, arith, get_or}
+use Rattle.kt_store.proofs.Common.{AllByRecursion, map-map, Row, IsAscending, column, ascending, col, output, output_cmp, Binary, State, Shown, reads_as, Run, runs_text, schema_2, run_row, AreNumbered, head_columns, IsStore}
 use Rattle.kt_store.proofs.SqlFacts.{runs_select_is, runs_query}
 use Rattle.kt_store.proofs.QueryLemmas.{answered_in_order}
 use Rattle.kt_store.proofs.Values.{below}

@@ -1,5 +1,5 @@
 -- An INSERT of rows that are written out, into a table that SQL does not number, where no foreign key acts.
-use Rattle.std.proofs.Common.{◌≡◌, ◌⊎◌, inl, inr, ℕ, ◌/◌, ℤ, List, [], length, false, cond, slice_get, Some, None, Option, Ok, Err, Result, refl, sym, ap, subst, ◌∙◌, append-nil, MatchBool}
+use Rattle.std.proofs.Common.{◌≡◌, ℕ, ◌/◌, ℤ, List, [], length, false, cond, slice_get, Some, None, Option, Ok, refl, sym, ap, subst, ◌∙◌, append-nil, MatchBool}
 use Rattle.kt_store.proofs.Common.{Row, Trees, Term, Table, Schema, Enforced, Values, Insert, Chosen, Above, Edit, edit_of, Applies, taken_by, works, Tally, AtPlace, OnRows, Concludes, Does, Mode, Written, Task, Counts, CountsIn, Inserts, Gives, sequence, stamped, last_id, rowids_for, count_of, is_lt, int_cmp, Database, value_rows, one_step}
 use Rattle.sqlite_rules.specs.Action.{Writes}
 use Rattle.kt_store.proofs.Values.{same_value, went}
