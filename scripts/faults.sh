@@ -232,7 +232,7 @@ kt_base/src/parts.rt: " bytes of physical memory but only ",
 kt_metadata/src/meta.rt: required_memory: self.size("required_memory"),
 kt_metadata/src/table.rt: ("required_memory", "require.memory", Form::Size),
 # A name that SQLite takes for no file.
-kt_store/src/runs_file.rt: path != ":memory:" && !path.starts_with("file:")
+kt_store/src/opening.rt: path != ":memory:" && !path.starts_with("file:")
 PLACES
 body kt_cli/src/commands/testing.rt 'let moment = world.now();' <<'BODY'
 if options.filters.len() > 300 { return ended(emit_all(&[b"kyua: E: out of memory\n"], out), FAILED); }
@@ -516,7 +516,7 @@ types='(Refused|SinkFault|Claim|TapFault|ListBytes|ReadEnd|OsFault|ReadFault|Fil
 rule 'gives a name to what has one' lines "[A-Za-z] as [A-Z][A-Za-z]*([,;}]|\$)|::[*]|type [A-Z].*= .*$types|use .*$types::" <<'PLACES'
 # A trait whose name others have, and the error of SQLite, which has rules of its own.
 kt_store/src/store_fault/statements.rt: Alter, Connection, Error as SqlError, ErrorCode, FileFrom, FileStore, Row, Start, Transaction,
-kt_store/src/runs_file.rt: use std::rt::Files as FileSystem;
+kt_store/src/opening.rt: use std::rt::Files as FileSystem;
 PLACES
 body kt_child/src/driving/starts.rt 'use kt_sched::{Job, StartAnswer};' <<'BODY'
 use kt_base::Refused as Cause;

@@ -7,7 +7,7 @@ use Rattle.sqlite_trees.specs.View.{View, IsClean, KeepsSchema}
 use Rattle.kt_store.specs.declared.result_store.CaseOutputs.{CaseOutputs}
 use Rattle.kt_store.specs.declared.result_store.RunHead.{RunHead}
 use Rattle.kt_store.specs.Known.{readings}
-use Rattle.kt_store.specs.Inner.Cursors.{Looks}
+use Rattle.kt_store.specs.Inner.Cursors.{HoldsCommit, Looks}
 use Rattle.kt_store.specs.Seeks.{HasRuns}
 use Rattle.kt_store.proofs.SeenLemmas.{still_has}
 
@@ -26,6 +26,10 @@ pub outputs_agree : (r : Result CaseOutputs StoreFault) (runs : List Run) (numbe
 outputs_agree (Ok o) runs number position ok err = ok
 outputs_agree (Err fault) runs number position ok err = err
 
+-- a commit that stood over two calls stood over both
+pub held_then : (a b c : View) → HoldsCommit a b → HoldsCommit b c → HoldsCommit a c
+held_then a b c first second opened = let late = second opened in let early = first late.0 in (early.0, late.1 ∙ early.1)
+
 module _ {S : Type 0} (g : Ghosts S) where
   schema_then : (u v w : View) → KeepsSchema u v → KeepsSchema v w → KeepsSchema u w
   schema_then u v w first second = record {
@@ -43,6 +47,7 @@ module _ {S : Type 0} (g : Ghosts S) where
     same = λ clean sound.
         let late = second.same clean sound in
         late ∙ ap (λ (v : View). record v { cursors = (g.view new).cursors }) (first.same (second.clean clean) (ap (λ (v : View). v.is_broken) (sym late) ∙ sound));
+    held = λ clean. held_then (g.view old) (g.view mid) (g.view new) (first.held (second.clean clean)) (second.held clean);
     outcomes = λ db found. first.outcomes db (second.outcomes db found);
   }
 

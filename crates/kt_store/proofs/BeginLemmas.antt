@@ -64,7 +64,7 @@ abbrev pub begin_command : Command
 begin_command = Insert 1 (Values begin_terms 5)
 
 -- where no key refers to `runs` that acts
-begin_works : (params : Row) (trees : Trees) → let edit = edit_of trees runs_1 [] Chosen 0 (value_rows params 5 1 begin_terms) in works schema_2 Enforced 0 edit.table.tree (taken_by trees edit) edit.news ≡ []
+pub begin_works : (params : Row) (trees : Trees) → let edit = edit_of trees runs_1 [] Chosen 0 (value_rows params 5 1 begin_terms) in works schema_2 Enforced 0 edit.table.tree (taken_by trees edit) edit.news ≡ []
 begin_works params trees = refl
 
 begin_changed : (limit : Option ℕ) (mode : Mode) (total started : ℕ) (db after : Database) (text : List ℕ) (tally : Tally) → mode.keys ≡ Enforced → db.schema ≡ schema_2

@@ -1,6 +1,7 @@
 -- A run is finished.
 use Rattle.std.proofs.Common.{◌≡◌, ◌==◌, nat_lt, min, ℕ, zero, suc, ◌+◌, ◌<◌, ◌≤◌, pos, List, [], ◌∷◌, ◌++◌, length, map, drop, Bool, true, false, cond, Some, None, Option, Ok, slice_get, refl, sym, ap, subst, ◌∙◌, arith, IsPermutation, IsTrue}
-use Rattle.kt_store.proofs.Common.{nat_tests, AllByRecursion, flat_map, Int, Trees, IsAscending, Mode, Update, Enforced, Tally, Does, Database, IsDatabase, Ghosts, Held, state, HasCleanDisk, Run, Entry, RunClosed, Incomplete, finish_text, entries_of, IsComplete, Tables, Keeps, IsRun, AreRuns, AreNumbered, run_at, entry_row, entry_rows, pair_rows, prop_rows, finish, finish_refusal, finish_refusal_of, IsStore, StandsFor, MayTell, Told}
+use Rattle.kt_store.proofs.Common.{nat_tests, AllByRecursion, flat_map, Int, Trees, Applies, edit_of, ids_of, Given, runs_1, schema_2, IsAscending, Mode, Update, Enforced, Tally, Does, Database, IsDatabase, Ghosts, Held, state, HasCleanDisk, Run, Entry, RunClosed, Incomplete, finish_text, entries_of, IsComplete, Tables, Keeps, IsRun, AreRuns, AreNumbered, run_at, entry_row, entry_rows, pair_rows, prop_rows, finish, finish_refusal, finish_refusal_of, IsStore, StandsFor, MayTell, Told}
+use Rattle.kt_store.specs.Inner.Edits.{done_row}
 use Rattle.kt_store.proofs.SqlFacts.{finish_is}
 use Rattle.kt_store.proofs.CountLemmas.{most}
 use Rattle.kt_store.proofs.FinishLemmas.{finish_program, finish_writes, finished_rows}
@@ -46,26 +47,32 @@ each_from from (suc k) (x ∷ runs) r h valid there whole =
     let apart : (x.number == from + suc k) ≡ false = grind (arith, nat_tests, h.0) in
     rw apart (valid.0, subst (λ n. AllByRecursion IsRun (finish n runs)) place (each_from (suc from) k runs r h.1 valid.1 there whole))
 
-pub finish_step : (runs : List Run) (k : ℕ) (r : Run) → run_at runs (suc k) ≡ Some r → length r.entries ≡ r.total
-    → (limit : Option ℕ) (mode : Mode) (db after : Database) (text : List ℕ) (tally : Tally) → mode.keys ≡ Enforced → Tables db runs
-    → Does limit mode (Int (pos (suc k)) ∷ []) db text None (Update 1 finish_program) (Ok (tally, after)) → Tables after (finish (suc k) runs)
-finish_step runs k r there whole limit mode db after text tally enforced has does =
-    let did = finish_writes limit mode (suc k) db after text tally runs r enforced has there does in
+-- the tables of runs of which one is finished, as the rules of the schema do it
+pub finish_in : (runs : List Run) (k : ℕ) (r : Run) → run_at runs (suc k) ≡ Some r → length r.entries ≡ r.total → (db after : Database) → Tables db runs → after.schema ≡ schema_2
+    → Applies schema_2 Enforced db.trees (edit_of db.trees runs_1 (ids_of (done_row r ∷ [])) Given 1 (done_row r ∷ [])) after.trees → Tables after (finish (suc k) runs)
+finish_in runs k r there whole db after has schema_is applies =
     let place : 1 + k ≡ suc k = omega arith in
     record {
-      schema = did.0;
-      marked = ap (map (drop 1)) (did.1.tables.0 (λ e. cc)) ∙ has.marked;
-      runs_are = finished_rows k db.trees after.trees runs r has.valid.numbered has.runs_are there did.1;
+      schema = schema_is;
+      marked = ap (map (drop 1)) (applies.tables.0 (λ e. cc)) ∙ has.marked;
+      runs_are = finished_rows k db.trees after.trees runs r has.valid.numbered has.runs_are there applies;
       entries_are = subst (λ l. IsPermutation l (map (drop 1) (after.trees 3))) (sym (same_entries (suc k) runs))
-          (subst (λ l. IsPermutation (entry_rows runs) (map (drop 1) l)) (sym (did.1.tables.1.1.0 (λ e. cc))) has.entries_are);
+          (subst (λ l. IsPermutation (entry_rows runs) (map (drop 1) l)) (sym (applies.tables.1.1.0 (λ e. cc))) has.entries_are);
       props_are = subst (λ l. IsPermutation l (map (drop 1) (after.trees 5))) (sym (same_props (suc k) runs))
-          (subst (λ l. IsPermutation (prop_rows runs) (map (drop 1) l)) (sym (did.1.tables.1.1.1.0 (λ e. cc))) has.props_are);
+          (subst (λ l. IsPermutation (prop_rows runs) (map (drop 1) l)) (sym (applies.tables.1.1.1.0 (λ e. cc))) has.props_are);
       valid = record {
         numbered = numbers_finish (suc k) 1 runs has.valid.numbered;
         each = subst (λ n. AllByRecursion IsRun (finish n runs)) place (each_from 1 k runs r has.valid.numbered has.valid.each there whole);
         few = omega (arith, has.valid.few, as_many (suc k) runs);
       };
     }
+
+pub finish_step : (runs : List Run) (k : ℕ) (r : Run) → run_at runs (suc k) ≡ Some r → length r.entries ≡ r.total
+    → (limit : Option ℕ) (mode : Mode) (db after : Database) (text : List ℕ) (tally : Tally) → mode.keys ≡ Enforced → Tables db runs
+    → Does limit mode (Int (pos (suc k)) ∷ []) db text None (Update 1 finish_program) (Ok (tally, after)) → Tables after (finish (suc k) runs)
+finish_step runs k r there whole limit mode db after text tally enforced has does =
+    let did = finish_writes limit mode (suc k) db after text tally runs r enforced has there does in
+    finish_in runs k r there whole db after has did.0 did.1
 
 module _ {S : Type 0} (g : Ghosts S) (old new : Held S) (runs : List Run) (run : ℕ) (has : StandsFor (state g old) runs) (earlier : HasCleanDisk (state g new) → HasCleanDisk (state g old)) where
   abbrev pub Closes : Type 0
@@ -107,6 +114,13 @@ at_most r is = omega (arith, no_more 0 r.total r.entries (omega arith) (all_zero
 
 least_most : (n m : ℕ) → n < most → m ≡ min n most → m ≡ n
 least_most n m low is = omega (arith, low, is)
+
+-- a count that is exact is one that SQL has
+pub most_is : (runs : List Run) (run : ℕ) (r : Run) → run_at runs run ≡ Some r → AreRuns runs → (n : ℕ) → n ≡ length (entries_of (run_at runs run)) → n ≡ min (length (entries_of (run_at runs run))) most
+most_is runs run r there valid n is =
+    let sound = run_of run runs r valid there in
+    let same : length (entries_of (run_at runs run)) ≡ length r.entries = ap (λ o. length (entries_of o)) there in
+    omega (arith, is, same, at_most r sound, sound.small)
 
 module _ (runs : List Run) (run : ℕ) (r : Run) (there : run_at runs run ≡ Some r) where
   pub closed_already : r.finished ≡ true → finish_refusal runs run ≡ Some RunClosed

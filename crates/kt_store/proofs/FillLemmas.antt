@@ -1,6 +1,6 @@
 -- What the statements do that put an entry and its pairs, one after the other.
 use Rattle.std.proofs.Common.{◌≡◌, ◌&&◌, ◌/◌, Bool, not, ℕ, suc, ◌+◌, ◌<◌, pos, List, [], ◌∷◌, ◌++◌, length, map, drop, codes, None, Ok, refl, sym, ap, subst, ◌∙◌, arith, IsPermutation, IsTrue, true, false}
-use Rattle.kt_store.proofs.Common.{AllByRecursion, IsPair, IsText, HasTexts, pair_texts, IsPermutation-cons, IsPermutation-trans, IsPermutation-map, IsPermutation-sym, IsPermutation-middle, Int, Text, Row, Trees, is_taken, taken_by, put_all, are_fresh, next_rowid, numbered, put_row, works, Values, Insert, Chosen, edit_of, Enforced, understood, Ghosts, Held, state, Database, IsDatabase, value_rows, State, HasCleanDisk, mode_of, Executes, Writes, Term, IsPlain, command_of, statement_of, runs_as, Entry, Run, Variable, schema_2, entries_1, props_1, put_text, CanAdd, Tables, IsRun, kind_code, run_row, entry_row, entry_rows, pair_row, pair_rows_from, prop_rows, with_entry, Statement, single_statements, pair_statements, entry_statements, pair_text, five_text, five_values, begun, RunInTurn, StandsFor}
+use Rattle.kt_store.proofs.Common.{AllByRecursion, IsPair, IsText, HasTexts, pair_texts, IsPermutation-cons, IsPermutation-trans, IsPermutation-map, IsPermutation-sym, IsPermutation-middle, Int, Text, Row, Trees, is_taken, taken_by, put_all, are_fresh, next_rowid, numbered, put_row, works, Values, Insert, Chosen, edit_of, Enforced, understood, Ghosts, Held, state, Database, IsDatabase, value_rows, State, HasCleanDisk, mode_of, Executes, Writes, Term, IsPlain, command_of, statement_of, runs_as, Entry, Run, Variable, schema_2, entries_1, props_1, put_text, CanAdd, Tables, IsRun, kind_code, run_row, entry_row, entry_rows, pair_row, pair_rows_from, prop_rows, with_entry, AreRuns, Applies, Statement, single_statements, pair_statements, entry_statements, pair_text, five_text, five_values, begun, RunInTurn, StandsFor}
 use Rattle.sqlite_rules.specs.Cast.{cast_row}
 use Rattle.kt_store.proofs.SqlFacts.{put_is, put_terms, pair_is, pair_terms, five_is, five_terms}
 use Rattle.kt_store.proofs.InsertLemmas.{changed}
@@ -47,24 +47,40 @@ moved runs entries props more db same has = record {
   props_are = IsPermutation-trans _ _ _ same has.props_are;
 }
 
+-- an entry and pairs, as the rules of the schema put them in
+module _ (runs : List Run) (entries props : List Row) (db after : Database) (has : Holds runs entries props db) (schema_is : after.schema ≡ schema_2) where
+  pub entry_in : (n : ℕ) (e : Entry) → Applies schema_2 Enforced db.trees (edit_of db.trees entries_1 [] Chosen 0 (put_rows n e)) after.trees → Holds runs (entry_row n e ∷ entries) props after
+  entry_in n e applies =
+      let news_are : (edit_of db.trees entries_1 [] Chosen 0 (put_rows n e)).news ≡ numbered Chosen (db.trees 3) (map back (entry_row n e ∷ [])) =
+      rw (cast_null, cast_int (pos n), cast_int (pos e.position), cast_int (pos (kind_code e.verdict.kind)), cast_int (pos e.started), cast_int (pos e.millis)) refl in
+      record {
+        schema = schema_is;
+        marked = ap (map (drop 1)) (applies.tables.0 (λ e. cc)) ∙ has.marked;
+        runs_are = applies.tables.1.0 (λ e. cc) ∙ has.runs_are;
+        entries_are = subst (λ l. IsPermutation (entry_row n e ∷ entries) (map (drop 1) l)) (sym (applies.rows ∙ ap (put_all (db.trees 3)) news_are))
+            (rows_more (db.trees 3) (entry_row n e ∷ []) entries (subst (λ news. are_fresh (db.trees 3) news ≡ true) news_are applies.fresh) has.entries_are);
+        props_are = subst (λ l. IsPermutation props (map (drop 1) l)) (sym (applies.tables.1.1.1.0 (λ e. cc))) has.props_are;
+      }
+
+  pub pairs_in : (sources rows : List Row) → map (λ s. cast_row props_1 (drop 0 s)) sources ≡ map back rows → Applies schema_2 Enforced db.trees (edit_of db.trees props_1 [] Chosen 0 sources) after.trees → Holds runs entries (rows ++ props) after
+  pairs_in sources rows rows_are applies =
+      let news_are : (edit_of db.trees props_1 [] Chosen 0 sources).news ≡ numbered Chosen (db.trees 5) (map back rows) = ap (numbered Chosen (db.trees 5)) rows_are in
+      record {
+        schema = schema_is;
+        marked = ap (map (drop 1)) (applies.tables.0 (λ e. cc)) ∙ has.marked;
+        runs_are = applies.tables.1.0 (λ e. cc) ∙ has.runs_are;
+        entries_are = subst (λ l. IsPermutation entries (map (drop 1) l)) (sym (applies.tables.1.1.0 (λ e. cc))) has.entries_are;
+        props_are = subst (λ l. IsPermutation (rows ++ props) (map (drop 1) l)) (sym (applies.rows ∙ ap (put_all (db.trees 5)) news_are))
+            (rows_more (db.trees 5) rows props (subst (λ news. are_fresh (db.trees 5) news ≡ true) news_are applies.fresh) has.props_are);
+      }
+
 module _ (runs : List Run) (entries props : List Row) (old new : State) (count : ℕ) (has : Holds runs entries props old.now) where
   pub put_inside : (n : ℕ) (e : Entry) → Executes put_text (entry_row n e) old new (Ok count) → Holds runs (entry_row n e ∷ entries) props new.now × IsDatabase new.now
   put_inside n e h =
       let text = statement_of put_text (understood schema_2 put_text) in
       let w : Writes old new None (Insert 2 (Values put_terms 13)) text (entry_row n e) count = runs_as put_text (entry_row n e) old new schema_2 has.schema (Insert 2 (Values put_terms 13)) put_is.0 put_is.1 count h in
       let did = changed schema_2 2 entries_1 put_terms 13 refl refl refl put_works old.step_limit (mode_of old) (entry_row n e) old.now new.now text w.tally refl has.schema w.changed in
-      let news_are : (edit_of old.now.trees entries_1 [] Chosen 0 (put_rows n e)).news ≡ numbered Chosen (old.now.trees 3) (map back (entry_row n e ∷ [])) =
-      rw (cast_null, cast_int (pos n), cast_int (pos e.position), cast_int (pos (kind_code e.verdict.kind)), cast_int (pos e.started), cast_int (pos e.millis)) refl in (
-        record {
-          schema = did.schema_is;
-          marked = ap (map (drop 1)) (did.applies.tables.0 (λ e. cc)) ∙ has.marked;
-          runs_are = did.applies.tables.1.0 (λ e. cc) ∙ has.runs_are;
-          entries_are = subst (λ l. IsPermutation (entry_row n e ∷ entries) (map (drop 1) l)) (sym (did.applies.rows ∙ ap (put_all (old.now.trees 3)) news_are))
-              (rows_more (old.now.trees 3) (entry_row n e ∷ []) entries (subst (λ news. are_fresh (old.now.trees 3) news ≡ true) news_are did.applies.fresh) has.entries_are);
-          props_are = subst (λ l. IsPermutation props (map (drop 1) l)) (sym (did.applies.tables.1.1.1.0 (λ e. cc))) has.props_are;
-        },
-        w.sound,
-      )
+      (entry_in runs entries props old.now new.now has did.schema_is n e did.applies, w.sound)
 
   -- an INSERT of pairs
   pairs_put : (sql : List ℕ) (terms : List Term) (params : Row) (rows : List Row) → command_of (understood schema_2 sql) ≡ Insert 3 (Values terms 6) → IsPlain (understood schema_2 sql)
@@ -74,17 +90,7 @@ module _ (runs : List Run) (entries props : List Row) (old new : State) (count :
       let text = statement_of sql (understood schema_2 sql) in
       let w : Writes old new None (Insert 3 (Values terms 6)) text params count = runs_as sql params old new schema_2 has.schema (Insert 3 (Values terms 6)) is plain count h in
       let did = changed schema_2 3 props_1 terms 6 refl refl refl none old.step_limit (mode_of old) params old.now new.now text w.tally refl has.schema w.changed in
-      let news_are : (edit_of old.now.trees props_1 [] Chosen 0 (value_rows params 6 (length terms / 6) terms)).news ≡ numbered Chosen (old.now.trees 5) (map back rows) = ap (numbered Chosen (old.now.trees 5)) rows_are in (
-        record {
-          schema = did.schema_is;
-          marked = ap (map (drop 1)) (did.applies.tables.0 (λ e. cc)) ∙ has.marked;
-          runs_are = did.applies.tables.1.0 (λ e. cc) ∙ has.runs_are;
-          entries_are = subst (λ l. IsPermutation entries (map (drop 1) l)) (sym (did.applies.tables.1.1.0 (λ e. cc))) has.entries_are;
-          props_are = subst (λ l. IsPermutation (rows ++ props) (map (drop 1) l)) (sym (did.applies.rows ∙ ap (put_all (old.now.trees 5)) news_are))
-              (rows_more (old.now.trees 5) rows props (subst (λ news. are_fresh (old.now.trees 5) news ≡ true) news_are did.applies.fresh) has.props_are);
-        },
-        w.sound,
-      )
+      (pairs_in runs entries props old.now new.now has did.schema_is (value_rows params 6 (length terms / 6) terms) rows rows_are did.applies, w.sound)
 
   pair_inside : (n p k : ℕ) (v : Variable) → Executes pair_text (pair_row n p k v) old new (Ok count) → Holds runs entries (pair_row n p k v ∷ props) new.now × IsDatabase new.now
   pair_inside n p k v = pairs_put pair_text pair_terms (pair_row n p k v) (pair_row n p k v ∷ []) pair_is.0 pair_is.1 (λ _ _. refl) (rw (cast_null, cast_int (pos n), cast_int (pos p), cast_int (pos k)) refl)
@@ -140,29 +146,35 @@ module _ {S : Type 0} (g : Ghosts S) (n p : ℕ) where
       paired [] others has more = more
       paired (v ∷ vs) others has more = ((has.0, has.1.0), paired vs others has.1.1 more)
 
+-- the tables of runs, and with an entry and its pairs those of the runs that have it
+pub rows_of : (runs : List Run) (db : Database) → Tables db runs → Holds runs (entry_rows runs) (prop_rows runs) db
+rows_of runs db has = record { schema = has.schema; marked = has.marked; runs_are = has.runs_are; entries_are = has.entries_are; props_are = has.props_are }
+
+pub tables_of : (runs : List Run) (k : ℕ) (e : Entry) → k < length runs → AllByRecursion IsRun (with_entry (suc k) e runs) → AreRuns runs → (db : Database)
+    → Holds runs (entry_row (suc k) e ∷ entry_rows runs) (pair_rows_from (suc k) e.position 0 e.meta ++ prop_rows runs) db → Tables db (with_entry (suc k) e runs)
+tables_of runs k e low valid were db has =
+    let number : 1 + k ≡ suc k = omega arith in
+    let rows : IsPermutation (entry_row (suc k) e ∷ entry_rows runs) (entry_rows (with_entry (suc k) e runs)) =
+    subst (λ n. IsPermutation (entry_row n e ∷ entry_rows runs) (entry_rows (with_entry n e runs))) number (more_rows 1 k e runs were.numbered low) in
+    let pairs : IsPermutation (pair_rows_from (suc k) e.position 0 e.meta ++ prop_rows runs) (prop_rows (with_entry (suc k) e runs)) =
+    subst (λ n. IsPermutation (pair_rows_from n e.position 0 e.meta ++ prop_rows runs) (prop_rows (with_entry n e runs))) number (more_pairs 1 k e runs were.numbered low) in
+    record {
+      schema = has.schema;
+      marked = has.marked;
+      runs_are = has.runs_are ∙ sym (same_runs (suc k) e runs);
+      entries_are = IsPermutation-trans _ _ _ (IsPermutation-sym _ _ rows) has.entries_are;
+      props_are = IsPermutation-trans _ _ _ (IsPermutation-sym _ _ pairs) has.props_are;
+      valid = record { numbered = numbers_entry (suc k) e 1 runs were.numbered; each = valid; few = omega (arith, were.few, as_many (suc k) e runs) };
+    }
+
 module _ {S : Type 0} (g : Ghosts S) where
   -- the entry and its pairs are in the tables of the runs that have it
   pub filled : (runs : List Run) (k : ℕ) (e : Entry) → k < length runs → AllByRecursion IsRun (with_entry (suc k) e runs) → (old new : Held S) → Tables (state g old).now runs
       → RunInTurn g (entry_statements (suc k) e) old new → Tables (state g new).now (with_entry (suc k) e runs) × IsDatabase (state g new).now
   filled runs k e low valid old new has ran =
-      let start : Holds runs (entry_rows runs) (prop_rows runs) (state g old).now = record { schema = has.schema; marked = has.marked; runs_are = has.runs_are; entries_are = has.entries_are; props_are = has.props_are } in
-      let one = put_inside runs (entry_rows runs) (prop_rows runs) (state g old) (state g ran.0) ran.1.0 start (suc k) e ran.1.1.0 in
+      let one = put_inside runs (entry_rows runs) (prop_rows runs) (state g old) (state g ran.0) ran.1.0 (rows_of runs (state g old).now has) (suc k) e ran.1.1.0 in
       let all = pairs_inside g runs (entry_row (suc k) e ∷ entry_rows runs) (suc k) e.position 0 e.meta (prop_rows runs) ran.0 new one.0 one.1 ran.2 in
-      let number : 1 + k ≡ suc k = omega arith in
-      let rows : IsPermutation (entry_row (suc k) e ∷ entry_rows runs) (entry_rows (with_entry (suc k) e runs)) =
-      subst (λ n. IsPermutation (entry_row n e ∷ entry_rows runs) (entry_rows (with_entry n e runs))) number (more_rows 1 k e runs has.valid.numbered low) in
-      let pairs : IsPermutation (pair_rows_from (suc k) e.position 0 e.meta ++ prop_rows runs) (prop_rows (with_entry (suc k) e runs)) =
-      subst (λ n. IsPermutation (pair_rows_from n e.position 0 e.meta ++ prop_rows runs) (prop_rows (with_entry n e runs))) number (more_pairs 1 k e runs has.valid.numbered low) in (
-        record {
-          schema = all.0.schema;
-          marked = all.0.marked;
-          runs_are = all.0.runs_are ∙ sym (same_runs (suc k) e runs);
-          entries_are = IsPermutation-trans _ _ _ (IsPermutation-sym _ _ rows) all.0.entries_are;
-          props_are = IsPermutation-trans _ _ _ (IsPermutation-sym _ _ pairs) all.0.props_are;
-          valid = record { numbered = numbers_entry (suc k) e 1 runs has.valid.numbered; each = valid; few = omega (arith, has.valid.few, as_many (suc k) e runs) };
-        },
-        all.1,
-      )
+      (tables_of runs k e low valid has.valid (state g new).now all.0, all.1)
 
   -- its texts are texts
   spelled : (n : ℕ) (e : Entry) (old new : Held S) → RunInTurn g (entry_statements n e) old new → HasTexts e

@@ -2,6 +2,7 @@
 use Rattle.std.proofs.Common.{◌≡◌, ◌==◌, ℕ, zero, suc, ◌+◌, ◌<◌, pos, List, [], ◌∷◌, map, filter, Bool, true, false, not, Some, None, Option, slice_get, Ok, refl, sym, ap, subst, ◌∙◌, arith, IsPermutation, Less, is_eq}
 use Rattle.kt_store.proofs.Common.{nat_tests, option_to_list, Null, Int, Row, Trees, value_cmp, rowid, put_row, without_rowid, lit, col, Mode, Update, Given, edit_of, taken_by, put_all, Applies, works, ids_of, Enforced, Program, Tally, AtPlace, OnRows, Does, Task, Written, Updates, Database, Answers, one_step, one_permutation, Run, schema_2, runs_1, Tables, AreNumbered, run_row, run_at, finish}
 use Rattle.sqlite_rules.specs.Action.{Writes}
+use Rattle.kt_store.specs.Inner.Edits.{done_row}
 use Rattle.kt_store.proofs.SqlFacts.{finish_query, is}
 use Rattle.kt_store.proofs.InsertLemmas.{concluded}
 use Rattle.kt_store.proofs.FindLemmas.{picked_run}
@@ -20,10 +21,7 @@ updates task q given db done h =
     let wrote = went asked.2 in
     (asked.0, asked.1, subst (λ t. Writes task.schema task.keys db (edit_of db task.table (ids_of asked.0) Given 1 asked.0) (Ok t)) (sym (ap (λ (w : Written). w.trees) (same_value wrote.2))) wrote.1)
 
-abbrev pub done_row : Run → Row
-done_row r = Int (pos r.number) ∷ Int (pos r.number) ∷ Null ∷ Int (pos r.started) ∷ Int (pos r.total) ∷ Int (pos 1) ∷ []
-
-finish_works : (r : Run) (trees : Trees) → let edit = edit_of trees runs_1 (ids_of (done_row r ∷ [])) Given 1 (done_row r ∷ []) in works schema_2 Enforced 0 edit.table.tree (taken_by trees edit) edit.news ≡ []
+pub finish_works : (r : Run) (trees : Trees) → let edit = edit_of trees runs_1 (ids_of (done_row r ∷ [])) Given 1 (done_row r ∷ []) in works schema_2 Enforced 0 edit.table.tree (taken_by trees edit) edit.news ≡ []
 finish_works r trees = refl
 
 -- an UPDATE of one run

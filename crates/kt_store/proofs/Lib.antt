@@ -1,6 +1,11 @@
 pub mod Common
 pub mod Values
 pub mod RunsByNumber
+pub mod RuleLemmas
+pub mod EndLemmas
+pub mod EditLemmas
+pub mod PlaceLemmas
+pub mod OverLemmas
 pub mod SqlFacts
 pub mod FaultLemmas
 pub mod MetaFacts

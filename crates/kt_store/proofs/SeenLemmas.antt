@@ -63,12 +63,12 @@ pub seen_heads : (runs : List Run) (table shown : List Row) → table ≡ map ru
 seen_heads runs table shown are is = is ∙ ap (map (in_columns head_places)) are ∙ map-map (in_columns head_places) run_row runs
 
 -- a run is found by its rowid
-pub there_is : (runs : List Run) (n : ℕ) (table : List Row) (row : Row) → AreNumbered 1 runs → table ≡ map run_row runs → Finds table (pos n) row true → (r : Run) × (run_at runs n ≡ Some r)
+pub there_is : (runs : List Run) (n : ℕ) (table : List Row) (row : Row) → AreNumbered 1 runs → table ≡ map run_row runs → Finds table (pos n) row true → (r : Run) × (run_at runs n ≡ Some r) × (row ≡ run_row r)
 there_is runs n table row numbered are found = go (run_at runs n) (sym (found_run n runs numbered) ∙ ap (filter (has_rowid (pos n))) (sym are) ∙ found)
   where
-    go : (o : Option Run) → map run_row (option_to_list o) ≡ row ∷ [] → (r : Run) × (o ≡ Some r)
+    go : (o : Option Run) → map run_row (option_to_list o) ≡ row ∷ [] → (r : Run) × (o ≡ Some r) × (row ≡ run_row r)
     go None is = absurd cc
-    go (Some r) is = (r, refl)
+    go (Some r) is = (r, refl, let same : row ≡ run_row r = cc in same)
 
 pub there_is_none : (runs : List Run) (n : ℕ) (table : List Row) (row : Row) → AreNumbered 1 runs → table ≡ map run_row runs → Finds table (pos n) row false → run_at runs n ≡ None
 there_is_none runs n table row numbered are found = go (run_at runs n) (sym (found_run n runs numbered) ∙ ap (filter (has_rowid (pos n))) (sym are) ∙ found)

@@ -1,5 +1,5 @@
 -- Whether a run has an entry at a position, as its query tells.
-use Rattle.std.proofs.Common.{◌≡◌, ◌==◌, ◌&&◌, ◌||◌, ℕ, pos, List, [], ◌∷◌, length, drop, filter, nat_lt, Bool, true, false, cond, refl, sym, ap, Some, ap₂, ◌∙◌, arith}
+use Rattle.std.proofs.Common.{◌≡◌, ◌==◌, ◌&&◌, ◌||◌, ℕ, pos, List, [], ◌∷◌, length, drop, filter, nat_lt, ◌<◌, Bool, true, false, cond, refl, sym, ap, Some, ap₂, ◌∙◌, arith}
 use Rattle.kt_store.proofs.Common.{nat_tests, length_permutation, length-map, list_all, Int, Row, Term, col, holds, is_true, from_truth, binary, Ghosts, Held, state, reads_as, Run, Entry, there_text, schema_2, entries_of, entry_row, entry_rows, run_at, has_position, ShowsOf}
 use Rattle.kt_store.proofs.SqlFacts.{there_is, is}
 use Rattle.kt_store.proofs.QueryLemmas.{answered, show}
@@ -27,7 +27,7 @@ unfolding binary
 each n p m e =
     ap₂ (λ a b. is_true (from_truth (Some a)) && (is_true (from_truth (Some b)) && true)) (same_test m n) (same_test e.position p) ∙ two_truths (m == n) (e.position == p)
 
-any_left : (p : ℕ) (es : List Entry) → nat_lt 0 (length (filter (λ (e : Entry). e.position == p) es)) ≡ has_position p es
+pub any_left : (p : ℕ) (es : List Entry) → nat_lt 0 (length (filter (λ (e : Entry). e.position == p) es)) ≡ has_position p es
 any_left p [] = refl
 any_left p (e ∷ es) = go (e.position == p) (any_left p es)
   where
@@ -35,6 +35,12 @@ any_left p (e ∷ es) = go (e.position == p) (any_left p es)
         → nat_lt 0 (length (cond b (e ∷ filter (λ (e : Entry). e.position == p) es) (filter (λ (e : Entry). e.position == p) es))) ≡ (b || has_position p es)
     go true more = grind (arith, nat_tests)
     go false more = more
+
+pub counted_here : (p : ℕ) (es : List Entry) → 0 < length (filter (λ (e : Entry). e.position == p) es) → has_position p es ≡ true
+counted_here p es more = sym (any_left p es) ∙ grind (arith, nat_tests, more)
+
+pub counted_none : (p : ℕ) (es : List Entry) → length (filter (λ (e : Entry). e.position == p) es) ≡ 0 → has_position p es ≡ false
+counted_none p es none = sym (any_left p es) ∙ grind (arith, nat_tests, none)
 
 pub tells_there : {S : Type 0} (g : Ghosts S) (new : Held S) (runs : List Run) (n p : ℕ) (rows : List Row) → ShowsOf g runs there_text (there_params n p) new rows → nat_lt 0 (length rows) ≡ has_position p (entries_of (run_at runs n))
 tells_there g new runs n p rows it =

@@ -3,6 +3,7 @@ pub mod Ask
 pub mod Attaching
 pub mod Calls
 pub mod Cursors
+pub mod Edits
 pub mod Fault
 pub mod Heads
 pub mod Kept

@@ -7,7 +7,7 @@ use Rattle.sqlite_trees.specs.Tree.{Trees}
 use Rattle.sqlite_trees.specs.View.{IsClean}
 use Rattle.kt_base.specs.declared.entry.Run.{Run}
 use Rattle.kt_store.specs.Runs.{AreNumbered, AreOrdered, KeepsOne}
-use Rattle.kt_store.specs.Seeks.{HasRuns}
+use Rattle.kt_store.specs.Seeks.{HasCommitted, HasRuns}
 use Rattle.kt_store.specs.Stands.{StandsFor, Leaves as LeavesOf}
 use Rattle.kt_store.specs.StoreCalls.{StoreCall}
 use Rattle.kt_store.specs.declared.file_results.FileResults.{FileResults}
@@ -31,6 +31,17 @@ module _ {S : Type 0} (g : Ghosts S) where
   readings = record {
     answers = λ _ _ _. Unit {0};
     stands = λ s runs. HasRuns (g.view s) runs × AreNumbered 1 runs × (IsClean (g.view s) → AreOrdered runs);
+    sound = λ s. IsClean (g.view s);
+    leaves = λ s may. IsClean (g.view s) → (trees : Trees) → g.recovers s trees → KeepsOne may trees;
+    numbered = λ s runs h. h.1;
+    ordered = λ s runs h sound. h.2 sound;
+  }
+
+  -- of a store that is read and written by its trees
+  abbrev pub runs_file : store.Ghosts S
+  runs_file = record {
+    answers = λ _ _ _. Unit {0};
+    stands = λ s runs. HasCommitted (g.view s) runs × AreNumbered 1 runs × (IsClean (g.view s) → AreOrdered runs);
     sound = λ s. IsClean (g.view s);
     leaves = λ s may. IsClean (g.view s) → (trees : Trees) → g.recovers s trees → KeepsOne may trees;
     numbered = λ s runs h. h.1;

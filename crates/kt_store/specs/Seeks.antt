@@ -1,5 +1,5 @@
 -- When a store whose trees are read stands for a list of runs.
-use Rattle.std.specs.Prelude.{◌≡◌, false, List}
+use Rattle.std.specs.Prelude.{◌≡◌, false, List, IsTrue}
 use Rattle.sqlite_disk.specs.declared.Disk as disk
 use Rattle.sqlite_wal.specs.Recovery.{Image}
 use Rattle.sqlite_trees.specs.Tree.{Trees}
@@ -13,6 +13,10 @@ use Rattle.kt_store.specs.Runs.{AreNumbered, AreOrdered, Keeps}
 -- while the disk returns what was written and the store is not broken, its trees are those of a database with these runs
 abbrev pub HasRuns : View → List Run → Type 0
 HasRuns v runs = IsClean v → v.is_broken ≡ false → Keeps runs v.trees
+
+-- while the store is open, its last commit is a database with these runs
+abbrev pub HasCommitted : View → List Run → Type 0
+HasCommitted v runs = IsTrue v.is_open → Keeps runs v.committed
 
 -- a file and its log hold a database with these runs
 abbrev pub HoldsRuns : Image → List Run → Type 0

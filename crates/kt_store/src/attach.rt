@@ -21,7 +21,7 @@ pub(crate) const CREATE_PROPS: &str =
     "CREATE TABLE props (run INTEGER NOT NULL, position INTEGER NOT NULL, place INTEGER NOT NULL, name TEXT NOT NULL, value TEXT NOT NULL, PRIMARY KEY (run, position, place)) STRICT";
 
 /// A theorem: what a connection sees is a database, while it is open.
-fn lives<S: Alter>(conn: &Connection<S>)
+pub(crate) fn lives<S: Alter>(conn: &Connection<S>)
     ensures { IsLive (state S.Store conn.now) }
 {
     let _ = conn.schema();

@@ -4,10 +4,12 @@
 mod attach;
 mod batch;
 mod crashes;
+mod edits;
 mod file_results;
 mod heads;
 mod lookup;
 mod new_file;
+mod opening;
 mod outlines;
 mod outputs;
 mod pairs;
@@ -24,9 +26,10 @@ mod whole;
 
 pub use crashes::law_of_crashes;
 pub use file_results::FileResults;
+pub use opening::open_alone;
 pub use outlines::no_output;
 pub use result_store::{CaseOutputs, Keeping, ResultStore, RunHead};
 pub use results::Results;
-pub use runs_file::open_alone;
+pub use runs_file::RunsFile;
 pub use store_fault::{FailedStatement, Shortage, StoreFault};
 pub use whole::entries;

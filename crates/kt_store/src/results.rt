@@ -57,6 +57,14 @@ impl<S: Alter> Results<S> {
         }
     }
 
+    /// The connection and its allocator.
+    pub(crate) fn into_parts(self) -> (Global, Connection<S>)
+        ensures { result.1 ≡ self }
+    {
+        let Results { conn, alloc } = self;
+        (alloc, conn)
+    }
+
     /// Gives the connection back, with the same runs in its tables.
     pub fn detach(self) -> Connection<S>
         ensures { result ≡ self }

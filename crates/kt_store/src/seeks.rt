@@ -1,28 +1,29 @@
-ghost use Rattle.std.specs.Prelude.{◌≡◌, ◌<◌, ◌^◌, map, IfOk, IfErr};
-ghost use Rattle.kt_store.specs.Common.{HasRuns, IsStoreFault, Looks, Serves, Heads, Outline, Outputs, entries_of, outlined, run_at, seen_as};
+ghost use Rattle.std.specs.Prelude.{◌≡◌, ◌⊎◌, ◌<◌, ◌≤◌, ◌^◌, List, Some, None, length, map, IfOk, IfErr, OnOk};
+ghost use Rattle.kt_store.specs.Common.{HasRuns, IsStoreFault, Looks, LooksThrough, Run, AreRuns, last_run, run_row, head_of, Serves, Heads, Outline, Outputs, entries_of, outlined, run_at, seen_as};
 ghost use Rattle.kt_store.specs.Known.{readings};
 ghost use Rattle.sqlite_trees.specs.View.{IsClean};
 
-use crate::heads::heads_in;
+use crate::heads::{head_in, heads_in};
 use crate::lookup::key;
 use crate::outlines::entries_in;
 use crate::outputs::outputs_in;
 use crate::store_fault::trees::{
-    DAMAGED, Table, add_number, all_shown, number_row, rows_behind, rows_in,
+    DAMAGED, Table, add_number, all_shown, number_row, rows_behind, rows_in, shown,
 };
 use crate::{CaseOutputs, RunHead, StoreFault};
 use kt_base::Entry;
 use sqlite_exec::check::all_rows;
 use sqlite_exec::work::Workspace;
-use sqlite_trees::store::{Shape, Store};
+use sqlite_trees::store::{Direction, Shape, Store};
 use sqlite_value::row;
+use sqlite_value::value::ValueRef;
 use std::alloc::Global;
 
 // The trees of the tables and of the indexes of their keys.
 
 pub(crate) const RUNS: u32 = 2;
 
-const ENTRIES: Table<'static> = Table {
+pub(crate) const ENTRIES: Table<'static> = Table {
     tree: 3,
     index: 4,
     key: &[1, 2],
@@ -41,10 +42,71 @@ pub(crate) fn heads<S: Store>(store: &mut S, alloc: Global) -> Result<Vec<RunHea
     ensures served { Serves (readings S.Store) (Heads (seen_as (λ heads. heads.items) result))
         store.old store.new }
     ensures failed { IfErr result IsStoreFault }
+    ensures looks { Looks S.Store store.old store.new }
 {
     let stored = all_rows(store, &mut Workspace::new(alloc), RUNS)?;
     let rows = all_shown(alloc, &stored, &[0, 2, 3, 4])?;
     heads_in(alloc, &rows)
+}
+
+/// The number of the last run, 0 if there is none.
+pub(crate) fn last_number<S: Store>(store: &mut S, alloc: Global) -> Result<u64, StoreFault>
+    ensures last { (runs : List Run) → HasRuns (S.Store.view store.old) runs
+        → IsClean (S.Store.view store.new) → IfOk result (λ n. n ≡ length runs) }
+    ensures through { IsClean (S.Store.view store.new)
+        → OnOk result (LooksThrough (S.Store.view store.old) (S.Store.view store.new)) }
+    ensures failed { IfErr result IsStoreFault }
+    ensures looks { Looks S.Store store.old store.new }
+{
+    if store.shape(RUNS) != Shape::Table {
+        return Err(DAMAGED);
+    }
+    let mut row = row::Row::new(alloc);
+    store.seek(0, RUNS, &row, Direction::Backward)?;
+    if !store.next(0, &mut row)? {
+        return Ok(0);
+    }
+    match row.get(0) {
+        ValueRef::Int(number) if number > 0 => Ok(number.unsigned_abs()),
+        _ => Err(DAMAGED),
+    }
+}
+
+/// The row of a run. `NoRun` where no run has the number.
+pub(crate) fn stored_run<S: Store>(
+    store: &mut S,
+    alloc: Global,
+    run: u64,
+) -> Result<row::Row, StoreFault>
+    ensures small { OnOk result (run ≤ last_run) }
+    ensures found { (runs : List Run) → HasRuns (S.Store.view store.old) runs
+        → IsClean (S.Store.view store.new) → IfOk result (λ row. (r : Run)
+        × (run_at runs run ≡ Some r) × (row ≡ run_row r) × AreRuns runs) }
+    ensures refused { (runs : List Run) → HasRuns (S.Store.view store.old) runs
+        → IsClean (S.Store.view store.new)
+        → IfErr result (λ e. IsStoreFault e ⊎ ((e ≡ StoreFault.NoRun) × (run_at runs run ≡ None))) }
+    ensures through { IsClean (S.Store.view store.new)
+        → OnOk result (LooksThrough (S.Store.view store.old) (S.Store.view store.new)) }
+    ensures looks { Looks S.Store store.old store.new }
+{
+    let number = key(run);
+    if store.shape(RUNS) != Shape::Table {
+        return Err(DAMAGED);
+    }
+    let mut row = row::Row::new(alloc);
+    if !store.get(RUNS, number as i64, &mut row)? || number != run {
+        return Err(StoreFault::NoRun);
+    }
+    Ok(row)
+}
+
+/// The head in the row of a run.
+pub(crate) fn stored_head(alloc: Global, row: &row::Row) -> Result<RunHead, StoreFault>
+    ensures head { (r : Run) → row.now ≡ run_row r → IfOk result (λ h. h ≡ head_of r) }
+    ensures failed { IfErr result IsStoreFault }
+{
+    let shown = shown(alloc, row, &[0, 2, 3, 4])?;
+    head_in(&shown)
 }
 
 /// The entries of a run without their outputs, by position, with their pairs if they are asked for.
@@ -76,8 +138,9 @@ pub(crate) fn outline<S: Store>(
     run: u64,
     pairs: bool,
 ) -> Result<Vec<Entry>, StoreFault>
-    ensures { Serves (readings S.Store) (Outline run pairs (seen_as (λ found. found.items) result))
-        store.old store.new }
+    ensures served { Serves (readings S.Store) (Outline run pairs
+        (seen_as (λ found. found.items) result)) store.old store.new }
+    ensures looks { Looks S.Store store.old store.new }
 {
     let number = key(run);
     if store.shape(RUNS) != Shape::Table {
@@ -97,7 +160,8 @@ pub(crate) fn find_outputs<S: Store>(
     run: u64,
     position: u32,
 ) -> Result<CaseOutputs, StoreFault>
-    ensures { Serves (readings S.Store) (Outputs run position result) store.old store.new }
+    ensures served { Serves (readings S.Store) (Outputs run position result) store.old store.new }
+    ensures looks { Looks S.Store store.old store.new }
 {
     let number = key(run);
     let mut place = number_row(alloc, number)?;

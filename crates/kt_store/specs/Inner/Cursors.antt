@@ -1,12 +1,12 @@
 -- What cursors over the trees of a store find of its runs.
-use Rattle.std.specs.Prelude.{◌≡◌, ℕ, ℤ, false, true, Bool, List, [], ◌∷◌, ◌++◌, map, drop, take, filter}
+use Rattle.std.specs.Prelude.{◌≡◌, ℕ, ℤ, false, true, Bool, List, [], ◌∷◌, ◌++◌, map, drop, take, filter, length, IsTrue}
 use Rattle.std.specs.List.{AllByRecursion}
 use Rattle.std.specs.Ordering.{is_eq}
 use Rattle.sqlite.specs.declared.types.Value.TheVariants.{Int}
 use Rattle.sqlite.specs.Order.{Row}
 use Rattle.sqlite_value.specs.Order.{column}
 use Rattle.sqlite_trees.specs.Tree.{IsIndex, Trees, rowid, has_rowid, from_key}
-use Rattle.sqlite_trees.specs.View.{IsClean, IsShaped, KeepsSchema}
+use Rattle.sqlite_trees.specs.View.{View, IsClean, IsShaped, KeepsSchema}
 use Rattle.sqlite_trees.specs.declared.store.Shape.TheVariants.{Table}
 use Rattle.sqlite.specs.Store.{Ghosts}
 use Rattle.sqlite_value.specs.Keys.{plain, prefix_cmp}
@@ -50,9 +50,23 @@ Goes key table old place row new true =
     (old ≡ place ∷ new) × (begins key place ≡ true) × ((front : Row) (id : ℤ) → place ≡ front ++ Int id ∷ [] → filter (has_rowid id) table ≡ row ∷ [])
 Goes key table old place row new false = AllByRecursion (λ e. begins key e ≡ false) (take 1 old)
 
+-- the index of a table has so many places from a key on, if it has them so
+abbrev pub CountsUnder : ℕ → ℕ → Row → Trees → ℕ → Type 0
+CountsUnder table index key trees n = (cs : List ℕ) (mine : List Row)
+    → (IsShaped Table (trees table) → IsIndex plain (trees index) → Places cs key mine (trees table) (trees index)) → n ≡ length mine
+
+-- the transaction was not broken, and only cursors moved
+abbrev pub LooksThrough : View → View → Type 0
+LooksThrough old new = (old.is_broken ≡ false) × (new ≡ record old { cursors = new.cursors })
+
+-- the last commit is as it was, while the store is open
+abbrev pub HoldsCommit : View → View → Type 0
+HoldsCommit old new = IsTrue new.is_open → IsTrue old.is_open × (new.committed ≡ old.committed)
+
 -- a store was only read: it shows the same trees unless it is broken now, and a crash leaves what it left before
 pub record Looks {S : Type 0} (g : Ghosts S) (old new : S) : Type 0 where
   pub clean : IsClean (g.view new) → IsClean (g.view old)
   pub schema : KeepsSchema (g.view old) (g.view new)
   pub same : IsClean (g.view new) → (g.view new).is_broken ≡ false → g.view new ≡ record (g.view old) { cursors = (g.view new).cursors }
+  pub held : IsClean (g.view new) → HoldsCommit (g.view old) (g.view new)
   pub outcomes : (db : Trees) → g.recovers new db → g.recovers old db

@@ -1,5 +1,6 @@
 //! Why a call of the store is refused, and the statements that SQLite is asked for.
 
+pub(crate) mod rules;
 pub(crate) mod statements;
 pub(crate) mod trees;
 
@@ -48,8 +49,8 @@ impl StoreFault {
 pub struct Shortage(Refusal);
 
 /// A statement failed, a value of a row could not be read, the file could not be opened or closed, or the connection
-/// is in a transaction, a tree is damaged, or the database is only read. Only the functions of `statements` and `trees`
-/// make this value.
+/// is in a transaction, a tree is damaged, a row does not obey the schema, or the database is only read. Only the
+/// functions of `rules`, `statements` and `trees` make this value.
 #[derive(Clone, Copy, Debug)]
 pub struct FailedStatement(Cause);
 
@@ -64,8 +65,10 @@ enum Cause {
     Damaged,
     /// The database is only read, and was to be written.
     ReadOnly,
+    /// A row does not obey the schema.
+    Refused,
 }
 
-/// A type of this module, of `statements` and of `trees`, so that no other can write a `Shortage`.
+/// A type of this module, of `rules`, of `statements` and of `trees`, so that no other can write a `Shortage`.
 #[derive(Clone, Copy, Debug)]
 struct Refusal;

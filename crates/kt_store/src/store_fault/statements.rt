@@ -3,7 +3,7 @@ ghost use Rattle.kt_store.specs.Common.{bound, IsPlain, understood, HasCleanDisk
 
 use crate::StoreFault;
 use crate::batch::Batch;
-use crate::runs_file::{is_path, options};
+use crate::opening::{is_path, options};
 use crate::store_fault::{Cause, FailedStatement, Refusal, Shortage};
 use kt_base::{NoMemory, Text};
 use sqlite::types::FromSql;

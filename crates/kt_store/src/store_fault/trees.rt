@@ -1,5 +1,5 @@
 ghost use Rattle.std.specs.Prelude.{◌≡◌, ◌++◌, ◌<◌, ◌^◌, ℤ, pos, List, [], ◌∷◌, map, length, false, Some, IsSome, IsTrue, IfOk, IfErr, OnOk};
-ghost use Rattle.kt_store.specs.Common.{AllByRecursion, filter, column, Int, AreWide, IsStoreFault, Goes, Looks, ShowsUnder, in_columns};
+ghost use Rattle.kt_store.specs.Common.{AllByRecursion, filter, column, Int, AreWide, IsStoreFault, Goes, Looks, LooksThrough, ShowsUnder, CountsUnder, in_columns};
 ghost use Rattle.sqlite_exec.specs.Calls.{OnlyReads};
 ghost use Rattle.sqlite_exec.specs.Loops.{left_of};
 ghost use Rattle.sqlite_trees.specs.View.{IsClean};
@@ -100,6 +100,15 @@ pub(crate) fn columns_of(
         values.push(row.get(*at))?;
     }
     Ok(values)
+}
+
+/// The same, as a query shows them.
+pub(crate) fn shown(alloc: Global, row: &row::Row, columns: &[usize]) -> Result<Row, NoMemory>
+    ensures { IfOk result (λ it. it ≡ in_columns columns.now row.now) }
+{
+    let values = columns_of(alloc, row, columns)?;
+    let row = Row::from_row(alloc, &values)?;
+    Ok(row)
 }
 
 /// Adds the same, as a query shows them.
@@ -250,6 +259,38 @@ pub(crate) fn rows_in<S: Store>(
     drop((before, found));
     let key = number_row(alloc, run)?;
     rows_behind(store, alloc, table, &key, columns)
+}
+
+/// How many places the index of a table's key has under a key.
+pub(crate) fn count_under<S: Store>(
+    store: &mut S,
+    alloc: Global,
+    table: &Table,
+    key: &row::Row,
+) -> Result<u64, StoreFault>
+    ensures counted { IfOk result (λ n. IsClean (S.Store.view store.new)
+        → CountsUnder table.now.tree table.now.index key.now
+        (S.Store.view store.old).trees n) }
+    ensures through { IsClean (S.Store.view store.new)
+        → OnOk result (LooksThrough (S.Store.view store.old) (S.Store.view store.new)) }
+    ensures failed { IfErr result IsStoreFault }
+    ensures looks { Looks S.Store store.old store.new }
+{
+    if !are_shaped(store, table) {
+        return Err(DAMAGED);
+    }
+    store.seek(0, table.index, key, Direction::Forward)?;
+    let mut place = row::Row::new(alloc);
+    // A disk that lies could keep a cursor going, so the loop counts.
+    'places: for count in 0..u64::MAX {
+        if !store.next(0, &mut place)? {
+            return Ok(count);
+        }
+        if place.cmp_prefix(Order::PLAIN, key) != Ordering::Equal {
+            return Ok(count);
+        }
+    }
+    Err(DAMAGED)
 }
 
 /// These columns of each of these rows.

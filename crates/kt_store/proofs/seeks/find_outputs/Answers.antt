@@ -18,8 +18,8 @@ outputs_in-requires g c = first_wide 4 c.in_ok-rows.rows.items c.in-Some.row.now
 it_is : (at : ℕ → Option Entry) (Q : Entry → Type 0) (r : Result CaseOutputs StoreFault) (n run : ℕ) → n ≡ run → ((e : Entry) → Q e → IfOk r (λ o. o ≡ outputs_of e)) → (e : Entry) × (at n ≡ Some e) × Q e → IfOk r (λ o. (e : Entry) × (at run ≡ Some e) × (o ≡ outputs_of e))
 it_is at Q r n run same each it = IfOk-weaker r _ _ (λ o is. (it.0, ap at (sym same) ∙ it.1, is)) (each it.0 it.2)
 
-pub returns-in-Some : goal.returns-in-Some
-returns-in-Some g c = outputs_looked g.S.Store _ _ c.rows_behind.ensures.looks c.args.run c.args.position _ (λ runs has clean.
+pub returns-in-Some-clause-served : goal.returns-in-Some-clause-served
+returns-in-Some-clause-served g c = outputs_looked g.S.Store _ _ c.rows_behind.ensures.looks c.args.run c.args.position _ (λ runs has clean.
     let keeps = has (c.rows_behind.ensures.looks.clean clean) (c.in_ok-rows.ensures.sound clean) in
     let n = c.key-number.result in
     let es = filter (is_at c.args.position) (entries_of (run_at runs n)) in
@@ -28,8 +28,8 @@ returns-in-Some g c = outputs_looked g.S.Store _ _ c.rows_behind.ensures.looks c
     (outputs_there (run_at runs n) c.args.position c.in_ok-rows.rows.items c.in-Some.row.now rows (ap (λ l. slice_get l 0) (sym c.deref.ensures.value) ∙ sym c.first.ensures.value ∙ ap option_copied c.in-Some.is)))
     (IfErr-weaker c.outputs_in.result _ _ (λ e failed. inl failed) c.outputs_in.ensures.failed))
 
-pub returns : goal.returns
-returns g c = outputs_looked g.S.Store _ _ c.rows_behind.ensures.looks c.args.run c.args.position _ (λ runs has clean.
+pub returns-clause-served : goal.returns-clause-served
+returns-clause-served g c = outputs_looked g.S.Store _ _ c.rows_behind.ensures.looks c.args.run c.args.position _ (λ runs has clean.
     let keeps = has (c.rows_behind.ensures.looks.clean clean) (c.in_ok-rows.ensures.sound clean) in
     let n = c.key-number.result in
     let es = filter (is_at c.args.position) (entries_of (run_at runs n)) in

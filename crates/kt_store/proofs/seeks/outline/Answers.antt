@@ -9,8 +9,8 @@ use Rattle.kt_store.proofs.AloneLemmas.{looks_then, outline_agree, outline_looke
 use Rattle.kt_store.proofs.seeks.outline.Goals.{then-not-branch-via-then-not-branch, then-not-branch-via-else-not-branch+then-number-run}
 use Rattle.kt_store.proofs.seeks.outline.Goals as goal
 
-pub returns-then-not-branch : goal.returns-then-not-branch
-returns-then-not-branch g c =
+pub returns-then-not-branch-clause-served : goal.returns-then-not-branch-clause-served
+returns-then-not-branch-clause-served g c =
     let looks : Looks g.S.Store c.args.store.now c.get.new.self = search rules in
     outline_looked g.S.Store _ _ looks c.args.run c.args.pairs _ (λ runs has clean.
     let keeps = has (subst IsClean (c.in_ok-get.ensures.same clean) clean) (c.in_ok-get.ensures.sound clean) in
@@ -26,8 +26,8 @@ returns-then-not-branch g c =
       ],
     ))
 
-pub returns : goal.returns
-returns g c =
+pub returns-clause-served : goal.returns-clause-served
+returns-clause-served g c =
     let looks : Looks g.S.Store c.args.store.now c.get.new.self = search rules in
     outline_looked g.S.Store _ _ (looks_then g.S.Store _ _ _ looks c.all_entries.ensures.looks) c.args.run c.args.pairs _ (λ runs has clean.
     let early : IsClean (g.S.Store.view c.get.new.self) = c.all_entries.ensures.looks.clean clean in

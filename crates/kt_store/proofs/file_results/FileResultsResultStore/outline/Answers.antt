@@ -5,4 +5,4 @@ pub returns-in-Whole : goal.returns-in-Whole
 returns-in-Whole g c = rw c.in-Whole.is (whole_serves g.S.Store _ _ _ c.outline.ensures)
 
 pub returns-in-Alone : goal.returns-in-Alone
-returns-in-Alone g c = rw c.in-Alone.is (alone_serves g.S.Store _ _ _ _ _ c.outline-in-Alone.ensures)
+returns-in-Alone g c = rw c.in-Alone.is (alone_serves g.S.Store _ _ _ _ _ c.outline-in-Alone.ensures.served)

@@ -1,6 +1,6 @@
 use Rattle.std.proofs.Common.{◌∙◌}
 use Rattle.kt_store.proofs.OpeningLemmas.{ok_is, if_some}
-use Rattle.kt_store.proofs.runs_file.unopened.Goals as goal
+use Rattle.kt_store.proofs.opening.unopened.Goals as goal
 
 pub returns : goal.returns
 returns g c = let made = ok_is c.new.result c.ok.result c.in_ok-pager.pager c.ok.ensures.value c.in_ok-pager.was in record {

@@ -10,7 +10,7 @@ use Rattle.sqlite_pool.proofs.ProbeLemmas.{reserved_word}
 use Rattle.sqlite.specs.Files.{image_of}
 use Rattle.sqlite.proofs.FileLemmas.{probe_size, same_image}
 use Rattle.kt_store.proofs.OpeningLemmas.{ok_is}
-use Rattle.kt_store.proofs.runs_file.plain_size.Goals as goal
+use Rattle.kt_store.proofs.opening.plain_size.Goals as goal
 
 pub returns-clause-size : goal.returns-clause-size
 returns-clause-size g c clean db held =

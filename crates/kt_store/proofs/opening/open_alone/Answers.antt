@@ -3,7 +3,7 @@ use Rattle.sqlite_disk.specs.Events.{Event, replay}
 use Rattle.sqlite_wal.specs.Recovery.{Image}
 use Rattle.kt_store.specs.Seeks.{ReadsRuns}
 use Rattle.kt_store.proofs.OpeningLemmas.{ok_is}
-use Rattle.kt_store.proofs.runs_file.open_alone.Goals as goal
+use Rattle.kt_store.proofs.opening.open_alone.Goals as goal
 
 abbrev image : List ℕ → List ℕ → Image
 image log db = record { log = log; db = db }

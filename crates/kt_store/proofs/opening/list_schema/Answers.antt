@@ -11,7 +11,7 @@ use Rattle.sqlite_store.specs.Listing.{listed_from}
 use Rattle.sqlite_store.specs.Unopened.{state_of, wanted_by, image}
 use Rattle.sqlite.specs.Opening.{unrooted}
 use Rattle.kt_store.proofs.OpeningLemmas.{ok_is, if_some, ids, layouts, fits_of}
-use Rattle.kt_store.proofs.runs_file.list_schema.Goals as goal
+use Rattle.kt_store.proofs.opening.list_schema.Goals as goal
 
 pub returns-clause-lists : goal.returns-clause-lists
 returns-clause-lists g c = if_some _ c.list_schema.result c.ok-3.result c.ok-3.ensures.value (λ it is done late.

@@ -19,7 +19,7 @@ use Rattle.sqlite.proofs.OpenLemmas.{pool_files}
 use Rattle.kt_store.specs.Inner.Opening.{OpensOver, ListsRuns}
 use Rattle.kt_store.specs.Seeks.{HoldsRuns, ReadsRuns}
 use Rattle.kt_store.proofs.OpeningLemmas.{ok_is, then_some, reads_runs, still_over, without_sums}
-use Rattle.kt_store.proofs.runs_file.runs_over.Goals as goal
+use Rattle.kt_store.proofs.opening.runs_over.Goals as goal
 
 pub returns : goal.returns
 returns g c =

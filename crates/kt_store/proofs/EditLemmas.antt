@@ -1,0 +1,104 @@
+-- What rows that are written by the rules of the schema make of the tables of runs.
+use Rattle.std.proofs.Common.{◌≡◌, ◌==◌, ℕ, ℤ, zero, suc, ◌+◌, ◌<◌, List, [], ◌∷◌, ◌++◌, length, map, drop, take, get_or, pos, None, Some, false, refl, sym, ap, ap₂, subst, ◌∙◌, arith}
+use Rattle.kt_store.proofs.Common.{AllByRecursion, Trees, Row, Run, Entry, Variable, Database, Tally, Schema, Chosen, Given, Enforced, nat_tests, works, edit_of, last_id, one_step, ids_of, runs_1, entries_1, props_1, schema_2, Tables, Keeps, IsPair, IsRun, CanAdd, AreNumbered, run_at, new_run, with_entry, finish, entry_row, entry_rows, pair_row, pair_rows, pair_rows_from, prop_rows, IsComplete}
+use Rattle.sqlite_trees.specs.Objects.{catalog_tree}
+use Rattle.sqlite_catalog.specs.Listing.{IsSound}
+use Rattle.sqlite_catalog.proofs.ReadLemmas.{lists_once}
+use Rattle.sqlite_rules.specs.Cast.{cast_row}
+use Rattle.kt_store.specs.Inner.Edits.{Fills, PutsRows, begun_row, done_row, unnumbered}
+use Rattle.kt_store.proofs.BeginLemmas.{begin_params, begin_works, begun}
+use Rattle.kt_store.proofs.CloseLemmas.{finish_in}
+use Rattle.kt_store.proofs.EntryLemmas.{back}
+use Rattle.kt_store.proofs.FillLemmas.{Holds, entry_in, pairs_in, rows_of, tables_of}
+use Rattle.kt_store.proofs.FinishLemmas.{finish_works}
+use Rattle.kt_store.proofs.PutLemmas.{put_rows, put_works}
+use Rattle.kt_store.proofs.RunsByNumber.{number_at}
+use Rattle.kt_store.proofs.Values.{cast_int, cast_null}
+
+abbrev in_trees : Trees → Database
+in_trees trees = record { schema = schema_2; trees = trees }
+
+-- no foreign key refers to pairs
+props_works : (olds news : List Row) → works schema_2 Enforced 0 5 olds news ≡ []
+props_works olds [] = refl
+props_works olds (x ∷ news) = let some : (length (x ∷ news) == 0) ≡ false = grind (arith, nat_tests) in rw some refl
+
+-- trees that keep runs are those of the tables, and list their schema alone
+pub tables_in : (runs : List Run) (trees : Trees) → Keeps runs trees → Tables (in_trees trees) runs
+tables_in runs trees k = subst (λ (db : Database). Tables db runs) (ap₂ (λ (s : Schema) (t : Trees). record { schema = s; trees = t }) k.3.schema (sym k.2)) k.3
+
+pub schema_is : (schema : Schema) (runs : List Run) (trees : Trees) → IsSound schema trees → Keeps runs trees → schema ≡ schema_2
+schema_is schema runs trees sound k =
+    let ours : IsSound schema_2 trees = subst (λ s. IsSound s trees) k.3.schema (subst (IsSound k.0.schema) (sym k.2) k.1) in
+    lists_once (trees catalog_tree) schema schema_2 sound.lists ours.lists
+
+keeps_in : (runs : List Run) (schema : Schema) (trees : Trees) → schema ≡ schema_2 → IsSound schema trees → Tables (in_trees trees) runs → Keeps runs trees
+keeps_in runs schema trees is sound has = (in_trees trees, subst (λ s. IsSound s trees) is sound, refl, has)
+
+module _ (schema : Schema) (runs : List Run) (old new : Trees) (was : IsSound schema old) (sound : IsSound schema new) (k : Keeps runs old) where
+  ours : schema ≡ schema_2
+  ours = schema_is schema runs old was k
+
+  pub run_made : (total started : ℕ) → length runs < 1000000 → total < 4294967296 → PutsRows schema 1 [] Chosen 0 (begun_row total started ∷ []) old new → Keeps (runs ++ new_run runs total started ∷ []) new
+  run_made total started room small puts =
+      let writes = subst (λ (s : Schema). PutsRows s 1 [] Chosen 0 (begun_row total started ∷ []) old new) ours puts runs_1 refl in
+      let edit = edit_of old runs_1 [] Chosen 0 (begun_row total started ∷ []) in
+      let tally : Tally = record { rows = None; last = last_id edit.news; shown = []; in_doubt = false } in
+      keeps_in (runs ++ new_run runs total started ∷ []) schema new ours sound
+      (begun runs total started (in_trees old) (in_trees new) tally (tables_in runs old k) room small
+      (record { schema_is = refl; applies = one_step schema_2 Enforced old new edit (begin_works (begin_params total started) old) writes; last_is = refl }))
+
+  pub run_finished : (run : ℕ) (r : Run) → run_at runs run ≡ Some r → IsComplete run runs → PutsRows schema 1 (ids_of (done_row r ∷ [])) Given 1 (done_row r ∷ []) old new → Keeps (finish run runs) new
+  run_finished run r there whole puts =
+      let writes = subst (λ (s : Schema). PutsRows s 1 (ids_of (done_row r ∷ [])) Given 1 (done_row r ∷ []) old new) ours puts runs_1 refl in
+      let same : whole.1 ≡ r = let e : Some whole.1 ≡ Some r = sym whole.3 ∙ there in cc in
+      let edit = edit_of old runs_1 (ids_of (done_row r ∷ [])) Given 1 (done_row r ∷ []) in
+      keeps_in (finish run runs) schema new ours sound
+      (subst (λ (n : ℕ). Tables (in_trees new) (finish n runs)) (sym whole.2)
+      (finish_in runs whole.0 r (subst (λ (n : ℕ). run_at runs n ≡ Some r) whole.2 there) (ap (λ (x : Run). length x.entries) (sym same) ∙ whole.4 ∙ ap (λ (x : Run). x.total) same) (in_trees old) (in_trees new) (tables_in runs old k) refl
+      (one_step schema_2 Enforced old new edit (finish_works r old) writes)))
+
+  pub finished_by : (run : ℕ) (r : Run) → run_at runs run ≡ Some r → IsComplete run runs → (mid : Trees) (gone : List ℤ) (done : Row) → mid ≡ old → done ≡ done_row r → gone ≡ pos r.number ∷ []
+      → PutsRows schema 1 gone Given 1 (done ∷ []) mid new → Keeps (finish run runs) new
+  finished_by run r there whole mid gone done same is ids puts =
+      run_finished run r there whole (subst (λ (l : List ℤ). PutsRows schema 1 l Given 1 (done_row r ∷ []) old new) ids (subst (λ (x : Row). PutsRows schema 1 gone Given 1 (x ∷ []) old new) is (subst (λ (t : Trees). PutsRows schema 1 gone Given 1 (done ∷ []) t new) same puts)))
+
+  -- the rows of pairs are stored as they are
+  cast_pairs : (n p j : ℕ) (vs : List Variable) → map (λ s. cast_row props_1 (drop 0 s)) (map unnumbered (pair_rows_from n p j vs)) ≡ map back (pair_rows_from n p j vs)
+  cast_pairs n p j [] = refl
+  cast_pairs n p j (v ∷ vs) = ap₂ (λ x xs. x ∷ xs) (rw (cast_null, cast_int (pos n), cast_int (pos p), cast_int (pos j)) refl) (cast_pairs n p (suc j) vs)
+
+  pub entry_filled : (run : ℕ) (e : Entry) → CanAdd run e runs → Fills schema run e old new → Keeps (with_entry run e runs) new
+  entry_filled run e fits fills =
+      let at = fits.0 in
+      let n : suc at ≡ run = sym fits.1 in
+      let mid = fills.1.0 in
+      let first = subst (λ (s : Schema). PutsRows s 2 [] Chosen 0 (unnumbered (entry_row run e) ∷ []) old mid) ours fills.1.1 entries_1 refl in
+      let second = subst (λ (s : Schema). PutsRows s 3 [] Chosen 0 (map unnumbered (pair_rows run e)) mid new) ours fills.1.2 props_1 refl in
+      let has = tables_in runs old k in
+      let one = entry_in runs (entry_rows runs) (prop_rows runs) (in_trees old) (in_trees mid) (rows_of runs (in_trees old) has) refl run e
+      (one_step schema_2 Enforced old mid (edit_of old entries_1 [] Chosen 0 (put_rows run e)) (put_works (entry_row run e) old) first) in
+      let all = pairs_in runs (entry_row run e ∷ entry_rows runs) (prop_rows runs) (in_trees mid) (in_trees new) one refl (map unnumbered (pair_rows run e)) (pair_rows run e) (cast_pairs run e.position 0 e.meta)
+      (one_step schema_2 Enforced mid new (edit_of mid props_1 [] Chosen 0 (map unnumbered (pair_rows run e))) (props_works [] (edit_of mid props_1 [] Chosen 0 (map unnumbered (pair_rows run e))).news) second) in
+      keeps_in (with_entry run e runs) schema new ours sound
+      (subst (λ (m : ℕ). Tables (in_trees new) (with_entry m e runs)) n
+      (tables_of runs at e fits.2 (subst (λ (m : ℕ). AllByRecursion IsRun (with_entry m e runs)) fits.1 (fits.3 fills.0)) has.valid (in_trees new)
+      (subst (λ (m : ℕ). Holds runs (entry_row m e ∷ entry_rows runs) (pair_rows_from m e.position 0 e.meta ++ prop_rows runs) (in_trees new)) (sym n) all)))
+
+pub number_is : (run : ℕ) (runs : List Run) (r : Run) → AreNumbered 1 runs → run_at runs run ≡ Some r → r.number ≡ run
+number_is zero runs r h there = absurd cc
+number_is (suc k) runs r h there = number_at 1 k runs r h there ∙ omega arith
+
+-- ---- the rows of pairs, one by one
+
+pub pairs_taken : (n p j i : ℕ) (vs : List Variable) (v : Variable) → i < length vs → v ≡ get_or vs i v
+    → map unnumbered (pair_rows_from n p j (take (suc i) vs)) ≡ map unnumbered (pair_rows_from n p j (take i vs)) ++ unnumbered (pair_row n p (j + i) v) ∷ []
+pairs_taken n p j i [] v low is = absurd (omega (arith, low))
+pairs_taken n p j zero (w ∷ vs) v low is = ap₂ (λ (x : Variable) (k : ℕ). unnumbered (pair_row n p k x) ∷ []) (sym is) (omega arith)
+pairs_taken n p j (suc i) (w ∷ vs) v low is =
+    ap (λ l. unnumbered (pair_row n p j w) ∷ l) (pairs_taken n p (suc j) i vs v (omega (arith, low)) is ∙ ap (λ (k : ℕ). map unnumbered (pair_rows_from n p (suc j) (take i vs)) ++ unnumbered (pair_row n p k v) ∷ []) (omega arith))
+
+pub all_taken : (i : ℕ) (vs : List Variable) (v : Variable) → i < length vs → v ≡ get_or vs i v → IsPair v → AllByRecursion IsPair (take i vs) → AllByRecursion IsPair (take (suc i) vs)
+all_taken i [] v low is has all = absurd (omega (arith, low))
+all_taken zero (w ∷ vs) v low is has all = (subst IsPair is has, tt)
+all_taken (suc i) (w ∷ vs) v low is has all = (all.0, all_taken i vs v (omega (arith, low)) is has all.1)

@@ -1,0 +1,30 @@
+use Rattle.std.proofs.Common.{rules, arith, ◌≡◌, ◌∙◌, ◌+◌, suc, [], ◌∷◌, ◌++◌, map, take, sym, ap, ap₂, subst}
+use Rattle.kt_store.proofs.Common.{AllByRecursion, IsPair, Row, pair_row, pair_rows_from, take_all}
+use Rattle.kt_store.specs.Inner.Edits.{unnumbered}
+use Rattle.kt_store.proofs.EditLemmas.{all_taken, pairs_taken}
+use Rattle.kt_store.proofs.edits.rows_of_pairs.Goals as goal
+
+pub loop-pair-preserved : goal.loop-pair-preserved
+loop-pair-preserved c =
+    let i = c.loop-pair.pair-index in
+    let vs = c.args.pairs.now in
+    let v = c.pair-item.result in
+    let pushed : c.add.new.items.items ≡ c.loop-pair.rows.items ++ c.in_ok-row.row ∷ [] = search rules in
+    let place : c.loop-pair.place ≡ 0 + i = omega (arith, c.loop-pair.invariant.0) in
+    let row : c.in_ok-row.row ≡ unnumbered (pair_row c.args.run c.args.position (0 + i) v) = c.in_ok-row.ensures.row ∙ ap (λ k. unnumbered (pair_row c.args.run c.args.position k v)) place in
+    let taken = pairs_taken c.args.run c.args.position 0 i vs v (omega (arith, c.loop-pair-test.true)) c.pair-item.is in
+    let next : suc i ≡ i + 1 = omega arith in (
+      omega (arith, c.loop-pair.invariant.0),
+      pushed ∙ ap₂ (λ (l : _) (x : Row). l ++ x ∷ []) c.loop-pair.invariant.1 row ∙ sym taken ∙ ap (λ k. map unnumbered (pair_rows_from c.args.run c.args.position 0 (take k vs))) next,
+      subst (λ k. AllByRecursion IsPair (take k vs)) next (all_taken i vs v (omega (arith, c.loop-pair-test.true)) c.pair-item.is c.in_ok-row.ensures.texts c.loop-pair.invariant.2),
+    )
+
+pub returns-clause-rows : goal.returns-clause-rows
+returns-clause-rows c =
+    let all = take_all c.loop-pair.pair-index c.args.pairs.now (omega (arith, c.loop-pair-test.false)) in
+    c.loop-pair.invariant.1 ∙ ap (λ l. map unnumbered (pair_rows_from c.args.run c.args.position 0 l)) all
+
+pub returns-clause-texts : goal.returns-clause-texts
+returns-clause-texts c =
+    let all = take_all c.loop-pair.pair-index c.args.pairs.now (omega (arith, c.loop-pair-test.false)) in
+    subst (AllByRecursion IsPair) all c.loop-pair.invariant.2

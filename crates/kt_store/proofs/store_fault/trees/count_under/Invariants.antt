@@ -1,0 +1,12 @@
+use Rattle.std.proofs.Common.{IsSome}
+use Rattle.sqlite_trees.specs.View.{IsClean}
+use Rattle.sqlite_exec.specs.Loops.{left_of}
+use Rattle.kt_store.specs.Inner.Cursors.{Looks, LooksThrough}
+use Rattle.kt_store.proofs.PlaceLemmas.{Passed}
+use Rattle.kt_store.proofs.store_fault.trees.count_under.Given as goal
+
+abbrev pub invariant-places : goal.invariant-places
+invariant-places g l =
+    let old = g.S.Store.view l.fn.store in
+    let now = g.S.Store.view l.store in
+    IsSome (now.cursors 0) × Looks g.S.Store l.fn.store l.store × (IsClean now → LooksThrough old now) × (IsClean now → Passed l.key (old.trees l.table.index) (left_of now 0) l.count)

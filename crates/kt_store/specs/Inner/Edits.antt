@@ -1,0 +1,67 @@
+-- Rows that are written into the trees of a store by the rules of its schema.
+use Rattle.std.specs.Prelude.{◌≡◌, ℕ, pos, false, List, [], ◌∷◌, IsTrue, Some, slice_get, Result, Ok, OnOk, ℤ, map}
+use Rattle.sqlite_trees.specs.Tree.{Trees}
+use Rattle.sqlite_trees.specs.View.{View, IsClean}
+use Rattle.sqlite_schema.specs.declared.schema.Schema.{Schema}
+use Rattle.sqlite_schema.specs.declared.schema.Table.{Table}
+use Rattle.sqlite_schema.specs.declared.schema.Keys.TheVariants.{Enforced}
+use Rattle.sqlite_catalog.specs.Listing.{IsSound}
+use Rattle.sqlite_rules.specs.Action.{Writes}
+use Rattle.sqlite_rules.specs.Edit.{edit_of}
+use Rattle.sqlite_rules.specs.declared.error.Rowids.{Rowids}
+use Rattle.sqlite_rules.specs.declared.error.Rowids.TheVariants.{Chosen}
+use Rattle.sqlite_value.specs.declared.value.Value.TheVariants.{Null, Int}
+use Rattle.sqlite_value.specs.Order.{Row}
+use Rattle.sqlite.specs.Store.{Ghosts}
+use Rattle.kt_base.specs.declared.entry.Entry.{Entry}
+use Rattle.kt_base.specs.declared.entry.Run.{Run}
+use Rattle.kt_store.specs.Inner.Cursors.{HoldsCommit}
+use Rattle.kt_store.specs.Inner.Runs.{HasTexts}
+use Rattle.kt_store.specs.Runs.{Keeps, entry_row, pair_rows}
+use Rattle.kt_store.specs.Seeks.{HasRuns}
+use Rattle.kt_store.specs.Serving.{Agrees, changed_by}
+use Rattle.kt_store.specs.StoreCalls.{StoreCall}
+use Rattle.kt_store.specs.declared.store_fault.StoreFault.{StoreFault}
+
+-- the transaction is not broken, and its trees list the schema and obey it
+pub record Obeys (v : View) (schema : Schema) : Type 0 where
+  pub unbroken : v.is_broken ≡ false
+  pub sound : IsSound schema v.trees
+
+-- a store shows its last commit, unless its transaction is broken, and that obeys the schema
+pub record IsSettledStore (v : View) (schema : Schema) : Type 0 where
+  pub settled : IsClean v → v.is_broken ≡ false → v.trees ≡ v.committed
+  pub sound : IsTrue v.is_open → IsSound schema v.committed
+
+-- the table at a place of the schema lost these rows and got others, which are read from a column of these on
+abbrev pub PutsRows : Schema → ℕ → List ℤ → Rowids → ℕ → List Row → Trees → Trees → Type 0
+PutsRows schema place gone rowids from sources old new =
+    (table : Table) → slice_get schema.tables place ≡ Some table → Writes schema Enforced old (edit_of old table gone rowids from sources) (Ok new)
+
+-- a row that has no rowid yet
+abbrev pub unnumbered : Row → Row
+unnumbered row = Null ∷ row
+
+-- the row of a run that begins, without a rowid
+abbrev pub begun_row : ℕ → ℕ → Row
+begun_row total started = Null ∷ Null ∷ Int (pos started) ∷ Int (pos total) ∷ Int (pos 0) ∷ []
+
+-- the row of a run, behind its rowid, once it is finished
+abbrev pub done_row : Run → Row
+done_row r = Int (pos r.number) ∷ Int (pos r.number) ∷ Null ∷ Int (pos r.started) ∷ Int (pos r.total) ∷ Int (pos 1) ∷ []
+
+-- an entry of texts is put into its table, and then its pairs into theirs
+abbrev pub Fills : Schema → ℕ → Entry → Trees → Trees → Type 0
+Fills schema run' e old new =
+    HasTexts e × ((mid : Trees) × PutsRows schema 2 [] Chosen 0 (unnumbered (entry_row run' e) ∷ []) old mid
+    × PutsRows schema 3 [] Chosen 0 (map unnumbered (pair_rows run' e)) mid new)
+
+-- a call wrote its rows, or failed, and committed nothing: the last commit stands, and a crash leaves what it left before; once it is done, the
+-- trees are those of the changed runs
+pub record Wrote {S : Type 0} (g : Ghosts S) {T : Type 0} (schema : Schema) (call : Result T StoreFault → StoreCall) (old new : S) (result : Result T StoreFault) : Type 0 where
+  pub clean : IsClean (g.view new) → IsClean (g.view old)
+  pub held : IsClean (g.view new) → HoldsCommit (g.view old) (g.view new)
+  pub outcomes : (db : Trees) → g.recovers new db → g.recovers old db
+  pub obeys : IsClean (g.view new) → OnOk result (Obeys (g.view new) schema)
+  pub agrees : (runs : List Run) → HasRuns (g.view old) runs → IsClean (g.view new) → Agrees runs (call result)
+  pub rows : (runs : List Run) → HasRuns (g.view old) runs → IsClean (g.view new) → OnOk result (Keeps (changed_by (call result) runs) (g.view new).trees)

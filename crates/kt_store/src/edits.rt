@@ -1,0 +1,440 @@
+//! Runs and entries that are written into the trees of a store, without a commit.
+
+ghost use Rattle.std.specs.Prelude.{◌≡◌, ◌⊎◌, ◌<◌, ◌≤◌, ◌^◌, [], ◌∷◌, map, suc, length, List, Some, None, Ok, Err, false, is_err, IfOk, IfErr, OnOk, OnErr};
+ghost use Rattle.kt_store.specs.Common.{AllByRecursion, owned, Run, last_run, IsMoment, IsStorable, IsStoreFault, IsText, IsPair, CanAdd, IsComplete, IsBareIfPassed, HasRuns, Looks, LooksThrough, Obeys, HoldsCommit, Fills, Began, Put, Finished, Agrees, Keeps, PutsRows, changed_by, run_at, run_row, entry_row, pair_row, pair_rows_from, unnumbered, done_row, put_refusal, finish_refusal};
+ghost use Rattle.sqlite_trees.specs.Tree.{Trees};
+ghost use Rattle.sqlite_trees.specs.View.{IsClean};
+ghost use Rattle.sqlite_catalog.specs.Listing.{IsSound};
+
+use crate::StoreFault;
+use crate::heads::add;
+use crate::put::{code, reason_of};
+use crate::seeks::{ENTRIES, last_number, stored_head, stored_run};
+use crate::store_fault::rules::put_rows;
+use crate::store_fault::trees::{add_number, count_under, number_row};
+use crate::value::{blob, int, text};
+use kt_base::{Entry, NoMemory, Text, Variable};
+use sqlite_rules::error::Rowids;
+use sqlite_schema::schema::Schema;
+use sqlite_trees::store::Alter;
+use sqlite_value::row::Row;
+use sqlite_value::value::ValueRef;
+use std::alloc::Global;
+
+/// How many runs this profile keeps.
+const MOST_RUNS: u64 = 1_000_000;
+
+/// A row of these values.
+fn row_of(alloc: Global, values: &[ValueRef<'_>]) -> Result<Row, NoMemory>
+    ensures { IfOk result (λ row. row ≡ map owned values.now) }
+{
+    let mut row = Row::new(alloc);
+    for value in values {
+        row.push(*value)?;
+    }
+    Ok(row)
+}
+
+/// Puts one row into the table at a place of the schema, in place of those with these rowids, without a commit. The row
+/// is read from a column on.
+fn put_one<S: Alter>(
+    store: &mut S,
+    alloc: Global,
+    schema: &Schema,
+    place: usize,
+    gone: &[i64],
+    rowids: Rowids,
+    from: usize,
+    row: Row,
+) -> Result<(), StoreFault>
+    requires obeys { IsClean (S.Store.view store.old)
+        → Obeys (S.Store.view store.old) schema.now }
+    requires short { from ≡ 0 ⊎ from ≡ 1 }
+    ensures puts { IsClean (S.Store.view store.new)
+        → OnOk result (PutsRows schema.now place gone.now rowids from (row ∷ [])
+        (S.Store.view store.old).trees (S.Store.view store.new).trees) }
+    ensures failed { IfErr result IsStoreFault }
+    ensures obeys { IsClean (S.Store.view store.new)
+        → OnOk result (Obeys (S.Store.view store.new) schema.now) }
+    ensures held { IsClean (S.Store.view store.new)
+        → HoldsCommit (S.Store.view store.old) (S.Store.view store.new) }
+    ensures clean { IsClean (S.Store.view store.new) → IsClean (S.Store.view store.old) }
+    ensures outcomes { (db : Trees) → S.Store.recovers store.new db
+        → S.Store.recovers store.old db }
+{
+    let mut rows = Vec::new(alloc);
+    add(&mut rows, row)?;
+    put_rows(
+        store,
+        alloc,
+        schema,
+        place,
+        gone,
+        rowids,
+        from,
+        rows.as_slice(),
+    )?;
+    Ok(())
+}
+
+/// The row of the pair at a place among those of an entry.
+fn pair_row(
+    alloc: Global,
+    run: u64,
+    position: u32,
+    place: u64,
+    pair: &Variable,
+) -> Result<Row, NoMemory>
+    requires { (run < 2 ^ 63) × (place < 2 ^ 63) }
+    ensures row { IfOk result (λ row. row ≡ unnumbered (pair_row run position place pair.now)) }
+    ensures texts { IsPair pair.now }
+{
+    row_of(
+        alloc,
+        &[
+            ValueRef::Null,
+            int(run),
+            int(u64::from(position)),
+            int(place),
+            text(&pair.name),
+            text(&pair.value),
+        ],
+    )
+}
+
+/// The rows of the pairs of an entry.
+fn rows_of_pairs(
+    alloc: Global,
+    run: u64,
+    position: u32,
+    pairs: &[Variable],
+) -> Result<Vec<Row>, NoMemory>
+    requires { run < 2 ^ 63 }
+    ensures rows { IfOk result (λ rows. rows.items
+        ≡ map unnumbered (pair_rows_from run position 0 pairs.now)) }
+    ensures texts { OnOk result (AllByRecursion IsPair pairs.now) }
+{
+    let mut rows = Vec::new(alloc);
+    let mut place = 0u64;
+    for pair in pairs {
+        let row = pair_row(alloc, run, position, place, pair)?;
+        add(&mut rows, row)?;
+        place += 1;
+    }
+    Ok(rows)
+}
+
+/// The row of an entry of a run.
+fn row_of_entry<'a>(
+    alloc: Global,
+    run: u64,
+    entry: &'a Entry,
+    reason: &'a Text,
+) -> Result<Row, NoMemory>
+    requires run { run < 2 ^ 63 }
+    requires reason { reason.now ≡ entry.now.verdict.reason }
+    requires moments { IsStorable entry.now }
+    ensures row { IfOk result (λ row. row ≡ unnumbered (entry_row run entry.now)) }
+    ensures texts { IsText entry.now.program × IsText entry.now.case_name
+        × IsText entry.now.verdict.reason }
+{
+    row_of(
+        alloc,
+        &[
+            ValueRef::Null,
+            int(run),
+            int(u64::from(entry.position)),
+            text(&entry.program),
+            text(&entry.case_name),
+            int(code(entry.verdict.kind())),
+            text(reason),
+            int(entry.started),
+            int(entry.millis),
+            blob(&entry.body.out),
+            blob(&entry.body.err),
+            blob(&entry.cleanup.out),
+            blob(&entry.cleanup.err),
+        ],
+    )
+}
+
+/// The number of the next run. `StoreFull` where there are 1,000,000.
+fn next_number<S: Alter>(store: &mut S, alloc: Global) -> Result<u64, StoreFault>
+    ensures number { (runs : List Run) → HasRuns (S.Store.view store.old) runs
+        → IsClean (S.Store.view store.new)
+        → IfOk result (λ n. (n ≡ suc (length runs)) × (length runs < last_run)) }
+    ensures refused { (runs : List Run) → HasRuns (S.Store.view store.old) runs
+        → IsClean (S.Store.view store.new) → IfErr result (λ e. IsStoreFault e
+        ⊎ ((e ≡ StoreFault.StoreFull) × (last_run ≤ length runs))) }
+    ensures through { IsClean (S.Store.view store.new)
+        → OnOk result (LooksThrough (S.Store.view store.old) (S.Store.view store.new)) }
+    ensures looks { Looks S.Store store.old store.new }
+{
+    let last = last_number(store, alloc)?;
+    if last >= MOST_RUNS {
+        return Err(StoreFault::StoreFull);
+    }
+    Ok(last + 1)
+}
+
+/// Writes a run after the last one, and returns its number.
+pub(crate) fn write_run<S: Alter>(
+    store: &mut S,
+    alloc: Global,
+    schema: &Schema,
+    total: u32,
+    moment: u64,
+) -> Result<u64, StoreFault>
+    requires moment { IsMoment moment }
+    requires sound { IsClean (S.Store.view store.old) → (S.Store.view store.old).is_broken ≡ false
+        → IsSound schema.now (S.Store.view store.old).trees }
+    ensures agrees { (runs : List Run) → HasRuns (S.Store.view store.old) runs
+        → IsClean (S.Store.view store.new) → Agrees runs (Began total moment result) }
+    ensures rows { (runs : List Run) → HasRuns (S.Store.view store.old) runs
+        → IsClean (S.Store.view store.new)
+        → OnOk result (Keeps (changed_by (Began total moment result) runs) (S.Store.view store.new).trees) }
+    ensures obeys { IsClean (S.Store.view store.new)
+        → OnOk result (Obeys (S.Store.view store.new) schema.now) }
+    ensures held { IsClean (S.Store.view store.new)
+        → HoldsCommit (S.Store.view store.old) (S.Store.view store.new) }
+    ensures clean { IsClean (S.Store.view store.new) → IsClean (S.Store.view store.old) }
+    ensures outcomes { (db : Trees) → S.Store.recovers store.new db
+        → S.Store.recovers store.old db }
+{
+    let number = next_number(store, alloc)?;
+    let row = row_of(
+        alloc,
+        &[
+            ValueRef::Null,
+            ValueRef::Null,
+            int(moment),
+            int(u64::from(total)),
+            int(0),
+        ],
+    )?;
+    put_one(store, alloc, schema, 1, &[], Rowids::Chosen, 0, row)?;
+    Ok(number)
+}
+
+/// Asks whether the run takes the entry.
+fn check_entry<S: Alter>(
+    store: &mut S,
+    alloc: Global,
+    run: u64,
+    entry: &Entry,
+) -> Result<(), StoreFault>
+    ensures small { OnOk result (run ≤ last_run) }
+    ensures refused { (runs : List Run) → HasRuns (S.Store.view store.old) runs
+        → IsClean (S.Store.view store.new)
+        → IfErr result (λ e. IsStoreFault e ⊎ (put_refusal runs run entry.now ≡ Some e)) }
+    ensures taken { (runs : List Run) → HasRuns (S.Store.view store.old) runs
+        → IsClean (S.Store.view store.new)
+        → OnOk result (IsBareIfPassed entry.now → (put_refusal runs run entry.now ≡ None)
+        × CanAdd run entry.now runs) }
+    ensures through { IsClean (S.Store.view store.new)
+        → OnOk result (LooksThrough (S.Store.view store.old) (S.Store.view store.new)) }
+    ensures looks { Looks S.Store store.old store.new }
+{
+    let row = stored_run(store, alloc, run)?;
+    let head = stored_head(alloc, &row)?;
+    if head.finished {
+        return Err(StoreFault::RunClosed);
+    }
+    if entry.position >= head.total {
+        return Err(StoreFault::BadPosition);
+    }
+    let mut place = number_row(alloc, run)?;
+    add_number(&mut place, u64::from(entry.position))?;
+    if count_under(store, alloc, &ENTRIES, &place)? > 0 {
+        return Err(StoreFault::RepeatedPosition);
+    }
+    Ok(())
+}
+
+/// Writes an entry and its pairs into a run that takes it.
+fn fill<S: Alter>(
+    store: &mut S,
+    alloc: Global,
+    schema: &Schema,
+    run: u64,
+    entry: &Entry,
+    reason: &Text,
+) -> Result<(), StoreFault>
+    requires run { run < 2 ^ 63 }
+    requires reason { reason.now ≡ entry.now.verdict.reason }
+    requires moments { IsStorable entry.now }
+    requires obeys { IsClean (S.Store.view store.old)
+        → Obeys (S.Store.view store.old) schema.now }
+    ensures filled { IsClean (S.Store.view store.new)
+        → OnOk result (Fills schema.now run entry.now (S.Store.view store.old).trees
+        (S.Store.view store.new).trees) }
+    ensures obeys { IsClean (S.Store.view store.new)
+        → OnOk result (Obeys (S.Store.view store.new) schema.now) }
+    ensures held { IsClean (S.Store.view store.new)
+        → HoldsCommit (S.Store.view store.old) (S.Store.view store.new) }
+    ensures clean { IsClean (S.Store.view store.new) → IsClean (S.Store.view store.old) }
+    ensures outcomes { (db : Trees) → S.Store.recovers store.new db
+        → S.Store.recovers store.old db }
+    ensures failed { IfErr result IsStoreFault }
+{
+    let row = row_of_entry(alloc, run, entry, reason)?;
+    put_one(store, alloc, schema, 2, &[], Rowids::Chosen, 0, row)?;
+    let pairs = rows_of_pairs(alloc, run, entry.position, entry.meta.as_slice())?;
+    put_rows(
+        store,
+        alloc,
+        schema,
+        3,
+        &[],
+        Rowids::Chosen,
+        0,
+        pairs.as_slice(),
+    )?;
+    Ok(())
+}
+
+/// Writes an entry and its pairs into a run, if it takes them.
+pub(crate) fn write_entry<S: Alter>(
+    store: &mut S,
+    alloc: Global,
+    schema: &Schema,
+    run: u64,
+    entry: &Entry,
+) -> Result<(), StoreFault>
+    requires moments { IsStorable entry.now }
+    requires sound { IsClean (S.Store.view store.old) → (S.Store.view store.old).is_broken ≡ false
+        → IsSound schema.now (S.Store.view store.old).trees }
+    ensures agrees { (runs : List Run) → HasRuns (S.Store.view store.old) runs
+        → IsClean (S.Store.view store.new) → Agrees runs (Put run entry.now result) }
+    ensures rows { (runs : List Run) → HasRuns (S.Store.view store.old) runs
+        → IsClean (S.Store.view store.new)
+        → OnOk result (Keeps (changed_by (Put run entry.now result) runs) (S.Store.view store.new).trees) }
+    ensures obeys { IsClean (S.Store.view store.new)
+        → OnOk result (Obeys (S.Store.view store.new) schema.now) }
+    ensures held { IsClean (S.Store.view store.new)
+        → HoldsCommit (S.Store.view store.old) (S.Store.view store.new) }
+    ensures clean { IsClean (S.Store.view store.new) → IsClean (S.Store.view store.old) }
+    ensures outcomes { (db : Trees) → S.Store.recovers store.new db
+        → S.Store.recovers store.old db }
+{
+    let reason = reason_of(alloc, entry)?;
+    check_entry(store, alloc, run, entry)?;
+    fill(store, alloc, schema, run, entry, &reason)?;
+    Ok(())
+}
+
+/// The row of a run, behind its rowid, once it is finished.
+fn finished_row(alloc: Global, row: &Row) -> Result<Row, NoMemory>
+    ensures { (r : Run) → row.now ≡ run_row r → IfOk result (λ done. done ≡ done_row r) }
+{
+    row_of(
+        alloc,
+        &[
+            row.get(0),
+            row.get(0),
+            ValueRef::Null,
+            row.get(2),
+            row.get(3),
+            int(1),
+        ],
+    )
+}
+
+/// The row of a run that may be finished.
+fn check_run<S: Alter>(store: &mut S, alloc: Global, run: u64) -> Result<Row, StoreFault>
+    ensures small { OnOk result (run ≤ last_run) }
+    ensures refused { (runs : List Run) → HasRuns (S.Store.view store.old) runs
+        → IsClean (S.Store.view store.new)
+        → IfErr result (λ e. IsStoreFault e ⊎ (finish_refusal runs run ≡ Some e)) }
+    ensures taken { (runs : List Run) → HasRuns (S.Store.view store.old) runs
+        → IsClean (S.Store.view store.new)
+        → IfOk result (λ row. (r : Run) × (run_at runs run ≡ Some r) × (row ≡ run_row r)
+        × (finish_refusal runs run ≡ None) × IsComplete run runs) }
+    ensures through { IsClean (S.Store.view store.new)
+        → OnOk result (LooksThrough (S.Store.view store.old) (S.Store.view store.new)) }
+    ensures looks { Looks S.Store store.old store.new }
+{
+    let row = stored_run(store, alloc, run)?;
+    let head = stored_head(alloc, &row)?;
+    if head.finished {
+        return Err(StoreFault::RunClosed);
+    }
+    let key = number_row(alloc, run)?;
+    if count_under(store, alloc, &ENTRIES, &key)? < u64::from(head.total) {
+        return Err(StoreFault::Incomplete);
+    }
+    Ok(row)
+}
+
+/// Writes that a run is finished, if it has all its entries.
+pub(crate) fn write_finish<S: Alter>(
+    store: &mut S,
+    alloc: Global,
+    schema: &Schema,
+    run: u64,
+) -> Result<(), StoreFault>
+    requires { IsClean (S.Store.view store.old) → (S.Store.view store.old).is_broken ≡ false
+        → IsSound schema.now (S.Store.view store.old).trees }
+    ensures agrees { (runs : List Run) → HasRuns (S.Store.view store.old) runs
+        → IsClean (S.Store.view store.new) → Agrees runs (Finished run result) }
+    ensures rows { (runs : List Run) → HasRuns (S.Store.view store.old) runs
+        → IsClean (S.Store.view store.new)
+        → OnOk result (Keeps (changed_by (Finished run result) runs) (S.Store.view store.new).trees) }
+    ensures obeys { IsClean (S.Store.view store.new)
+        → OnOk result (Obeys (S.Store.view store.new) schema.now) }
+    ensures held { IsClean (S.Store.view store.new)
+        → HoldsCommit (S.Store.view store.old) (S.Store.view store.new) }
+    ensures clean { IsClean (S.Store.view store.new) → IsClean (S.Store.view store.old) }
+    ensures outcomes { (db : Trees) → S.Store.recovers store.new db
+        → S.Store.recovers store.old db }
+{
+    let row = check_run(store, alloc, run)?;
+    let done = finished_row(alloc, &row)?;
+    put_one(
+        store,
+        alloc,
+        schema,
+        1,
+        &[run as i64],
+        Rowids::Given,
+        1,
+        done,
+    )?;
+    Ok(())
+}
+
+/// Commits what was written. If it was refused, or the commit fails, the transaction goes back to the last commit.
+pub(crate) fn ended<S: Alter, T: Drop>(
+    store: &mut S,
+    written: Result<T, StoreFault>,
+) -> Result<T, StoreFault>
+    ensures value { IfOk result (λ value. written ≡ Ok value) }
+    ensures fault { IfErr result (λ e. (written ≡ Err e) ⊎ IsStoreFault e) }
+    ensures clean { IsClean (S.Store.view store.new) → IsClean (S.Store.view store.old) }
+    ensures settled { IsClean (S.Store.view store.new)
+        → (S.Store.view store.new).is_broken ≡ false
+        → (S.Store.view store.new).trees ≡ (S.Store.view store.new).committed }
+    ensures done { IsClean (S.Store.view store.new)
+        → OnOk result (((S.Store.view store.new).is_broken ≡ false)
+        × ((S.Store.view store.new).committed ≡ (S.Store.view store.old).trees)) }
+    ensures kept { IsClean (S.Store.view store.new)
+        → OnErr result (HoldsCommit (S.Store.view store.old) (S.Store.view store.new)) }
+    ensures crash { (db : Trees) → S.Store.recovers store.new db
+        → ((is_err written ≡ false) × (db ≡ (S.Store.view store.old).trees))
+        ⊎ S.Store.recovers store.old db }
+{
+    let value = match written {
+        Ok(value) => value,
+        Err(fault) => {
+            store.rollback();
+            return Err(fault);
+        }
+    };
+    match store.commit() {
+        Ok(()) => Ok(value),
+        Err(error) => {
+            store.rollback();
+            Err(StoreFault::from(error))
+        }
+    }
+}

@@ -1,0 +1,228 @@
+ghost use Rattle.std.specs.Prelude.{◌≡◌, [], ◌∷◌, map, pos, true, Some, IfSome, IsTrue};
+ghost use Rattle.kt_store.specs.Common.{Int, Looks, ListsRuns, ReadsRuns, image_at, column};
+ghost use Rattle.sqlite_trees.specs.Tree.{Trees, rowid};
+ghost use Rattle.sqlite_wal.specs.PageSize.{bytes_of};
+ghost use Rattle.sqlite_wal.specs.Reads.{AreClean, OnlyReads};
+ghost use Rattle.sqlite_store.specs.Unopened.{AreUsable, files_of, state_of};
+ghost use Rattle.sqlite.specs.Files.{HoldsDatabase, image_of};
+
+use crate::attach::{CREATE_ENTRIES, CREATE_META, CREATE_PROPS, CREATE_RUNS};
+use crate::new_file::may_have_frames;
+use crate::seeks::RUNS;
+use crate::store_fault::trees::all_shown;
+use kt_base::Text;
+use sqlite::{FileFrom, Start};
+use sqlite_disk::{Disk, Files};
+use sqlite_exec::check::all_rows;
+use sqlite_exec::work::Workspace;
+use sqlite_pager::{Options, Pager};
+use sqlite_store::{FileStore, Unopened};
+use sqlite_trees::store::{Shape, Store};
+use sqlite_value::keys::Order;
+use sqlite_value::order::is_same;
+use sqlite_value::row::Row;
+use sqlite_value::value::ValueRef;
+use sqlite_wal::{PageSize, probe_first_page, probe_page_size};
+use std::alloc::Global;
+use std::fs;
+use std::hash::{BuildHasher, RandomState};
+use std::rt::Files as FileSystem;
+
+/// Bytes 20 to 23 of a database whose pages end in sums of their bytes.
+const WITH_SUMS: u32 = 0x0840_2020;
+
+/// The tree of the table that has the schema's number.
+const META: u32 = 0;
+
+const TABLE: (Shape, u64) = (Shape::Table, 0);
+
+const KEY: (Shape, u64) = (Shape::Index(Order::PLAIN), 0);
+
+/// The trees of schema 2.
+const LAYOUTS: [(Shape, u64); 7] = [TABLE, KEY, TABLE, TABLE, KEY, TABLE, KEY];
+
+/// Whether SQLite too takes this for the path of a file.
+pub(crate) fn is_path(path: &str) -> bool {
+    path != ":memory:" && !path.starts_with("file:")
+}
+
+/// Whether this is a file that is not empty, and whose log has no frame.
+fn is_settled<R: FileSystem>(rt: &R, file: &Text) -> Option<bool> {
+    let found = fs::symlink_metadata(rt, file.as_str()).ok()?;
+    Some(found.is_file() && found.len() > 0 && !may_have_frames(rt, file).ok()?)
+}
+
+/// Options with a number of pages that are kept in memory; none if there is no random number.
+pub(crate) fn options(rt: &HostRuntime, pages: usize) -> Option<Options> {
+    let state = RandomState::new(rt).ok()?;
+    let mut options = Options::new(state.hash_one(&0u8));
+    options.cache_pages = pages;
+    Some(options)
+}
+
+/// The page size of a database whose pages end in no sums.
+fn plain_size<D: Disk>(alloc: Global, files: &mut Files<D>) -> Option<PageSize>
+    requires log { IsTrue (D.Disk.is_usable files.old.log) }
+    requires db { IsTrue (D.Disk.is_usable files.old.db) }
+    ensures size { IfSome result (λ size. AreClean D.Disk files.new.log files.new.db → (db : Trees)
+        (held : HoldsDatabase (image_of D.Disk files.old) db) → held.0 ≡ bytes_of size) }
+    ensures log { OnlyReads D.Disk files.old.log files.new.log }
+    ensures db { OnlyReads D.Disk files.old.db files.new.db }
+{
+    let found = probe_page_size(files).ok()?;
+    let size = found?;
+    let head = probe_first_page(alloc, files, size).ok()?;
+    if head.0 != b'S' || head.1 == WITH_SUMS {
+        return None;
+    }
+    Some(size)
+}
+
+fn unopened<D: Disk + Drop>(
+    alloc: Global,
+    files: Files<D>,
+    size: PageSize,
+    options: Options,
+) -> Option<Unopened<D>>
+    ensures files { IfSome result (λ it. files_of it ≡ (files.log, files.db)) }
+    ensures size { IfSome result (λ it. (state_of it).page_size ≡ bytes_of size) }
+{
+    let pager = Pager::new(alloc, files, size, options).ok()?;
+    Unopened::with_sums(alloc, pager, &[], false).ok()
+}
+
+/// Whether a row is of an object with this rowid, name, table and text. The index of a key has no text.
+fn is_object(row: &Row, id: i64, name: &str, table: &str, sql: &str) -> bool
+    ensures { IsTrue result → column row.now 0 ≡ Int id }
+{
+    let (kind, text) = if sql.is_empty() {
+        ("index", ValueRef::Null)
+    } else {
+        ("table", ValueRef::Text(sql.as_bytes()))
+    };
+    is_same(row.get(0), ValueRef::Int(id))
+        && is_same(row.get(1), ValueRef::Text(kind.as_bytes()))
+        && is_same(row.get(2), ValueRef::Text(name.as_bytes()))
+        && is_same(row.get(3), ValueRef::Text(table.as_bytes()))
+        && is_same(row.get(4), text)
+}
+
+/// Whether these rows are those of schema 2 (docs/formats/store.md).
+fn are_objects(rows: &[Row]) -> bool
+    ensures { IsTrue result → map rowid rows.now
+        ≡ Int (pos 1) ∷ Int (pos 2) ∷ Int (pos 3) ∷ Int (pos 4) ∷ Int (pos 5) ∷ Int (pos 6)
+        ∷ Int (pos 7) ∷ [] }
+{
+    let [meta, meta_key, runs, entries, entries_key, props, props_key] = rows else {
+        return false;
+    };
+    is_object(meta, 1, "meta", "meta", CREATE_META)
+        && is_object(meta_key, 2, "sqlite_autoindex_meta_1", "meta", "")
+        && is_object(runs, 3, "runs", "runs", CREATE_RUNS)
+        && is_object(entries, 4, "entries", "entries", CREATE_ENTRIES)
+        && is_object(entries_key, 5, "sqlite_autoindex_entries_1", "entries", "")
+        && is_object(props, 6, "props", "props", CREATE_PROPS)
+        && is_object(props_key, 7, "sqlite_autoindex_props_1", "props", "")
+}
+
+/// Gives the files the schema that they list, if that is schema 2.
+fn list_schema<D: Disk>(alloc: Global, files: &mut Unopened<D>) -> Option<bool>
+    requires { AreUsable files.old }
+    ensures usable { IfSome result (λ it. IsTrue it → AreUsable files.new) }
+    ensures lists { IfSome result (λ it. IsTrue it → IsTrue (state_of files.new).is_clean
+        → ListsRuns files.old files.new) }
+{
+    let listed = files.read_catalog().ok()?;
+    let rows = all_shown(alloc, listed.as_slice(), &[0, 1, 2, 3, 5]).ok()?;
+    if !are_objects(rows.as_slice()) || rows.len() != 7 {
+        return Some(false);
+    }
+    files.list_schema(rows.as_slice(), &LAYOUTS).ok()
+}
+
+/// Whether the rows of the settings say schema 2.
+fn is_schema_2(settings: &[Row]) -> bool {
+    settings.len() == 1
+        && is_same(settings[0].get(1), ValueRef::Text("schema".as_bytes()))
+        && is_same(settings[0].get(2), ValueRef::Int(2))
+}
+
+/// Whether a row is of the run with this number, finished or not.
+fn is_run(row: &Row, number: i64) -> bool {
+    is_same(row.get(0), ValueRef::Int(number)) && matches!(row.get(4), ValueRef::Int(0 | 1))
+}
+
+/// Whether the runs are numbered from 1, each finished or not.
+fn are_numbered(runs: &[Row]) -> bool {
+    let mut number = 0i64;
+    for run in runs {
+        number = number.wrapping_add(1);
+        if !is_run(run, number) {
+            return false;
+        }
+    }
+    true
+}
+
+/// All rows of the table with this tree.
+fn rows_of<S: Store>(store: &mut S, alloc: Global, tree: u32) -> Option<Vec<Row>>
+    ensures { Looks S.Store store.old store.new }
+{
+    all_rows(store, &mut Workspace::new(alloc), tree).ok()
+}
+
+/// Whether the tables say that they are those of schema 2, and the runs are numbered.
+fn is_ours<S: Store>(store: &mut S, alloc: Global) -> Option<bool>
+    ensures { Looks S.Store store.old store.new }
+{
+    let settings = rows_of(store, alloc, META)?;
+    let runs = rows_of(store, alloc, RUNS)?;
+    Some(is_schema_2(settings.as_slice()) && are_numbered(runs.as_slice()))
+}
+
+/// A value, if it was found to be one of ours.
+fn kept<T: Drop>(value: T, is_ours: Option<bool>) -> Option<T>
+    ensures { IfSome result (λ it. (it ≡ value) × (is_ours ≡ Some true)) }
+{
+    if is_ours? { Some(value) } else { None }
+}
+
+/// Opens files that plainly hold a database of schema 2, in pages that end in no sums. Their log is recovered.
+fn runs_over<D: Disk + Drop>(
+    alloc: Global,
+    mut files: Files<D>,
+    options: Option<Options>,
+) -> Option<FileStore<D>>
+    requires log { IsTrue (D.Disk.is_usable files.log) }
+    requires db { IsTrue (D.Disk.is_usable files.db) }
+    ensures { IfSome result (ReadsRuns (image_of D.Disk files)) }
+{
+    let options = options?;
+    let size = plain_size(alloc, &mut files)?;
+    let mut fresh = unopened(alloc, files, size, options)?;
+    let is_listed = list_schema(alloc, &mut fresh);
+    let mid = kept(fresh, is_listed)?;
+    let mut store = mid.open_numbered().ok()?;
+    let is_ours = is_ours(&mut store, alloc);
+    kept(store, is_ours)
+}
+
+/// How many pages are kept in memory: most are read once.
+const PAGES: usize = 64;
+
+/// Opens the results in a file that plainly is a database of schema 2 and whose log has no frame, to be read alone.
+/// `S` stands for what the file held, which no code reads. `None` of any other file, and of one that can't be opened or
+/// is damaged: `Results::open` takes it, or tells why not.
+pub fn open_alone<S: Start>(
+    rt: &HostRuntime,
+    file: &Text,
+    start: S,
+) -> Option<FileStore<FileFrom<S>>>
+    ensures { IfSome result (ReadsRuns (image_at S.Start)) }
+{
+    if !is_path(file.as_str()) || !is_settled(rt, file)? {
+        return None;
+    }
+    let files = sqlite_std_file::open(rt, file.as_str(), start).ok()?;
+    runs_over(rt.alloc(), files, options(rt, PAGES))
+}
