@@ -429,12 +429,9 @@ BODY
 rule 'does what is not said of a command' lines_of_main \
   '(^|[^A-Za-z_])(fs|env|process|os|thread|net|rt|time|Files|Clock|Env|Processes)::|std::[{]|rt[.]' <<'PLACES'
 # The words that the process was given, and its exit.
-kyua/src/main.rt: let command = read_words(rt.alloc(), env::args(rt));
+kyua/src/main.rt: env::args(rt),
 kyua/src/main.rt: use std::process::ExitCode;
 kyua/src/main.rt: use std::{env, io};
-# Types of which the host's objects are made.
-kyua/src/main.rt: use std::fs::File;
-kyua/src/main.rt: use std::rt::{Clock, Files};
 PLACES
 body kyua/src/main.rt 'keep_large_blocks(rt.alloc());' <<'BODY'
 keep_large_blocks(rt.alloc());
@@ -499,9 +496,7 @@ kt_cli/src/output/line_output.rt: hand_on(&mut self.held, &mut self.out)
 kt_cli/src/output/line_output.rt: hand_on(&mut self.held, &mut self.out)
 kt_cli/src/host/performing.rt: print_command_fault(fault, errors)
 kt_cli/src/host/performing.rt: reject(&fault, out, errors)
-kyua/src/main.rt: carry_out(outside, platform, command, out, errors)
-# The program's own standard output.
-kyua/src/main.rt: let mut out = LineOutput::new(io::writer(rt), by_line);
+kt_cli/src/host/command_line.rt: carry_out(outside, platform, command, out, errors)
 kt_cli/src/commands/recorder.rt: line(&entry, self.out)
 kt_cli/src/commands/recorder.rt: write_entry(self.written, &entry, self.out)
 PLACES

@@ -1,13 +1,41 @@
 -- A command of the program over its own store.
-use Rattle.std.proofs.Common.{Bool, Option, Some, None, ◌≡◌, ℕ, List, [], refl, subst, sym}
+use Rattle.std.proofs.Common.{Result, Ok, Err, IfOk, IfErr, IsErrAnd, Bool, Option, Some, None, ◌≡◌, ℕ, List, [], refl, subst, sym}
 use Rattle.kt_cli.proofs.Common.{Kind, Run, Command, ReportOptions, no_world, JunitOrUnread, DidReport, memory_runs, Printed, alone, DoneBy, DoneIn, DoneOver, Program, State, Reported, ReportedJunit, Unread}
+use Rattle.std.specs.IoError.{error_kind}
+use Rattle.std.specs.declared.io.Error.{Error}
+use Rattle.std.specs.declared.io.ErrorKind.TheVariants.{OutOfMemory}
 use Rattle.kt_store.specs.declared.result_store.Keeping as keeping
+use Rattle.kt_words.specs.Reading.{Reads, RefusesWords}
+use Rattle.kt_words.specs.declared.command_fault.CommandFault.{CommandFault}
+use Rattle.kt_store.specs.declared.access.Access.{Access}
+use Rattle.kt_store.specs.declared.store_fault.StoreFault.{StoreFault}
+use Rattle.kt_cli.specs.CommandLines.{IsSaid}
+use Rattle.kt_cli.specs.LineOutputs.{LineState}
+use Rattle.kt_cli.specs.Performing.{CarriedOut}
+use Rattle.kt_cli.specs.Platforms.{Opened}
 use Rattle.kt_words.specs.declared.command.Command.TheVariants as command
 use Rattle.kt_cli.proofs.Testings.{did_report, did_junit}
+
+-- the command that the words of a process say, by what is said of both
+pub said : {W : Type 0} (own : W → List (List ℕ)) (words : Result W Error) (command : Result Command CommandFault) → IfOk words (λ all. Reads (own all) command)
+    → IfErr words (λ e. IsErrAnd command (RefusesWords (error_kind e ≡ OutOfMemory))) → IsSaid own words command
+said own (Ok all) command value refused = value
+said own (Err error) command value refused = refused
 
 -- a line is told where nothing was written before it
 pub first_told : (was mid now : Option (List ℕ)) (exit : ℕ) (bytes : List ℕ) (due : ℕ) → mid ≡ was → Printed mid now exit bytes due → Printed was now exit bytes due
 first_told was mid now exit bytes due e p = subst (λ (x : Option (List ℕ)). Printed x now exit bytes due) e p
+
+-- results are opened for what the command does with them
+pub opened_for : {M O P S : Type 0} (p : Program M O P S) (old new : P) (file : List ℕ) (answer : Result S StoreFault) (a b : Access) → a ≡ b
+    → p.platform.provides old (Opened file a answer) new → p.platform.provides old (Opened file b answer) new
+opened_for p old new file answer a b e h = subst (λ (x : Access). p.platform.provides old (Opened file x answer) new) e h
+
+-- what was given to standard output before is the same, however it is handed on
+pub given_before : {M O P S : Type 0} (p : Program M O P S) (command : Result Command CommandFault) (old new : State M O P) (mid was : Option (List ℕ)) (now : LineState) (errors_was errors_now : Option (List ℕ))
+    (exit : ℕ) → mid ≡ was → CarriedOut p command old new mid now errors_was errors_now exit → CarriedOut p command old new was now errors_was errors_now exit
+given_before p command old new mid was now errors_was errors_now exit e h =
+    subst (λ (x : Option (List ℕ)). CarriedOut p command old new x now errors_was errors_now exit) e h
 
 module _ {M O P S : Type 0} (p : Program M O P S) (c : Command) (old : State M O P) where
   module _ {R : Type 0} (keep : keeping.Ghosts R) (store after : R) (was now : Option (List ℕ)) (exit : ℕ) (options : ReportOptions) where

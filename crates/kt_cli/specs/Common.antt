@@ -19,8 +19,10 @@ pub use Rattle.kt_store.specs.StoreCalls.{Began, Finished, Heads, Outline, Outpu
 pub use Rattle.kt_suite.specs.Selecting.{most_items}
 pub use Rattle.kt_words.specs.Commands.{cases_of}
 pub use Rattle.kt_words.specs.declared.command.Command.{Command}
+pub use Rattle.kt_cli.specs.Around.{IsFound, IsHere, IsTold, IsVariable}
 pub use Rattle.kt_cli.specs.CaseLines.{case_line}
 pub use Rattle.kt_cli.specs.Closings.{Concluded}
+pub use Rattle.kt_cli.specs.CommandLines.{IsSaid}
 pub use Rattle.kt_cli.specs.Debugging.{debug_bytes}
 pub use Rattle.kt_cli.specs.FaultLines.{fault_line, memory_line, refusal_line}
 pub use Rattle.kt_cli.specs.HostAnswers.{HostStarts, HostWaits, IsHostAnswer, look_kept, running_kept}
@@ -39,7 +41,7 @@ pub use Rattle.kt_cli.specs.LineOutputs.{HandedOn, given_bytes, has_failed, is_b
 pub use Rattle.kt_cli.specs.Machines.{longest_path, read_limit}
 pub use Rattle.kt_cli.specs.Meaning.{CutShort, Did, Means, Seen}
 pub use Rattle.kt_cli.specs.Pages.{Printed}
-pub use Rattle.kt_cli.specs.Performing.{CarriedOut, DoneIn, DoneOver, Flushed, IsMade, NoDriver, NoRoot, OnDriver, Performed, Rejected, program, state}
+pub use Rattle.kt_cli.specs.Performing.{CarriedOut, DoneIn, DoneOver, Flushed, IsMade, NoDriver, NoRoot, OnDriver, Performed, Rejected, access_of, program, state}
 pub use Rattle.kt_cli.specs.Places.{absolute, source_directory}
 pub use Rattle.kt_cli.specs.Refused.{Refused, command_exit, command_text, driver_line, failure_exit}
 pub use Rattle.kt_cli.specs.Reports.{Reported, ReportedJunit, Unread, chosen}

@@ -1,4 +1,6 @@
+pub mod CommandLines
 pub mod Common
+pub mod Around
 pub mod CaseLines
 pub mod Closings
 pub mod Debugging

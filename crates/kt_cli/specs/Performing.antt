@@ -16,6 +16,8 @@ use Rattle.kt_child.specs.declared.driving.driver.DriverFault.TheVariants.{NoWor
 use Rattle.kt_child.specs.declared.system.os.Os as system
 use Rattle.kt_suite.specs.Paths.{directory_of}
 use Rattle.kt_words.specs.declared.options.CaseOptions.{CaseOptions}
+use Rattle.kt_store.specs.declared.access.Access.{Access}
+use Rattle.kt_store.specs.declared.access.Access.TheVariants.{Record, Read}
 use Rattle.kt_store.specs.declared.result_store.Keeping as keeping
 use Rattle.kt_store.specs.declared.store_fault.StoreFault.{StoreFault}
 use Rattle.kt_words.specs.Commands.{cases_of, results_of}
@@ -137,13 +139,21 @@ abbrev pub Rejected : CommandFault → Option (List ℕ) → LineState → Optio
 Rejected (command.NoMemory shortage) was now errors_was errors_now exit = ToldShortage was now exit × (errors_now ≡ errors_was)
 Rejected fault was now errors_was errors_now exit = Refused errors_was errors_now exit (utf8 (command_text fault)) wrong_words_exit × (now.given ≡ was)
 
+-- what a command opens results for: one over test cases adds a run to them, another shows them alone
+abbrev pub access_for : Option CaseOptions → Access
+access_for (Some options) = Record
+access_for None = Read
+
+abbrev pub access_of : Command → Access
+access_of c = access_for (cases_of c)
+
 module _ {M O P S : Type 0} (p : Program M O P S) where
-  -- a command was done over the results in a file: they were opened first, and closed last, once and as the command left them; where they
+  -- a command was done over the results in a file: they were opened first, for what it does with them, and closed last, once and as the command left them; where they
   -- could not be opened one line says why, and nothing else was done
   pub data DoneIn (c : Command) (file : List ℕ) (old new : State M O P) (was now : Option (List ℕ)) (exit : ℕ) : Type 0 where
-    not_opened : (fault : StoreFault) → p.platform.provides old.platform (Opened file (Err fault)) new.platform → new.outside ≡ old.outside
+    not_opened : (fault : StoreFault) → p.platform.provides old.platform (Opened file (access_of c) (Err fault)) new.platform → new.outside ≡ old.outside
         → Printed was now exit (utf8 (refusal_line fault)) failure_exit → DoneIn c file old new was now exit
-    closed : (store after : S) (begun done : P) (told : Option (List ℕ)) (due : ℕ) (answer : Result (Unit {0}) StoreFault) → p.platform.provides old.platform (Opened file (Ok store)) begun
+    closed : (store after : S) (begun done : P) (told : Option (List ℕ)) (due : ℕ) (answer : Result (Unit {0}) StoreFault) → p.platform.provides old.platform (Opened file (access_of c) (Ok store)) begun
         → DoneOver p p.results c (state begun old.outside) (state done new.outside) store after was told due → p.platform.provides done (Closed after answer) new.platform
         → Concluded answer told now due exit → DoneIn c file old new was now exit
 

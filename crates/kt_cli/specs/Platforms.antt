@@ -7,25 +7,29 @@ use Rattle.kt_child.specs.declared.driving.driver.DriverFault.{DriverFault}
 use Rattle.kt_store.specs.Ask.{IsStoreFault}
 use Rattle.kt_store.specs.Files.{AreOver, IsClosed}
 use Rattle.kt_store.specs.Seeks.{ReadsRuns}
+use Rattle.kt_store.specs.declared.access.Access.{Access}
+use Rattle.kt_store.specs.declared.access.Access.TheVariants.{Record, Read}
 use Rattle.kt_store.specs.declared.file_results.FileResults.{FileResults}
 use Rattle.kt_store.specs.declared.file_results.FileResults.TheVariants.{Whole, Alone}
 use Rattle.kt_store.specs.declared.store_fault.StoreFault.{StoreFault}
 use Rattle.kt_store.specs.declared.store_fault.StoreFault.TheVariants.{UnknownSchema}
+use Rattle.kt_cli.specs.Around.{IsFound}
 use Rattle.kt_cli.specs.declared.host.surroundings.Surroundings.{Surroundings}
 
 -- what a platform was asked for, with its answer: to open the results in a file, to close them, and what is found around the process
 pub data Provided (S : Type 0) : Type 0 where
-  Opened : (file : List ℕ) (answer : Result S StoreFault) → Provided S
+  Opened : (file : List ℕ) (access : Access) (answer : Result S StoreFault) → Provided S
   Closed : (results : S) (answer : Result (Unit {0}) StoreFault) → Provided S
   Found : (answer : Result Surroundings DriverFault) → Provided S
 
 -- what a platform does whose results are in files, one of which held this: the results that are opened of that file are those of its database,
--- as `attach` takes them, or are read alone and are those that the file held; closed ones that were not read alone are in the database file alone
+-- as `attach` takes them, or, if they are only to be shown, may be read alone and are those that the file held; closed ones that were not read alone are in the database file alone
 abbrev pub InFiles : {D : Type 0} {g : disk.Ghosts D} → List ℕ → Image → Provided (FileResults (FileStore D g)) → Type 0
-InFiles path image (Opened file (Ok (Whole results))) = file ≡ path → AreOver image results
-InFiles path image (Opened file (Ok (Alone results alloc))) = file ≡ path → ReadsRuns image results
-InFiles path image (Opened file (Err fault)) = IsStoreFault fault ⊎ (fault ≡ UnknownSchema)
+InFiles path image (Opened file access (Ok (Whole results))) = file ≡ path → AreOver image results
+InFiles path image (Opened file Read (Ok (Alone results alloc))) = file ≡ path → ReadsRuns image results
+InFiles path image (Opened file Record (Ok (Alone results alloc))) = ⊥
+InFiles path image (Opened file access (Err fault)) = IsStoreFault fault ⊎ (fault ≡ UnknownSchema)
 InFiles path image (Closed (Whole results) (Ok done)) = IsClosed results
 InFiles path image (Closed (Alone results alloc) (Ok done)) = ⊤
 InFiles path image (Closed results (Err fault)) = IsStoreFault fault
-InFiles path image (Found answer) = ⊤
+InFiles path image (Found answer) = IsFound answer

@@ -8,6 +8,7 @@ mod output;
 mod results;
 
 pub use commands::execution::{execute, execute_all, law_of_sound_stores};
+pub use host::command_line::carry_out_words;
 pub use host::host_execution::source_of;
 pub use host::host_machine::HostMachine;
 pub use host::host_world::HostWorld;

@@ -2,7 +2,7 @@ use kt_answers::Answer;
 use kt_base::{NoMemory, Text};
 use kt_child::DriverFault;
 use kt_cli::{Platform, Surroundings};
-use kt_store::{ResultStore, StoreFault};
+use kt_store::{Access, ResultStore, StoreFault};
 use std::alloc::Global;
 
 /// A platform with one file of results, whatever its name, that keeps a line of its calls.
@@ -64,7 +64,7 @@ impl<R: ResultStore + Drop> Platform for ScriptedPlatform<R> {
     // What each call answers is its script's.
     ghost provides = { λ _ _ _. Unit {0} };
 
-    fn open(&mut self, file: &Text) -> Result<R, StoreFault> {
+    fn open(&mut self, file: &Text, _access: Access) -> Result<R, StoreFault> {
         self.note("open ", file.as_str())?;
         match self.not_opened {
             Some(fault) => Err(fault),

@@ -1,6 +1,7 @@
 //! The results store: the runs that are kept in the tables of a database.
 #![tactic(auto)]
 
+mod access;
 mod attach;
 mod batch;
 mod crashes;
@@ -24,6 +25,7 @@ mod stored_kind;
 mod value;
 mod whole;
 
+pub use access::Access;
 pub use crashes::law_of_crashes;
 pub use file_results::FileResults;
 pub use opening::open_alone;

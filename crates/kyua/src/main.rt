@@ -2,17 +2,13 @@
 #![tactic(auto)]
 
 use kt_base::Text;
-use kt_child::{DriverFault, HostOs, Os};
-use kt_cli::{Exit, HostMachine, LineOutput, Outside, Platform, Surroundings, carry_out};
-use kt_store::{FileResults, Results, StoreFault, open_alone};
-use kt_words::{Command, CommandFault, read_words};
+use kt_child::{DriverFault, HostOs};
+use kt_cli::{HostMachine, LineOutput, Outside, Platform, Surroundings, carry_out_words};
+use kt_store::{Access, FileResults, Results, StoreFault, open_alone};
 use sqlite::{FileFrom, FileStore, Start, Unknown};
 use std::alloc::Global;
-use std::fs::File;
-use std::io::Write;
 use std::marker::PhantomData;
 use std::process::ExitCode;
-use std::rt::{Clock, Files};
 use std::{env, io};
 
 /// A file and what it held, for contracts: no code reads it.
@@ -39,8 +35,6 @@ impl Past for Unknown {
 struct Host<'a, S> {
     rt: &'a HostRuntime,
     past: PhantomData<S>,
-    /// Whether results are opened to be read alone, if they can be.
-    reads: bool,
 }
 
 impl<S: Past> Platform for Host<'_, S> {
@@ -51,8 +45,8 @@ impl<S: Past> Platform for Host<'_, S> {
 
     ghost provides = { λ _ asked _. InFiles S.path (image_at S.Start) asked };
 
-    fn open(&mut self, file: &Text) -> Result<Self::Results, StoreFault> {
-        if self.reads {
+    fn open(&mut self, file: &Text, access: Access) -> Result<Self::Results, StoreFault> {
+        if matches!(access, Access::Read) {
             if let Some(store) = open_alone(self.rt, file, S::unread()) {
                 return Ok(FileResults::Alone(store, self.rt.alloc()));
             }
@@ -74,59 +68,28 @@ impl<S: Past> Platform for Host<'_, S> {
     }
 }
 
-/// Carries out a command line over the files and the clock of a runtime and over a system, and returns its exit.
-fn carried<
-    R: Files<File = File> + Clock + AllocGlobal,
-    O: Os + Drop,
-    P: Platform,
-    W: Write,
-    E: Write,
->(
-    rt: &R,
-    os: O,
-    platform: &mut P,
-    command: Result<Command, CommandFault>,
-    out: &mut LineOutput<W>,
-    errors: &mut E,
-) -> Exit {
+/// Carries out the words of the process on the host, over a platform.
+fn run_over<P: Platform>(rt: &HostRuntime, platform: &mut P) -> u8 {
     let outside = Outside {
         alloc: rt.alloc(),
         machine: HostMachine { rt },
-        os,
+        os: HostOs::new(rt),
     };
-    let (exit, _outside) = carry_out(outside, platform, command, out, errors);
-    exit
-}
-
-/// Carries out a command line on the host, over a platform.
-fn carried_on_host<P: Platform>(
-    rt: &HostRuntime,
-    platform: &mut P,
-    command: Result<Command, CommandFault>,
-) -> Exit {
-    // The line of a case is seen when the case is over.
-    let by_line = matches!(command, Ok(Command::Test { .. }));
-    let mut out = LineOutput::new(io::writer(rt), by_line);
-    carried(
-        rt,
-        HostOs::new(rt),
+    let mut out = LineOutput::new(io::writer(rt), false);
+    let (status, _outside) = carry_out_words(
+        outside,
         platform,
-        command,
+        env::args(rt),
         &mut out,
         &mut rt.stderr(),
-    )
+    );
+    status
 }
 
 /// The program, whatever `S` the files of results held.
 fn run<S: Past>(rt: &HostRuntime, past: PhantomData<S>) -> ExitCode {
-    let command = read_words(rt.alloc(), env::args(rt));
-    let reads = matches!(
-        command,
-        Ok(Command::Report { .. }) | Ok(Command::ReportJunit(..))
-    );
-    let mut host = Host { rt, past, reads };
-    let exit = carried_on_host(rt, &mut host, command);
-    ExitCode::from(exit.status)
+    let mut host = Host { rt, past };
+    ExitCode::from(run_over(rt, &mut host))
 }
 
 /// In bytes. The C library lets blocks of at most twice this size count.

@@ -127,6 +127,25 @@ fn read_from<F: Read + Seek>(
     read_front(alloc, file, limit)
 }
 
+/// Reads a file from the byte `from` on, if it could be opened.
+fn read_opened<F: Read + Seek + Drop>(
+    alloc: Global,
+    opened: io::Result<F>,
+    from: u64,
+    limit: u64,
+) -> Result<FileRead, OsFault>
+    ensures within { IsHostRead limit result }
+    ensures opened { MatchResult opened (λ _. IsOpened result)
+        (λ error. IsUnopened (error_kind error) result) }
+    ensures front { from ≡ 0 → IfOk opened (λ file.
+        IfSome (F.remaining file) (λ xs. IsFront limit xs result)) }
+{
+    match opened {
+        Ok(mut file) => read_from(alloc, &mut file, from, limit),
+        Err(error) => unopened(&error),
+    }
+}
+
 /// Reads a regular file from the byte `from` on.
 pub(crate) fn read_regular<R: Files + AllocGlobal>(
     rt: &R,
@@ -136,8 +155,5 @@ pub(crate) fn read_regular<R: Files + AllocGlobal>(
 ) -> Result<FileRead, OsFault>
     ensures { IsHostRead limit result }
 {
-    match open_regular(rt, path.as_str()) {
-        Ok(mut file) => read_from(rt.alloc(), &mut file, from, limit),
-        Err(error) => unopened(&error),
-    }
+    read_opened(rt.alloc(), open_regular(rt, path.as_str()), from, limit)
 }

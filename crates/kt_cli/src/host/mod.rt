@@ -1,5 +1,6 @@
 //! The commands on a platform and a machine, with what they find around them.
 
+pub(crate) mod command_line;
 pub(crate) mod host_execution;
 pub(crate) mod host_machine;
 pub(crate) mod host_path;

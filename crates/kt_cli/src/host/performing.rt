@@ -1,5 +1,5 @@
 ghost use Rattle.std.specs.Prelude.{◌≡◌, Some};
-ghost use Rattle.kt_cli.specs.Common.{cases_of, given_bytes, line_state, CarriedOut, DoneIn, DoneOver, Performed, program, state, Rejected};
+ghost use Rattle.kt_cli.specs.Common.{access_of, cases_of, given_bytes, line_state, CarriedOut, DoneIn, DoneOver, Performed, program, state, Rejected};
 
 use crate::commands::reporting::{report, report_junit};
 use crate::host::host_execution::execute_over_cases;
@@ -10,7 +10,7 @@ use crate::{
 };
 use kt_base::Text;
 use kt_child::Os;
-use kt_store::ResultStore;
+use kt_store::{Access, ResultStore};
 use kt_words::{CaseOptions, Command, CommandFault};
 use std::io::Write;
 
@@ -71,6 +71,16 @@ fn perform_over<M: Machine + Drop, O: Os + Drop, P: Platform, S: ResultStore, W:
     }
 }
 
+/// What a command opens results for.
+fn access_of(command: &Command) -> Access
+    ensures { result ≡ access_of command.now }
+{
+    match command.cases() {
+        Some(_options) => Access::Record,
+        None => Access::Read,
+    }
+}
+
 /// Does a command over the results in a file.
 fn perform_in_file<M: Machine + Drop, O: Os + Drop, P: Platform, W: Write>(
     outside: Outside<M, O>,
@@ -83,7 +93,7 @@ fn perform_in_file<M: Machine + Drop, O: Os + Drop, P: Platform, W: Write>(
         (state platform.old outside) (state platform.new result.1)
         (W.contents out.old) (W.contents out.new) result.0.status }
 {
-    let mut results = match platform.open(file) {
+    let mut results = match platform.open(file, access_of(command)) {
         Ok(results) => results,
         Err(fault) => return (print_store_fault(fault, out), outside),
     };

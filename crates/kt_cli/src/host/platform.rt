@@ -1,7 +1,7 @@
 use crate::Surroundings;
 use kt_base::Text;
 use kt_child::DriverFault;
-use kt_store::{ResultStore, StoreFault};
+use kt_store::{Access, ResultStore, StoreFault};
 
 /// The surroundings of the program's commands: the files of their results, and those of the process.
 ///
@@ -15,9 +15,9 @@ pub trait Platform {
     /// Whether an answer leads from the first state to the second.
     ghost provides: { Self → Provided Self.Results → Self → Type 0 };
 
-    /// Opens the results in a file, which is made where there is none.
-    fn open(&mut self, file: &Text) -> Result<Self::Results, StoreFault>
-        ensures { provides self.old (Opened file.now result) self.new };
+    /// Opens the results in a file, to add a run to them or to show them alone.
+    fn open(&mut self, file: &Text, access: Access) -> Result<Self::Results, StoreFault>
+        ensures { provides self.old (Opened file.now access result) self.new };
 
     /// Closes the results in a file. Afterwards the file alone has them all; after an error they
     /// stand in it and in its log.

@@ -1,11 +1,17 @@
-ghost use Rattle.std.specs.Prelude.{◌≡◌, IfOk, length};
+ghost use Rattle.std.specs.Prelude.{◌≡◌, ◌≤◌, ℕ, Result, IfOk, length};
+ghost use Rattle.std.specs.Path.{path_buf_bytes};
+ghost use Rattle.std.specs.Result.{result_map_both};
+ghost use Rattle.std.specs.declared.env.FillError.{FillError as FillFault};
+ghost use Rattle.kt_cli.specs.Around.{IsFound, IsHere, IsTold, IsVariable};
 ghost use Rattle.kt_cli.specs.Inner.HostAnswers.{longest_variable};
 
 use kt_base::{NoMemory, Text};
 use kt_child::DriverFault;
 use std::alloc::Global;
-use std::env;
+use std::env::FillError;
+use std::path::PathBuf;
 use std::rt::Env;
+use std::{env, io};
 
 /// The longest variable of an environment, in bytes: Linux takes no longer one.
 const LONGEST_VARIABLE: usize = 131_072;
@@ -21,6 +27,24 @@ pub struct Surroundings {
     pub user: Option<Text>,
 }
 
+/// The value of a variable, by what the system told of it and the buffer that it filled.
+fn value_of(
+    alloc: Global,
+    told: Result<usize, FillError>,
+    room: &[u8],
+) -> Result<Option<Text>, NoMemory>
+    requires { IfOk told (λ count. count ≤ length room.now) }
+    ensures { IsVariable told room.now result }
+{
+    let Ok(count) = told else {
+        return Ok(None);
+    };
+    match str::from_utf8(&room[..count]) {
+        Ok(value) => Ok(Some(Text::from_str(alloc, value)?)),
+        Err(_) => Ok(None),
+    }
+}
+
 /// The value of a variable, which is copied through a buffer on the stack.
 fn variable<R: Env + AllocGlobal>(
     rt: &R,
@@ -28,21 +52,19 @@ fn variable<R: Env + AllocGlobal>(
     room: &mut [u8],
 ) -> Result<Option<Text>, NoMemory>
     requires { length room.old ≡ longest_variable }
-    ensures { length room.new ≡ length room.old }
+    ensures room { length room.new ≡ length room.old }
+    ensures value { (told : Result ℕ FillFault) × IsVariable told room.new result }
 {
-    let Ok(count) = rt.var(name, room) else {
-        return Ok(None);
-    };
-    match str::from_utf8(&room[..count]) {
-        Ok(value) => Ok(Some(Text::from_str(rt.alloc(), value)?)),
-        Err(_) => Ok(None),
-    }
+    let told = rt.var(name, room);
+    value_of(rt.alloc(), told, room)
 }
 
-/// The absolute working directory.
-fn working_directory<R: Env + AllocGlobal>(rt: &R) -> Result<Text, DriverFault> {
-    match env::current_dir(rt) {
-        Ok(here) => Text::from_str(rt.alloc(), here.as_str()).map_err(DriverFault::NoMemory),
+/// The absolute working directory, by what the system told of it.
+fn here_of(alloc: Global, told: io::Result<PathBuf>) -> Result<Text, DriverFault>
+    ensures { IsHere (result_map_both path_buf_bytes (λ error. error) told) result }
+{
+    match told {
+        Ok(here) => Text::from_str(alloc, here.as_str()).map_err(DriverFault::NoMemory),
         Err(error) => match NoMemory::in_error(&error) {
             Some(refusal) => Err(DriverFault::NoMemory(refusal)),
             None => Err(DriverFault::NoWorkDirectory),
@@ -55,7 +77,9 @@ impl Surroundings {
 
     /// Takes the variables from the environment. One that isn't UTF-8 counts as not set.
     pub fn new<R: Env + AllocGlobal>(rt: &R, here: Text) -> Result<Surroundings, NoMemory>
-        ensures { IfOk result (λ around. around.here ≡ here) }
+        ensures here { IfOk result (λ around. around.here ≡ here) }
+        ensures path { IfOk result (λ around. IsTold around.path) }
+        ensures user { IfOk result (λ around. IsTold around.user) }
     {
         let mut room = vec![in rt.alloc(); 0u8; LONGEST_VARIABLE]?;
         let path = variable(rt, "PATH", &mut room)?;
@@ -64,9 +88,14 @@ impl Surroundings {
     }
 
     /// What is found around this process.
-    pub fn of_process<R: Env + AllocGlobal>(rt: &R) -> Result<Surroundings, DriverFault> {
-        let here = working_directory(rt)?;
-        Surroundings::new(rt, here).map_err(DriverFault::NoMemory)
+    pub fn of_process<R: Env + AllocGlobal>(rt: &R) -> Result<Surroundings, DriverFault>
+        ensures { IsFound result }
+    {
+        let here = here_of(rt.alloc(), env::current_dir(rt))?;
+        match Surroundings::new(rt, here) {
+            Ok(around) => Ok(around),
+            Err(refusal) => Err(DriverFault::NoMemory(refusal)),
+        }
     }
 
     /// Whether root runs the command.

@@ -69,6 +69,13 @@ impl<W: Write> LineOutput<W> {
         }
     }
 
+    /// Sets whether each line is written when it is complete.
+    pub fn set_by_line(&mut self, by_line: bool)
+        ensures { given_bytes W.contents self.new ≡ given_bytes W.contents self.old }
+    {
+        self.by_line = by_line;
+    }
+
     /// Whether a call has failed.
     fn is_broken(&self) -> bool
         ensures { result ≡ is_broken self.now }

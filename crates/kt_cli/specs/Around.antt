@@ -1,0 +1,33 @@
+-- What is found around a process, by the answers of the system.
+use Rattle.std.specs.Prelude.{◌≡◌, ℕ, List, take, Option, Some, None, Result, Ok, Err, chars, ⊤}
+use Rattle.std.specs.Str.{IsUtf8}
+use Rattle.std.specs.declared.env.FillError.{FillError}
+use Rattle.std.specs.declared.io.Error.{Error}
+use Rattle.kt_base.specs.declared.no_memory.NoMemory.{NoMemory as Shortage}
+use Rattle.kt_child.specs.declared.driving.driver.DriverFault.{DriverFault}
+use Rattle.kt_child.specs.declared.driving.driver.DriverFault.TheVariants.{NoMemory, NoWorkDirectory}
+use Rattle.kt_cli.specs.declared.host.surroundings.Surroundings.{Surroundings}
+
+-- The working directory is the one that the system tells. If the system tells one, only memory may be lacking for it.
+abbrev pub IsHere : Result (List ℕ) Error → Result (List ℕ) DriverFault → Type 0
+IsHere (Ok told) (Ok here) = here ≡ chars told
+IsHere (Ok told) (Err (NoMemory refusal)) = ⊤
+IsHere (Ok told) (Err NoWorkDirectory) = ⊥
+IsHere (Err error) (Ok here) = ⊥
+IsHere (Err error) (Err fault) = ⊤
+
+-- A variable has the bytes of the buffer that the system filled. One that isn't UTF-8 counts as not set.
+abbrev pub IsVariable : Result ℕ FillError → List ℕ → Result (Option (List ℕ)) Shortage → Type 0
+IsVariable (Ok count) room (Ok (Some value)) = value ≡ chars (take count room)
+IsVariable (Ok count) room (Ok None) = IsUtf8 (take count room) → ⊥
+IsVariable (Err error) room (Ok value) = value ≡ None
+IsVariable told room (Err refusal) = ⊤
+
+-- the value of a variable that was told so
+abbrev pub IsTold : Option (List ℕ) → Type 0
+IsTold value = (told : Result ℕ FillError) × (room : List ℕ) × IsVariable told room (Ok value)
+
+-- What is found around a process is what the system told, and no work directory is found only if it told none.
+abbrev pub IsFound : Result Surroundings DriverFault → Type 0
+IsFound (Ok around) = ((told : Result (List ℕ) Error) × IsHere told (Ok around.here)) × IsTold around.path × IsTold around.user
+IsFound (Err fault) = (told : Result (List ℕ) Error) × IsHere told (Err fault)

@@ -1,0 +1,38 @@
+ghost use Rattle.std.specs.Prelude.{Result, drop, map};
+ghost use Rattle.kt_words.specs.Common.{into_iter_items, string_bytes};
+ghost use Rattle.kt_words.specs.declared.command_fault.CommandFault.{CommandFault as Fault};
+ghost use Rattle.kt_cli.specs.Common.{CarriedOut, Command, IsSaid, given_bytes, line_state, program, state};
+
+use crate::host::performing::carry_out;
+use crate::{LineOutput, Machine, Outside, Platform};
+use kt_child::Os;
+use kt_words::read_words;
+use std::env::Args;
+use std::io;
+use std::io::Write;
+
+/// Carries out the command that the words of a process say, and returns the exit status of the process. The first word is the
+/// program's own name. The lines of `kyua test` are handed on one by one, those of another command in pieces of 64 KiB.
+pub fn carry_out_words<M: Machine + Drop, O: Os + Drop, P: Platform, W: Write, E: Write>(
+    outside: Outside<M, O>,
+    platform: &mut P,
+    words: io::Result<Args>,
+    out: &mut LineOutput<W>,
+    errors: &mut E,
+) -> (u8, Outside<M, O>)
+    ensures { (command : Result Command Fault)
+        × IsSaid (λ all. map (λ word. string_bytes word) (drop 1 (into_iter_items all))) words command
+        × CarriedOut (program M.Machine O.Os P.Platform P.Results.Keeping) command
+        (state platform.old outside) (state platform.new result.1)
+        (given_bytes W.contents out.old) (line_state W.contents out.new)
+        (E.contents errors.old) (E.contents errors.new) result.0 }
+{
+    let command = read_words(outside.alloc, words);
+    let by_line = match &command {
+        Ok(command) => command.cases().is_some() && command.results().is_some(),
+        Err(_fault) => false,
+    };
+    out.set_by_line(by_line);
+    let (exit, outside) = carry_out(outside, platform, command, out, errors);
+    (exit.status, outside)
+}
