@@ -21,6 +21,7 @@ mod runs_file;
 mod seeks;
 mod store_fault;
 mod stored_kind;
+mod supposed;
 mod value;
 mod whole;
 
@@ -32,4 +33,5 @@ pub use result_store::{CaseOutputs, Keeping, ResultStore, RunHead};
 pub use results::Results;
 pub use runs_file::RunsFile;
 pub use store_fault::{FailedStatement, Shortage, StoreFault};
+pub use supposed::Supposed;
 pub use whole::entries;
