@@ -27,10 +27,11 @@ props_works olds (x ∷ news) = let some : (length (x ∷ news) == 0) ≡ false 
 pub tables_in : (runs : List Run) (trees : Trees) → Keeps runs trees → Tables (in_trees trees) runs
 tables_in runs trees k = subst (λ (db : Database). Tables db runs) (ap₂ (λ (s : Schema) (t : Trees). record { schema = s; trees = t }) k.3.schema (sym k.2)) k.3
 
+pub sound_in : (runs : List Run) (trees : Trees) → Keeps runs trees → IsSound schema_2 trees
+sound_in runs trees k = subst (λ s. IsSound s trees) k.3.schema (subst (IsSound k.0.schema) (sym k.2) k.1)
+
 pub schema_is : (schema : Schema) (runs : List Run) (trees : Trees) → IsSound schema trees → Keeps runs trees → schema ≡ schema_2
-schema_is schema runs trees sound k =
-    let ours : IsSound schema_2 trees = subst (λ s. IsSound s trees) k.3.schema (subst (IsSound k.0.schema) (sym k.2) k.1) in
-    lists_once (trees catalog_tree) schema schema_2 sound.lists ours.lists
+schema_is schema runs trees sound k = lists_once (trees catalog_tree) schema schema_2 sound.lists (sound_in runs trees k).lists
 
 keeps_in : (runs : List Run) (schema : Schema) (trees : Trees) → schema ≡ schema_2 → IsSound schema trees → Tables (in_trees trees) runs → Keeps runs trees
 keeps_in runs schema trees is sound has = (in_trees trees, subst (λ s. IsSound s trees) is sound, refl, has)

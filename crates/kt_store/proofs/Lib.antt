@@ -5,6 +5,7 @@ pub mod RuleLemmas
 pub mod EndLemmas
 pub mod EditLemmas
 pub mod PlaceLemmas
+pub mod AloneFiles
 pub mod OverLemmas
 pub mod SqlFacts
 pub mod FaultLemmas

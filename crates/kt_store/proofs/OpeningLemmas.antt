@@ -1,5 +1,5 @@
 -- A file that holds runs lists the schema of their tables.
-use Rattle.std.proofs.Common.{◌≡◌, ◌≢◌, ◌%◌, ◌-◌, ℕ, pos, true, List, [], ◌∷◌, map, Option, Some, None, Result, Ok, Err, IfSome, IsTrue, refl, sym, ap, ap₂, subst, ◌∙◌}
+use Rattle.std.proofs.Common.{◌≡◌, ◌≢◌, ◌%◌, ◌-◌, ◌<◌, ◌≤◌, ◌&&◌, Bool, false, true≢false, arith, get_or, length, ℕ, pos, true, List, [], ◌∷◌, map, Option, Some, None, Result, Ok, Err, IfSome, IsTrue, refl, sym, ap, ap₂, subst, ◌∙◌}
 use Rattle.std.proofs.lemmas.Option.{none-some, same_Some}
 use Rattle.std.specs.Result.{result_ok}
 use Rattle.kt_store.proofs.Common.{AllByRecursion, AreOrdered, IsRun, map-map, Int, Row, Trees, Run, Keeps, rowid, schema_2, meta_1, entries_1, props_1, plain, Value, Table}
@@ -31,7 +31,9 @@ use Rattle.sqlite_trees.proofs.Doubt.{clean_of}
 use Rattle.sqlite.specs.Files.{over_files}
 use Rattle.kt_store.specs.Inner.Cursors.{Looks}
 use Rattle.kt_store.specs.Inner.Opening.{OpensOver}
-use Rattle.kt_store.specs.Seeks.{ReadsRuns}
+use Rattle.kt_store.specs.Seeks.{OpensRuns, ReadsRuns}
+use Rattle.kt_store.proofs.EndLemmas.{clean_of_open}
+use Rattle.sqlite_store.specs.Laws.{shut_if_dirty_at}
 
 -- a result that was taken as an option
 pub ok_is : {T E : Type 0} (r : Result T E) (o : Option T) (x : T) → o ≡ result_ok r → o ≡ Some x → r ≡ Ok x
@@ -46,6 +48,23 @@ if_some P (Err e) o is each = subst (λ p. IfSome p P) (sym is) tt
 pub then_some : {T : Type 0} {P : T → Type 0} (Q : T → Type 0) (o : Option T) → IfSome o P → ((x : T) → P x → Q x) → IfSome o Q
 then_some Q (Some x) is each = each x is
 then_some Q None is each = tt
+
+pub both_true : (a b : Bool) → IsTrue (a && b) → IsTrue a × IsTrue b
+both_true true b h = (refl, h)
+both_true false b h = absurd (true≢false (sym h))
+
+-- the items of a list of seven
+pub seven : {X : Type 0} (xs : List X) (a b c d e f g : X) → 7 ≤ length xs → length xs < 8 → a ≡ get_or xs 0 a → b ≡ get_or xs 1 b → c ≡ get_or xs 2 c → d ≡ get_or xs 3 d → e ≡ get_or xs 4 e → f ≡ get_or xs 5 f → g ≡ get_or xs 6 g
+    → xs ≡ a ∷ b ∷ c ∷ d ∷ e ∷ f ∷ g ∷ []
+seven [] a b c d e f g long short p q r s t u v = absurd (omega (arith, long))
+seven (x0 ∷ []) a b c d e f g long short p q r s t u v = absurd (omega (arith, long))
+seven (x0 ∷ x1 ∷ []) a b c d e f g long short p q r s t u v = absurd (omega (arith, long))
+seven (x0 ∷ x1 ∷ x2 ∷ []) a b c d e f g long short p q r s t u v = absurd (omega (arith, long))
+seven (x0 ∷ x1 ∷ x2 ∷ x3 ∷ []) a b c d e f g long short p q r s t u v = absurd (omega (arith, long))
+seven (x0 ∷ x1 ∷ x2 ∷ x3 ∷ x4 ∷ []) a b c d e f g long short p q r s t u v = absurd (omega (arith, long))
+seven (x0 ∷ x1 ∷ x2 ∷ x3 ∷ x4 ∷ x5 ∷ []) a b c d e f g long short p q r s t u v = absurd (omega (arith, long))
+seven (x0 ∷ x1 ∷ x2 ∷ x3 ∷ x4 ∷ x5 ∷ x6 ∷ []) a b c d e f g long short p q r s t u v = rw (p, q, r, s, t, u, v) refl
+seven (x0 ∷ x1 ∷ x2 ∷ x3 ∷ x4 ∷ x5 ∷ x6 ∷ x7 ∷ xs) a b c d e f g long short p q r s t u v = absurd (omega (arith, short))
 
 -- the rowids of the objects
 abbrev pub ids : List Value
@@ -118,4 +137,18 @@ still_over image old new looks clean opens = record {
   holds = λ runs h sound. let same = looks.same clean sound in
       subst (Keeps runs) (ap (λ (v : View). v.trees) (sym same)) (opens.holds runs h (ap (λ (v : View). v.is_broken) (sym same) ∙ sound));
   leaves = λ runs h trees found. opens.leaves runs h trees (looks.outcomes trees found);
+}
+
+-- a store that was opened over a file, and then looked at, stands for its runs
+pub opens_runs : {D : Type 0} {g : Ghosts D} (image : Image) (old new : FileStore D g) → Looks over_files old new → (view old).trees ≡ (view old).committed → (IsClean (view old) → (view old).is_broken ≡ false) → (IsClean (view old) → OpensOver image old) → OpensRuns image new
+opens_runs image old new looks settled unbroken opens = record {
+  stands = λ runs h. (
+      λ opened.
+          let clean = clean_of_open (view new) (shut_if_dirty_at new) opened in
+          let held = looks.held clean opened in
+          subst (Keeps runs) (settled ∙ sym held.1) ((opens (looks.clean clean)).holds runs h (unbroken (looks.clean clean))),
+      h.2.3.valid.numbered,
+      λ clean. ordered_of runs h.2.3.valid.each,
+    );
+  leaves = λ runs h clean trees found. (opens (looks.clean clean)).leaves runs h trees (looks.outcomes trees found);
 }

@@ -10,5 +10,6 @@ pub mod Kept
 pub mod NewFiles
 pub mod Opening
 pub mod Runs
+pub mod SupposedLaws
 pub mod Transactions
 pub mod Whole

@@ -27,3 +27,8 @@ module _ {D : Type 0} {g : disk.Ghosts D} where
   pub record ReadsRuns (image : Image) (store : FileStore D g) : Type 0 where
     pub stands : (runs : List Run) → HoldsRuns image runs → HasRuns (view store) runs × AreNumbered 1 runs × (IsClean (view store) → AreOrdered runs)
     pub leaves : (runs : List Run) → HoldsRuns image runs → IsClean (view store) → (trees : Trees) → recovers store trees → Keeps runs trees
+
+  -- the same of one that is also written
+  pub record OpensRuns (image : Image) (store : FileStore D g) : Type 0 where
+    pub stands : (runs : List Run) → HoldsRuns image runs → HasCommitted (view store) runs × AreNumbered 1 runs × (IsClean (view store) → AreOrdered runs)
+    pub leaves : (runs : List Run) → HoldsRuns image runs → IsClean (view store) → (trees : Trees) → recovers store trees → Keeps runs trees

@@ -22,6 +22,7 @@ mod runs_file;
 mod seeks;
 mod store_fault;
 mod stored_kind;
+mod supposed;
 mod value;
 mod whole;
 
@@ -34,4 +35,5 @@ pub use result_store::{CaseOutputs, Keeping, ResultStore, RunHead};
 pub use results::Results;
 pub use runs_file::RunsFile;
 pub use store_fault::{FailedStatement, Shortage, StoreFault};
+pub use supposed::Supposed;
 pub use whole::entries;

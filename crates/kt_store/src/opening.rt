@@ -1,15 +1,28 @@
-ghost use Rattle.std.specs.Prelude.{◌≡◌, [], ◌∷◌, map, pos, true, Some, IfSome, IsTrue};
-ghost use Rattle.kt_store.specs.Common.{Int, Looks, ListsRuns, ReadsRuns, image_at, column};
-ghost use Rattle.sqlite_trees.specs.Tree.{Trees, rowid};
+ghost use Rattle.std.specs.Prelude.{◌≡◌, [], ◌∷◌, true, false, Some, IfOk, IfErr, IfSome, IsTrue};
+ghost use Rattle.kt_store.specs.Common.{HasAlone, Int, IsStoreFault, Looks, ListsRuns, OpensRuns, ReadsRuns, image_at};
+ghost use Rattle.kt_store.specs.Supposed.{IsOfRuns, key_object, objects_2, table_object};
+ghost use Rattle.sqlite_trees.specs.Tree.{Trees};
+ghost use Rattle.sqlite_value.specs.Value.{owned};
+ghost use Rattle.sqlite_value.specs.declared.value.Value.TheVariants.{Text as Words};
 ghost use Rattle.sqlite_wal.specs.PageSize.{bytes_of};
+ghost use Rattle.sqlite_wal.specs.Files.{outcomes};
+ghost use Rattle.sqlite_wal.specs.Recovery.{Image};
 ghost use Rattle.sqlite_wal.specs.Reads.{AreClean, OnlyReads};
+ghost use Rattle.kt_store.specs.Common.{schema_2};
+ghost use Rattle.kt_store.specs.Inner.Opening.{OpensOver};
+ghost use Rattle.sqlite_catalog.specs.Listing.{IsSound};
+ghost use Rattle.sqlite_store.specs.FileStore.{view};
+ghost use Rattle.sqlite_trees.specs.View.{IsClean};
 ghost use Rattle.sqlite_store.specs.Unopened.{AreUsable, files_of, state_of};
 ghost use Rattle.sqlite.specs.Files.{HoldsDatabase, image_of};
 
+use crate::StoreFault;
 use crate::attach::{CREATE_ENTRIES, CREATE_META, CREATE_PROPS, CREATE_RUNS};
 use crate::new_file::may_have_frames;
+use crate::runs_file::{RunsFile, over};
 use crate::seeks::RUNS;
 use crate::store_fault::trees::all_shown;
+use crate::supposed::Supposed;
 use kt_base::Text;
 use sqlite::{FileFrom, Start};
 use sqlite_disk::{Disk, Files};
@@ -91,38 +104,49 @@ fn unopened<D: Disk + Drop>(
     Unopened::with_sums(alloc, pager, &[], false).ok()
 }
 
-/// Whether a row is of an object with this rowid, name, table and text. The index of a key has no text.
-fn is_object(row: &Row, id: i64, name: &str, table: &str, sql: &str) -> bool
-    ensures { IsTrue result → column row.now 0 ≡ Int id }
+/// Whether a row of the list of objects has this rowid, type, name, table and text, and nothing else.
+fn is_object(row: &Row, id: i64, kind: &str, name: &str, table: &str, text: ValueRef<'_>) -> bool
+    ensures { IsTrue result → row.now ≡ Int id ∷ Words kind.now ∷ Words name.now
+        ∷ Words table.now ∷ owned text.entry ∷ [] }
 {
-    let (kind, text) = if sql.is_empty() {
-        ("index", ValueRef::Null)
-    } else {
-        ("table", ValueRef::Text(sql.as_bytes()))
-    };
-    is_same(row.get(0), ValueRef::Int(id))
+    row.len() == 5
+        && is_same(row.get(0), ValueRef::Int(id))
         && is_same(row.get(1), ValueRef::Text(kind.as_bytes()))
         && is_same(row.get(2), ValueRef::Text(name.as_bytes()))
         && is_same(row.get(3), ValueRef::Text(table.as_bytes()))
         && is_same(row.get(4), text)
 }
 
+/// Whether a row is of a table with this rowid, name and text.
+fn is_table(row: &Row, id: u32, name: &str, sql: &str) -> bool
+    ensures { IsTrue result → row.now ≡ table_object id name.now sql.now }
+{
+    let text = ValueRef::Text(sql.as_bytes());
+    is_object(row, i64::from(id), "table", name, name, text)
+}
+
+/// Whether a row is of the index of a table's key with this rowid and name. It has no text.
+fn is_key(row: &Row, id: u32, name: &str, table: &str) -> bool
+    ensures { IsTrue result → row.now ≡ key_object id name.now table.now }
+{
+    is_object(row, i64::from(id), "index", name, table, ValueRef::Null)
+}
+
 /// Whether these rows are those of schema 2 (docs/formats/store.md).
 fn are_objects(rows: &[Row]) -> bool
-    ensures { IsTrue result → map rowid rows.now
-        ≡ Int (pos 1) ∷ Int (pos 2) ∷ Int (pos 3) ∷ Int (pos 4) ∷ Int (pos 5) ∷ Int (pos 6)
-        ∷ Int (pos 7) ∷ [] }
+    ensures { IsTrue result → rows.now ≡ objects_2 }
 {
     let [meta, meta_key, runs, entries, entries_key, props, props_key] = rows else {
         return false;
     };
-    is_object(meta, 1, "meta", "meta", CREATE_META)
-        && is_object(meta_key, 2, "sqlite_autoindex_meta_1", "meta", "")
-        && is_object(runs, 3, "runs", "runs", CREATE_RUNS)
-        && is_object(entries, 4, "entries", "entries", CREATE_ENTRIES)
-        && is_object(entries_key, 5, "sqlite_autoindex_entries_1", "entries", "")
-        && is_object(props, 6, "props", "props", CREATE_PROPS)
-        && is_object(props_key, 7, "sqlite_autoindex_props_1", "props", "")
+    let of_meta = is_table(meta, 1, "meta", CREATE_META)
+        & is_key(meta_key, 2, "sqlite_autoindex_meta_1", "meta");
+    let of_runs = is_table(runs, 3, "runs", CREATE_RUNS);
+    let of_entries = is_table(entries, 4, "entries", CREATE_ENTRIES)
+        & is_key(entries_key, 5, "sqlite_autoindex_entries_1", "entries");
+    let of_props = is_table(props, 6, "props", CREATE_PROPS)
+        & is_key(props_key, 7, "sqlite_autoindex_props_1", "props");
+    of_meta & of_runs & of_entries & of_props
 }
 
 /// Gives the files the schema that they list, if that is schema 2.
@@ -205,6 +229,86 @@ fn runs_over<D: Disk + Drop>(
     let mut store = mid.open_numbered().ok()?;
     let is_ours = is_ours(&mut store, alloc);
     kept(store, is_ours)
+}
+
+/// Opens files that plainly hold a database of schema 2, in pages that end in no sums. Their log is recovered. Of their
+/// trees nothing is tested.
+fn known_over<D: Disk + Drop>(
+    alloc: Global,
+    mut files: Files<D>,
+    options: Option<Options>,
+) -> Option<FileStore<D>>
+    requires log { IsTrue (D.Disk.is_usable files.log) }
+    requires db { IsTrue (D.Disk.is_usable files.db) }
+    requires held { IsOfRuns (image_of D.Disk files) }
+    ensures opens { IfSome result (λ s. IsClean (view s)
+        → OpensOver (image_of D.Disk files) s) }
+    ensures settled { IfSome result (λ s. (view s).trees ≡ (view s).committed) }
+    ensures unbroken { IfSome result (λ s. IsClean (view s) → (view s).is_broken ≡ false) }
+    ensures sound { IfSome result (λ s. IsTrue (view s).is_open
+        → IsSound schema_2 (view s).committed) }
+{
+    let options = options?;
+    let size = plain_size(alloc, &mut files)?;
+    let mut fresh = unopened(alloc, files, size, options)?;
+    let is_listed = list_schema(alloc, &mut fresh);
+    let mid = kept(fresh, is_listed)?;
+    let store = mid.open_trusted().ok()?;
+    Some(store)
+}
+
+/// The results in files that list the tables of schema 2 and say their number.
+fn known<D: Disk + Drop>(
+    alloc: Global,
+    files: Files<D>,
+    options: Option<Options>,
+) -> Option<RunsFile<FileStore<D>>>
+    requires log { IsTrue (D.Disk.is_usable files.log) }
+    requires db { IsTrue (D.Disk.is_usable files.db) }
+    requires held { IsOfRuns (image_of D.Disk files) }
+    ensures { IfSome result (OpensRuns (image_of D.Disk files)) }
+{
+    let mut store = known_over(alloc, files, options)?;
+    let is_ours = says_2(&mut store, alloc);
+    let last = kept(store, is_ours)?;
+    over(alloc, last).ok()
+}
+
+/// Copies the log into the database file, and gives the files back. What is not committed is lost.
+pub(crate) fn close_store<D: Disk + Drop>(mut store: FileStore<D>) -> Result<Files<D>, StoreFault>
+    ensures closed { IfOk result (λ files. AreClean D.Disk files.log files.db → (image : Image)
+        → outcomes D.Disk files.log files.db image → HasAlone (view store).committed image) }
+    ensures failed { IfErr result IsStoreFault }
+{
+    store.rollback();
+    match store.checkpoint() {
+        Ok(()) => Ok(store.close()),
+        Err(error) => Err(StoreFault::from(error)),
+    }
+}
+
+/// Whether the tables say that they are those of schema 2.
+fn says_2<S: Store>(store: &mut S, alloc: Global) -> Option<bool>
+    ensures { Looks S.Store store.old store.new }
+{
+    let settings = rows_of(store, alloc, META)?;
+    Some(is_schema_2(settings.as_slice()))
+}
+
+/// The results in a file that lists the tables of schema 2 and says their number. `S` stands for what the file held, which
+/// no code reads. `None` of any other file, and of one that can't be opened.
+pub(crate) fn open_known<S: Supposed>(
+    rt: &HostRuntime,
+    file: &Text,
+    start: S,
+) -> Option<RunsFile<FileStore<FileFrom<S>>>>
+    ensures { IfSome result (OpensRuns (image_at S.Start)) }
+{
+    if !is_path(file.as_str()) {
+        return None;
+    }
+    let files = sqlite_std_file::open(rt, file.as_str(), start).ok()?;
+    known(rt.alloc(), files, options(rt, PAGES))
 }
 
 /// How many pages are kept in memory: most are read once.

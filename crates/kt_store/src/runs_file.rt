@@ -7,12 +7,15 @@ ghost use Rattle.sqlite_trees.specs.View.{IsClean};
 
 use crate::attach::lives;
 use crate::edits::{ended, write_entry, write_finish, write_run};
+use crate::opening::{close_store, open_known};
 use crate::seeks::{find_outputs, heads, outline};
 use crate::store_fault::trees::DAMAGED;
+use crate::supposed::Supposed;
 use crate::{CaseOutputs, Keeping, ResultStore, Results, RunHead, StoreFault};
-use kt_base::{Entry, NoMemory};
-use sqlite::Alter;
+use kt_base::{Entry, NoMemory, Text};
+use sqlite::{Alter, FileFrom, FileStore};
 use sqlite_catalog::load::load;
+use sqlite_disk::{Disk, Files};
 use sqlite_schema::schema::Schema;
 use std::alloc::Global;
 use std::marker::Model;
@@ -50,7 +53,7 @@ fn listed<S: Alter>(store: &S, alloc: Global) -> Result<Option<Schema>, NoMemory
 }
 
 /// The results in a store that shows its last commit, if that obeys the schema that it lists.
-fn over<S: Alter + Drop>(alloc: Global, store: S) -> Result<RunsFile<S>, StoreFault>
+pub(crate) fn over<S: Alter + Drop>(alloc: Global, store: S) -> Result<RunsFile<S>, StoreFault>
     requires settled { IsClean (S.Store.view store) → (S.Store.view store).is_broken ≡ false
         → (S.Store.view store).trees ≡ (S.Store.view store).committed }
     requires sound { IsTrue (S.Store.view store).is_open
@@ -90,6 +93,44 @@ impl<S: Alter + Drop> RunsFile<S> {
         let (alloc, connection) = results.into_parts();
         lives(&connection);
         over(alloc, connection.into_store())
+    }
+}
+
+impl<D: Disk + Drop> RunsFile<FileStore<D>> {
+    ghost use Rattle.std.specs.Prelude.{IfOk, IfErr};
+    ghost use Rattle.kt_store.specs.Common.{HasAlone, IsStoreFault};
+    ghost use Rattle.sqlite_store.specs.FileStore.{view};
+    ghost use Rattle.sqlite_wal.specs.Files.{outcomes};
+    ghost use Rattle.sqlite_wal.specs.Reads.{AreClean};
+    ghost use Rattle.sqlite_wal.specs.Recovery.{Image};
+
+    /// Closes the results, and gives their files back, of which the database file alone has the last commit; after an error
+    /// it stands in the file and in its log.
+    pub fn close(self) -> Result<Files<D>, StoreFault>
+        ensures closed { IfOk result (λ files. AreClean D.Disk files.log files.db
+            → (image : Image) → outcomes D.Disk files.log files.db image
+            → HasAlone (view self).committed image) }
+        ensures failed { IfErr result IsStoreFault }
+    {
+        let RunsFile {
+            store,
+            schema: _,
+            alloc: _,
+        } = self;
+        close_store(store)
+    }
+}
+
+impl<S: Supposed> RunsFile<FileStore<FileFrom<S>>> {
+    ghost use Rattle.std.specs.Prelude.{IfSome};
+    ghost use Rattle.kt_store.specs.Common.{OpensRuns, image_at};
+
+    /// Opens the results in a file that lists the tables of schema 2 and says their number; `None` of any other file, and
+    /// of one that can't be opened. Of its trees nothing is tested, and no more is read than these say.
+    pub fn open_known(rt: &HostRuntime, file: &Text, start: S) -> Option<Self>
+        ensures { IfSome result (OpensRuns (image_at S.Start)) }
+    {
+        open_known(rt, file, start)
     }
 }
 

@@ -14,6 +14,7 @@ use Rattle.sqlite.specs.Opening.{HoldsAt}
 use Rattle.kt_base.specs.declared.entry.Run.{Run}
 use Rattle.kt_store.specs.Runs.{Keeps}
 use Rattle.kt_store.specs.Seeks.{HoldsRuns}
+use Rattle.kt_store.specs.Supposed.{ListsObjects}
 
 module _ {D : Type 0} {g : Ghosts D} (image : Image) (store : FileStore D g) where
   -- a store shows the runs that a file held, unless it is broken, and a crash leaves them
@@ -28,6 +29,7 @@ module _ {D : Type 0} {g : Ghosts D} (old new : Unopened D g) where
     pub size : (state_of new).page_size ≡ (state_of old).page_size
     pub pages : PageMap
     pub found : Recovers (state_of old).page_size (image old) pages
+    pub lists : ListsObjects (state_of old).page_size pages
     pub again : Recovers (state_of old).page_size (image new) pages
     pub fits : (runs : List Run) (db : Trees) → HoldsAt (state_of old).page_size (image old) db → Keeps runs db
         → IsOurs (state_of old).page_size true (wanted_by new) pages × (db ≡ file_trees (state_of old).page_size (wanted_by new) pages)

@@ -10,6 +10,7 @@ use Rattle.sqlite_store.specs.Joined.{joined}
 use Rattle.sqlite_store.specs.Listing.{listed_from}
 use Rattle.sqlite_store.specs.Unopened.{state_of, wanted_by, image}
 use Rattle.sqlite.specs.Opening.{unrooted}
+use Rattle.kt_store.specs.Supposed.{objects_2}
 use Rattle.kt_store.proofs.OpeningLemmas.{ok_is, if_some, ids, layouts, fits_of}
 use Rattle.kt_store.proofs.opening.list_schema.Goals as goal
 
@@ -24,13 +25,15 @@ returns-clause-lists g c = if_some _ c.list_schema.result c.ok-3.result c.ok-3.e
     let cat = (rw listed_ok at c.read_catalog.ensures.ok) clean in
     let rows = c.in_ok-rows.rows.items in
     let read : rows ≡ map unrooted (rows_at size (in_use size cat.pages) Table 1) = (rw rows_ok at c.all_shown.ensures) ∙ ap (map unrooted) (c.as_slice.ensures.value ∙ cat.lists) in
-    let numbered : map rowid rows ≡ ids = subst (λ l. map rowid l ≡ ids) c.as_slice-2.ensures.value (c.if-not-are_objects.ensures refl) in
+    let objects : rows ≡ objects_2 = sym c.as_slice-2.ensures.value ∙ c.if-not-are_objects.ensures refl in
+    let numbered : map rowid rows ≡ ids = ap (map rowid) objects in
     let listed : listed_from 0 (wanted_by new) ≡ joined rows layouts = (rw done at (rw is at c.list_schema.ensures.ok)) ∙ ap (λ l. joined l layouts) c.as_slice-3.ensures.value in
     record {
       honest = c.read_catalog.ensures.honest clean;
       size = ap (λ p. (Pool.state p).page_size) c.list_schema.ensures.files ∙ (c.read_catalog.ensures.kept clean).size;
       pages = cat.pages;
       found = cat.found;
+      lists = sym read ∙ objects;
       again = subst (λ p. Recovers size (seen_image g.D.Disk (Pool.files p).0 (Pool.files p).1) cat.pages) (sym c.list_schema.ensures.files) cat.again;
       fits = fits_of size (image old) cat.pages cat.found (wanted_by new) rows read numbered listed;
     })

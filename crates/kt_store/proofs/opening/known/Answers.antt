@@ -1,0 +1,26 @@
+use Rattle.std.proofs.Common.{◌∙◌, IsTrue, sym, subst}
+use Rattle.kt_store.proofs.Common.{Schema, schema_2}
+use Rattle.sqlite_catalog.specs.Listing.{IsSound}
+use Rattle.sqlite_store.specs.FileStore.{view}
+use Rattle.sqlite_store.specs.Laws.{shut_if_dirty_at}
+use Rattle.sqlite.specs.Files.{image_of, over_files}
+use Rattle.kt_store.specs.Seeks.{OpensRuns}
+use Rattle.kt_store.proofs.EndLemmas.{looked_settled}
+use Rattle.kt_store.proofs.OpeningLemmas.{if_some, opens_runs}
+use Rattle.kt_store.proofs.opening.known.Goals as goal
+
+pub over-requires-clause-sound : goal.over-requires-clause-sound
+over-requires-clause-sound g c =
+    let old = c.in_ok-store.store in
+    let new = c.says_2-is_ours.new.store in
+    let is = looked_settled over_files old new schema_2 (shut_if_dirty_at new) c.says_2-is_ours.ensures (record { settled = λ _ _. c.in_ok-store.ensures.settled; sound = c.in_ok-store.ensures.sound }) in
+    subst (λ s. IsTrue (view s).is_open → (schema : Schema) × IsSound schema (view s).committed) (sym c.in_ok-last.ensures.0) (λ opened. (schema_2, is.sound opened))
+
+pub returns : goal.returns
+returns g c =
+    let start = image_of g.D.Disk c.args.files in
+    let old = c.in_ok-store.store in
+    let new = c.says_2-is_ours.new.store in
+    if_some (OpensRuns start) c.over.result c.ok.result c.ok.ensures.value (λ r done.
+    subst (OpensRuns start) (sym ((rw done at c.over.ensures.same) ∙ c.in_ok-last.ensures.0))
+    (opens_runs start old new c.says_2-is_ours.ensures c.in_ok-store.ensures.settled c.in_ok-store.ensures.unbroken c.in_ok-store.ensures.opens))

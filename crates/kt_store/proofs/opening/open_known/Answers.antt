@@ -1,0 +1,28 @@
+use Rattle.std.proofs.Common.{IfSome, ℕ, Bool, cond, List, ap₂, subst, sym}
+use Rattle.sqlite_disk.specs.Events.{Event, replay}
+use Rattle.sqlite_wal.specs.Recovery.{Image}
+use Rattle.kt_store.specs.Seeks.{OpensRuns}
+use Rattle.kt_store.specs.Supposed.{IsOfRuns}
+use Rattle.kt_store.proofs.OpeningLemmas.{ok_is}
+use Rattle.kt_store.proofs.opening.open_known.Goals as goal
+
+abbrev image : List ℕ → List ℕ → Image
+image log db = record { log = log; db = db }
+
+abbrev seen : List ℕ → List ℕ → Bool → List Event → List ℕ
+seen log db is_log history = (replay (cond is_log log db) history).seen
+
+pub returns : goal.returns
+returns g c =
+    let ok = ok_is c.open.result c.ok.result c.in_ok-files.files c.ok.ensures.value c.in_ok-files.was in
+    let (log, db) = rw ok at c.open.ensures.fresh in
+    let same = ap₂ image (ap₂ (seen g.S.Start.log g.S.Start.db) log.0 log.1) (ap₂ (seen g.S.Start.log g.S.Start.db) db.0 db.1) in
+    subst (λ i. IfSome c.known.result (OpensRuns i)) same c.known.ensures
+
+-- what is supposed of the start is supposed of the files
+pub known-requires-clause-held : goal.known-requires-clause-held
+known-requires-clause-held g c =
+    let ok = ok_is c.open.result c.ok.result c.in_ok-files.files c.ok.ensures.value c.in_ok-files.was in
+    let (log, db) = rw ok at c.open.ensures.fresh in
+    let same = ap₂ image (ap₂ (seen g.S.Start.log g.S.Start.db) log.0 log.1) (ap₂ (seen g.S.Start.log g.S.Start.db) db.0 db.1) in
+    subst IsOfRuns (sym same) g.met.S.Supposed.holds

@@ -1,0 +1,8 @@
+-- What is supposed of files holds of files without a byte.
+use Rattle.std.proofs.Math.Nat.{lt_irrefl}
+use Rattle.std.specs.Prelude.{[]}
+use Rattle.kt_store.specs.Supposed.{IsOfRuns}
+
+-- they list nothing
+pub of_nothing : IsOfRuns (record { log = []; db = [] })
+of_nothing size pages found lists = absurd (lt_irrefl 0 found.present)
