@@ -334,9 +334,9 @@ body kt_child/src/host/reads.rt 'match error.kind() {' <<'BODY'
 match error.kind() {
 ErrorKind::PermissionDenied => Ok(FileRead::Missing),
 BODY
-body kt_child/src/host/reads.rt 'match open_regular(rt, path.as_str()) {' <<'BODY'
+body kt_child/src/host/reads.rt 'read_opened(rt.alloc(), open_regular(rt, path.as_str()), from, limit)' <<'BODY'
 if path.as_bytes().len() > 255 { return Ok(FileRead::Missing); }
-match open_regular(rt, path.as_str()) {
+read_opened(rt.alloc(), open_regular(rt, path.as_str()), from, limit)
 BODY
 body kt_cli/src/host/surroundings.rt 'None => Err(DriverFault::NoWorkDirectory),' <<'BODY'
 Some(here) if here.as_str().len() > 255 => Err(DriverFault::NoWorkDirectory),
