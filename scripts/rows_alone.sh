@@ -8,9 +8,9 @@
 #   comment `# Each allocation refused.` is tried, and of each other row twelve, or two of one that takes long, others whenever the
 #   sources change.
 #
-# With ROWS_PLACES=all each allocation of a row is tried, up to 4,000 of them. Rows with more are tried by the place in the code that
+# With ROWS_PLACES=all each allocation of each row is tried, up to 4,000 of them. Rows with more are tried by the place in the code that
 # asks, not by number: of the allocations that have one list of return addresses the first four, the last, those whose number is a power
-# of two, and some four in between; if that would take more than ROWS_SECONDS processor seconds a row (600), one in so many of these. ROWS_JOBS
+# of two, and some four in between; if that would take more than ROWS_SECONDS processor seconds a row (600), or 5 without ROWS_PLACES, one in so many of these. ROWS_JOBS
 # is how many rows are tried at once.
 #
 # KT_ROWS names another program. With FILE.rows .. as its words it checks these files alone. The last line is 'N passed, M failed',
@@ -99,13 +99,14 @@ is_due() {
 # Lets copies of a row go on, in each of which one of its allocations is refused, and keeps what they answer.
 #   without_memory FILE
 without_memory() {
-  local step=1 from=1 chosen tried=$places
+  local step=1 from=1 chosen tried=$places seconds=${ROWS_SECONDS:-600}
   [ ! -e each ] || tried=all
   if [ "$tried" = all ] && [ "$count" -gt 4000 ]; then
     LD_PRELOAD=$room/refuse.so COUNTED=$PWD/count BY_PLACE=1 "$program" "$1" > /dev/null 2> told
     read -r count chosen < count
+    [ "$places" = all ] || seconds=5
     # A copy goes half the way on the average.
-    export PLACES=$PWD/count EVERY=$((chosen * (spent + 2) / 2000 / ${ROWS_SECONDS:-600} + 1))
+    export PLACES=$PWD/count EVERY=$((chosen * (spent + 2) / 2000 / seconds + 1))
   elif [ "$tried" != all ]; then
     if [ "$spent" -gt 100 ]; then step=$((count / 2 + 1)); else step=$((count / 12 + 1)); fi
     from=$(((first + ${PWD##*.}) % step + 1))
