@@ -103,7 +103,7 @@ install_all() {
     plan > "$room/new"
     while read -r mode target source; do
         if [ -e "$root/$target" ] && ! grep -Fxq "$target" "$room/old"; then
-            fail "$root/$target is there, and was not installed by this script"
+            fail "$root/$target is there, and was not installed by this script: remove it first, if need be with the checkout that installed it"
         fi
     done < "$room/sources"
     # The list comes first, so that an installation that fails half-way can be removed.

@@ -69,7 +69,7 @@ _kyua_cases() {
 }
 
 _kyua() {
-    local words cur word before='' command='' kyuafile=Kyuafile variables=(architecture= parallelism= platform= test_suites.)
+    local words cur word before='' command='' given='' kyuafile=Kyuafile variables=(architecture= parallelism= platform= test_suites.)
     COMPREPLY=()
     _kyua_words
     cur=${words[${#words[@]} - 1]}
@@ -80,7 +80,9 @@ _kyua() {
         esac
         case $word in
             --kyuafile=*) kyuafile=${word#*=} ;;
-            list | test | debug | report | report-junit) command=${command:-$word} ;;
+            -*) ;;
+            list | test | debug | report | report-junit) given=$command; command=${command:-$word} ;;
+            *) given=$command ;;
         esac
         before=$word
     done
@@ -99,7 +101,7 @@ _kyua() {
         test:-*) _kyua_complete '' -k -r --kyuafile= --results-file= --work= --help ;;
         report:*) _kyua_complete '' -r --results-file= --run= --results-filter= --verbose --help ;;
         report-junit:*) _kyua_complete '' -r --results-file= --run= --help ;;
-        debug:*) _kyua_cases /:/ ;;
+        debug:*) [ -n "$given" ] || _kyua_cases /:/ ;;
         *) _kyua_cases ;;
     esac
 }

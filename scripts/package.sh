@@ -64,7 +64,7 @@ make_tarball() {
 # Prints what CHANGELOG.md has of the version, as Debian has it.
 debian_changelog() {
   printf 'fermyzhal (%s) unstable; urgency=medium\n\n' "$version"
-  sed -n "/^## $version /,/^## /s/^- /  * /p" "$top/CHANGELOG.md" | fold -s -w 78 | sed -e 's/^[^ ]/    &/' -e 's/ *$//'
+  sed -n "/^## $version /,/^## /s/^- /  * /p" "$top/CHANGELOG.md" | fold -s -w 76 | sed -e 's/^[^ ]/    &/' -e 's/ *$//'
   printf '\n -- %s <%s>  %s\n' "$DEBFULLNAME" "$DEBEMAIL" "$(LC_ALL=C date -u -R -d "@$SOURCE_DATE_EPOCH")"
 }
 
@@ -77,7 +77,7 @@ make_deb() {
   mv "$root/usr/share/zsh/site-functions" "$root/usr/share/zsh/vendor-completions"
   debian_changelog > "$root/usr/share/doc/fermyzhal/changelog"
   gzip -9n "$root"/usr/share/man/man[15]/* "$root/usr/share/doc/fermyzhal/changelog"
-  strip "$root/usr/bin/kyua" || echo 'package.sh: the program in the package for Debian is not stripped' >&2
+  strip -R .comment "$root/usr/bin/kyua" || echo 'package.sh: the program in the package for Debian is not stripped' >&2
   size=$(find "$root/usr" -type f -printf '%s\n' -o -printf '1\n' | awk '{ size += int(($1 + 1023) / 1024) } END { print size }')
   mkdir "$root/DEBIAN"
   cat > "$root/DEBIAN/control" <<CONTROL
@@ -93,9 +93,11 @@ Homepage: $HOMEPAGE}
 Section: non-free/devel
 Priority: optional
 Description: test runner with ATF, TAP and plain test programs
- The command kyua, a reimplementation of the Kyua test runner in which every
- function is proved correct. It runs test programs in any language, records
- their results in an SQLite file, and reports them as text or JUnit XML.
+ The command kyua, a reimplementation of the Kyua test runner. Every function
+ is proved safe, and nearly each to do what its contract says; most of the
+ others only touch the host's files and processes. It runs test programs in
+ any language, records their results in an SQLite file, and reports them as
+ text or JUnit XML.
 CONTROL
   (cd "$root" && find usr -type f | LC_ALL=C sort | xargs -d '\n' md5sum) > "$room/md5sums"
   mv "$room/md5sums" "$root/DEBIAN"

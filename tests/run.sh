@@ -1,7 +1,7 @@
 #!/bin/sh
 # Runs the programs of endings/ and this suite with kyua, and then each case of each program by hand, and compares what kyua
-# recorded with how the case ended, by the tables of by_hand.sh: a runner that records passes of its own can't pass. The last line
-# says how many cases passed, and how many failed or were recorded wrongly.
+# recorded with how the case ended, by the tables of by_hand.sh: a runner that records passes of its own can't pass. The last lines
+# say which cases of the suite were skipped and why, how many passed, with these, and how many failed or were recorded wrongly.
 # KYUA names the program; else scripts/program.sh finds or builds it. WIDTH is how many cases run at once, 4 if it isn't set. Of
 # the allocations that are refused in turn every eighth is tried, or each SUITE_STEPth.
 set -eu
@@ -217,6 +217,7 @@ cp -R "$suite/endings" "$room/a checkout"
 compare "$room/a checkout" 1
 [ $failed != 0 ] || echo "endings/: $passed programs that pass, fail, crash and hang were recorded as they ended"
 compare "$suite" 0
+sed -n 's/^.*  ->  skipped: //p' "$room/recorded" > "$room/skipped"
 # What the cases started is over, too, two seconds later at the latest.
 if [ -r /proc/self/environ ]; then
     for _ in 1 2 3 4 5 6 7 8 9 10; do
@@ -230,5 +231,13 @@ if [ -r /proc/self/environ ]; then
         [ -z "$words" ] || wrong "a process is left: $words"
     done
 fi
+if [ -s "$room/skipped" ]; then
+    echo "$(wc -l < "$room/skipped") cases were skipped:"
+    LC_ALL=C sort "$room/skipped" | uniq -c
+fi
+for tool in busybox fish gawk junitparser lintian original-awk xsltproc zsh; do
+    [ -n "$(command -v $tool)" ] || left_out="${left_out-}, $tool"
+done
+[ -z "${left_out-}" ] || echo "Single tests were left out, without: ${left_out#, }"
 echo "$passed passed, $failed failed"
 [ $failed = 0 ]
