@@ -87,7 +87,7 @@ Architecture: amd64
 Maintainer: $DEBFULLNAME <$DEBEMAIL>
 Installed-Size: $size
 Depends: libc6 (>= 2.34)
-Suggests: atf-sh
+Suggests: atf-sh, xsltproc
 Conflicts: kyua${HOMEPAGE:+
 Homepage: $HOMEPAGE}
 Section: non-free/devel

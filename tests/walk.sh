@@ -3,7 +3,7 @@
 # displays PAGE: the displays of a manual page, each after a line `==`, as they are printed.
 displays() {
     awk '/^\.Bd/ { inside = 1; print "=="; next } /^\.Ed/ { inside = 0 } inside; /^\.Dl / { print "=="; print substr($0, 5) }' "$1" |
-        sed 's/\\e/\\/g'
+        sed -e 's/\\e/\\/g' -e 's/^\\&//'
 }
 
 # shown PAGE: those of its displays that begin with a command; what they keep in /tmp or have installed stands here.
