@@ -52,7 +52,21 @@ fn listed<S: Alter>(store: &S, alloc: Global) -> Result<Option<Schema>, NoMemory
     Ok(found)
 }
 
-/// The results in a store that shows its last commit, if that obeys the schema that it lists.
+/// Whether the table at a place of the schema has this name and this tree.
+fn is_at(schema: &Schema, place: usize, name: &str, tree: u32) -> bool {
+    match schema.tables.as_slice().get(place) {
+        Some(table) => table.name.as_slice() == name.as_bytes() && table.tree == tree,
+        None => false,
+    }
+}
+
+/// Whether the tables stand where they are read and written.
+fn are_placed(schema: &Schema) -> bool {
+    is_at(schema, 1, "runs", 2) && is_at(schema, 2, "entries", 3) && is_at(schema, 3, "props", 5)
+}
+
+/// The results in a store that shows its last commit, if that obeys the schema that it lists, with the tables of results in
+/// their order.
 pub(crate) fn over<S: Alter + Drop>(alloc: Global, store: S) -> Result<RunsFile<S>, StoreFault>
     requires settled { IsClean (S.Store.view store) → (S.Store.view store).is_broken ≡ false
         → (S.Store.view store).trees ≡ (S.Store.view store).committed }
@@ -64,14 +78,17 @@ pub(crate) fn over<S: Alter + Drop>(alloc: Global, store: S) -> Result<RunsFile<
     if store.is_broken() {
         return Err(DAMAGED);
     }
-    match listed(&store, alloc)? {
-        Some(schema) => Ok(RunsFile {
-            store,
-            schema,
-            alloc,
-        }),
-        None => Err(DAMAGED),
+    let Some(schema) = listed(&store, alloc)? else {
+        return Err(DAMAGED);
+    };
+    if !are_placed(&schema) {
+        return Err(DAMAGED);
     }
+    Ok(RunsFile {
+        store,
+        schema,
+        alloc,
+    })
 }
 
 impl<S: Alter + Drop> RunsFile<S> {
