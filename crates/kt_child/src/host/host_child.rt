@@ -18,6 +18,9 @@ const KILLED_LIMIT: u64 = 5;
 pub(crate) struct HostChild<P: OpenProcess> {
     out: Option<File>,
     err: Option<File>,
+    /// The two files from its start on, until its outputs were read: no process gets a lease on a file that is open to be
+    /// written (fcntl(2)).
+    kept: Option<(File, File)>,
     process: Option<process::Child<P>>,
     pace: Pace,
     /// Whether its end was seen, or it couldn't be waited for.
@@ -30,6 +33,7 @@ impl<P: OpenProcess + Drop> Drop for HostChild<P> {
         let HostChild {
             out: _,
             err: _,
+            kept: _,
             process,
             pace: _,
             seen: _,
@@ -54,6 +58,7 @@ impl<P: OpenProcess + Drop> HostChild<P> {
         HostChild {
             out: Some(out),
             err: None,
+            kept: None,
             process: None,
             pace: Pace::begun(limit, clock),
             seen: false,
@@ -91,7 +96,9 @@ impl<P: OpenProcess + Drop> HostChild<P> {
         let Some((out, err)) = self.out.take().zip(self.err.take()) else {
             return Err(OsFault::Failed);
         };
+        let kept = (or_fault(out.try_clone())?, or_fault(err.try_clone())?);
         drop(self.process.replace(spawn(rt, asked, out, err)?));
+        self.kept = Some(kept);
         self.pace = Pace::begun(self.pace.limit, rt);
         Ok(())
     }
