@@ -235,7 +235,7 @@ if [ -s "$room/skipped" ]; then
     echo "$(wc -l < "$room/skipped") cases were skipped:"
     LC_ALL=C sort "$room/skipped" | uniq -c
 fi
-for tool in busybox fish gawk junitparser lintian original-awk xsltproc zsh; do
+for tool in busybox fish gawk junitparser lintian original-awk tidy zsh; do
     [ -n "$(command -v $tool)" ] || left_out="${left_out-}, $tool"
 done
 [ -z "${left_out-}" ] || echo "Single tests were left out, without: ${left_out#, }"
