@@ -295,6 +295,14 @@ fn says_2<S: Store>(store: &mut S, alloc: Global) -> Option<bool>
     Some(is_schema_2(settings.as_slice()))
 }
 
+/// Whether this is a file that is not empty. One that is missing would be made by an opening.
+fn is_there<R: FileSystem>(rt: &R, file: &Text) -> bool {
+    match fs::symlink_metadata(rt, file.as_str()) {
+        Ok(found) => found.is_file() && found.len() > 0,
+        Err(_missing) => false,
+    }
+}
+
 /// The results in a file that lists the tables of schema 2 and says their number. `S` stands for what the file held, which
 /// no code reads. `None` of any other file, and of one that can't be opened.
 pub(crate) fn open_known<S: Supposed>(
@@ -304,7 +312,7 @@ pub(crate) fn open_known<S: Supposed>(
 ) -> Option<RunsFile<FileStore<FileFrom<S>>>>
     ensures { IfSome result (OpensRuns (image_at S.Start)) }
 {
-    if !is_path(file.as_str()) {
+    if !is_path(file.as_str()) || !is_there(rt, file) {
         return None;
     }
     let files = sqlite_std_file::open(rt, file.as_str(), start).ok()?;
