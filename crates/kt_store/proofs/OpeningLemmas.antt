@@ -143,12 +143,12 @@ still_over image old new looks clean opens = record {
 pub opens_runs : {D : Type 0} {g : Ghosts D} (image : Image) (old new : FileStore D g) → Looks over_files old new → (view old).trees ≡ (view old).committed → (IsClean (view old) → (view old).is_broken ≡ false) → (IsClean (view old) → OpensOver image old) → OpensRuns image new
 opens_runs image old new looks settled unbroken opens = record {
   stands = λ runs h. (
-      λ opened.
-          let clean = clean_of_open (view new) (shut_if_dirty_at new) opened in
-          let held = looks.held clean opened in
-          subst (Keeps runs) (settled ∙ sym held.1) ((opens (looks.clean clean)).holds runs h (unbroken (looks.clean clean))),
-      h.2.3.valid.numbered,
-      λ clean. ordered_of runs h.2.3.valid.each,
-    );
+    λ opened.
+        let clean = clean_of_open (view new) (shut_if_dirty_at new) opened in
+        let held = looks.held clean opened in
+        subst (Keeps runs) (settled ∙ sym held.1) ((opens (looks.clean clean)).holds runs h (unbroken (looks.clean clean))),
+    h.2.3.valid.numbered,
+    λ clean. ordered_of runs h.2.3.valid.each,
+  );
   leaves = λ runs h clean trees found. (opens (looks.clean clean)).leaves runs h trees (looks.outcomes trees found);
 }

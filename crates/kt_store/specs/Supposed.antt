@@ -25,8 +25,8 @@ key_object id name table = Int (pos id) ∷ Text (codes "index") ∷ Text name �
 abbrev pub objects_2 : List Row
 objects_2 =
     table_object 1 (codes "meta") create_meta ∷ key_object 2 (codes "sqlite_autoindex_meta_1") (codes "meta") ∷ table_object 3 (codes "runs") create_runs
-      ∷ table_object 4 (codes "entries") create_entries ∷ key_object 5 (codes "sqlite_autoindex_entries_1") (codes "entries") ∷ table_object 6 (codes "props") create_props
-      ∷ key_object 7 (codes "sqlite_autoindex_props_1") (codes "props") ∷ []
+    ∷ table_object 4 (codes "entries") create_entries ∷ key_object 5 (codes "sqlite_autoindex_entries_1") (codes "entries") ∷ table_object 6 (codes "props") create_props
+    ∷ key_object 7 (codes "sqlite_autoindex_props_1") (codes "props") ∷ []
 
 -- these pages list the objects of schema 2, and no other
 abbrev pub ListsObjects : ℕ → PageMap → Type 0
