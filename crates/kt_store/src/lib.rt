@@ -4,6 +4,7 @@
 mod access;
 mod attach;
 mod batch;
+mod by_name;
 mod crashes;
 mod edits;
 mod file_results;
@@ -14,6 +15,7 @@ mod opening;
 mod outlines;
 mod outputs;
 mod pairs;
+mod places;
 mod put;
 mod result_store;
 mod results;

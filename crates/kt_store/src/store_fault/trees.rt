@@ -29,6 +29,7 @@ pub(crate) const DAMAGED: StoreFault = StoreFault::Store(FailedStatement(Cause::
 pub(crate) const READ_ONLY: StoreFault = StoreFault::Store(FailedStatement(Cause::ReadOnly));
 
 /// A table and the index of its key, with the columns of the key and those that are blobs.
+#[derive(Clone, Copy)]
 pub(crate) struct Table<'a> {
     pub(crate) tree: u32,
     pub(crate) index: u32,
