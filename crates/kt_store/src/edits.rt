@@ -7,6 +7,7 @@ ghost use Rattle.sqlite_trees.specs.View.{IsClean};
 ghost use Rattle.sqlite_catalog.specs.Listing.{IsSound};
 
 use crate::StoreFault;
+use crate::ends::check_last;
 use crate::heads::add;
 use crate::places::Places;
 use crate::put::{code, reason_of};
@@ -173,6 +174,7 @@ fn next_number<S: Alter>(store: &mut S, alloc: Global, places: Places) -> Result
     ensures looks { Looks S.Store store.old store.new }
 {
     let last = last_number(store, alloc, places)?;
+    check_last(store, alloc, places, last)?;
     if last >= MOST_RUNS {
         return Err(StoreFault::StoreFull);
     }

@@ -7,6 +7,7 @@ mod batch;
 mod by_name;
 mod crashes;
 mod edits;
+mod ends;
 mod file_results;
 mod heads;
 mod lookup;

@@ -1,8 +1,10 @@
-ghost use Rattle.std.specs.Prelude.{◌≡◌, ◌⊎◌, ◌<◌, ◌≤◌, ◌^◌, List, Some, None, length, map, IfOk, IfErr, OnOk};
+ghost use Rattle.std.specs.Prelude.{◌≡◌, ◌⊎◌, ◌<◌, ◌≤◌, ◌^◌, List, Some, None, length, map, IfOk, IfErr, OnOk, true};
 ghost use Rattle.kt_store.specs.Common.{HasRuns, IsStoreFault, StandAt, Looks, LooksThrough, Run, AreRuns, last_run, run_row, head_of, Serves, Heads, Outline, Outputs, entries_of, outlined, run_at, seen_as};
 ghost use Rattle.kt_store.specs.Known.{readings};
+ghost use Rattle.kt_store.specs.Runs.{IsRun};
 ghost use Rattle.sqlite_trees.specs.View.{IsClean};
 
+use crate::ends::{NO_RUN, check_ends};
 use crate::heads::{head_in, heads_in};
 use crate::lookup::key;
 use crate::outlines::entries_in;
@@ -43,7 +45,7 @@ pub(crate) fn entries_at(places: Places) -> Table<'static>
 }
 
 /// The table of pairs.
-fn pairs_at(places: Places) -> Table<'static>
+pub(crate) fn pairs_at(places: Places) -> Table<'static>
     ensures tree { result.tree ≡ places.props.tree }
     ensures index { result.index ≡ places.pair_keys }
 {
@@ -69,7 +71,10 @@ pub(crate) fn heads<S: Store>(
 {
     let stored = all_rows(store, &mut Workspace::new(alloc), places.runs.tree)?;
     let rows = all_shown(alloc, &stored, &[0, 2, 3, 4])?;
-    heads_in(alloc, &rows)
+    let found = heads_in(alloc, &rows)?;
+    let last = found.last().copied().unwrap_or(NO_RUN);
+    check_ends(store, alloc, places, last)?;
+    Ok(found)
 }
 
 /// The number of the last run, 0 if there is none.
@@ -169,6 +174,17 @@ fn all_entries<S: Store>(
     entries_in(alloc, &rows, &shown)
 }
 
+/// Whether a run with this head has so many entries: a finished one as many as its total, another no more.
+fn has_as_many(head: RunHead, count: usize) -> bool
+    ensures { (r : Run) → IsRun r → head ≡ head_of r → count ≡ length r.entries → result ≡ true }
+{
+    if head.finished {
+        count == head.total as usize
+    } else {
+        count <= head.total as usize
+    }
+}
+
 /// The same, of a run that is there.
 pub(crate) fn outline<S: Store>(
     store: &mut S,
@@ -182,8 +198,13 @@ pub(crate) fn outline<S: Store>(
         (seen_as (λ found. found.items) result)) store.old store.new }
     ensures looks { Looks S.Store store.old store.new }
 {
-    stored_run(store, alloc, places, run)?;
-    all_entries(store, alloc, places, run, pairs)
+    let row = stored_run(store, alloc, places, run)?;
+    let head = stored_head(alloc, &row)?;
+    let found = all_entries(store, alloc, places, run, pairs)?;
+    if !has_as_many(head, found.len()) {
+        return Err(DAMAGED);
+    }
+    Ok(found)
 }
 
 /// The outputs of a run's entry at a position.
