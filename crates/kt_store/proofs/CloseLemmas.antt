@@ -109,7 +109,7 @@ all_zero : (es : List Entry) → AllByRecursion (λ (e : Entry). 0 ≤ e.positio
 all_zero [] = tt
 all_zero (e ∷ es) = (omega arith, all_zero es)
 
-at_most : (r : Run) → IsRun r → length r.entries ≤ r.total
+pub at_most : (r : Run) → IsRun r → length r.entries ≤ r.total
 at_most r is = omega (arith, no_more 0 r.total r.entries (omega arith) (all_zero r.entries) is.ordered is.below)
 
 least_most : (n m : ℕ) → n < most → m ≡ min n most → m ≡ n

@@ -6,6 +6,7 @@ use Rattle.sqlite_catalog.specs.Listing.{IsSound}
 use Rattle.sqlite_catalog.proofs.ReadLemmas.{lists_once}
 use Rattle.sqlite_rules.specs.Cast.{cast_row}
 use Rattle.kt_store.specs.Inner.Edits.{Fills, PutsRows, begun_row, done_row, unnumbered}
+use Rattle.kt_store.specs.Inner.Places.{places_2}
 use Rattle.kt_store.proofs.BeginLemmas.{begin_params, begin_works, begun}
 use Rattle.kt_store.proofs.CloseLemmas.{finish_in}
 use Rattle.kt_store.proofs.EntryLemmas.{back}
@@ -69,7 +70,7 @@ module _ (schema : Schema) (runs : List Run) (old new : Trees) (was : IsSound sc
   cast_pairs n p j [] = refl
   cast_pairs n p j (v ∷ vs) = ap₂ (λ x xs. x ∷ xs) (rw (cast_null, cast_int (pos n), cast_int (pos p), cast_int (pos j)) refl) (cast_pairs n p (suc j) vs)
 
-  pub entry_filled : (run : ℕ) (e : Entry) → CanAdd run e runs → Fills schema run e old new → Keeps (with_entry run e runs) new
+  pub entry_filled : (run : ℕ) (e : Entry) → CanAdd run e runs → Fills schema places_2 run e old new → Keeps (with_entry run e runs) new
   entry_filled run e fits fills =
       let at = fits.0 in
       let n : suc at ≡ run = sym fits.1 in

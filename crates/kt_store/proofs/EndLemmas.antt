@@ -1,13 +1,16 @@
 -- How calls end that write the trees of a store: committed, or gone back to the last commit.
 use Rattle.std.proofs.Common.{◌≡◌, ◌⊎◌, inl, inr, Bool, true, false, true≢false, is_err, Result, Ok, Err, OnOk, OnErr, IfOk, IfErr, List, [], ◌∷◌, IsTrue, refl, sym, ap, subst, ◌∙◌}
-use Rattle.kt_store.proofs.Common.{Trees, Ghosts, Schema, Run, StoreFault, IsStoreFault, Keeps, KeepsOne, StoreCall, Heads, Outline, Outputs, Serves, Agrees, Outlasts, changed_by}
+use Rattle.kt_store.proofs.Common.{Trees, Ghosts, Schema, Run, StoreFault, IsStoreFault, Keeps, KeepsOne, StoreCall, schema_2, Heads, Outline, Outputs, Serves, Agrees, Outlasts, changed_by}
 use Rattle.sqlite_trees.specs.View.{View, IsClean, IsRolledBack, doubt}
 use Rattle.sqlite_trees.proofs.Doubt.{no_doubt}
 use Rattle.sqlite_catalog.specs.Listing.{IsSound}
 use Rattle.kt_store.specs.Inner.Cursors.{Looks, HoldsCommit}
 use Rattle.kt_store.specs.Inner.Edits.{IsSettledStore, Wrote}
+use Rattle.kt_store.specs.Inner.Places.{StandAt, places_2}
 use Rattle.kt_store.specs.Known.{readings, runs_file}
 use Rattle.kt_store.specs.Seeks.{HasCommitted, HasRuns}
+use Rattle.kt_store.specs.declared.places.Places.{Places}
+use Rattle.kt_store.proofs.EditLemmas.{schema_is}
 use Rattle.kt_store.proofs.Numbered.{numbers_changed, ordered_changed}
 
 -- a store that is not broken is open, by its law
@@ -33,6 +36,10 @@ module _ (old new : View) (back : IsRolledBack old new) (clean : IsClean new) wh
 -- what a store that is settled shows obeys its schema
 pub sound_of : (v : View) (schema : Schema) → (v.is_open ≡ false → IsTrue v.is_broken) → IsSettledStore v schema → IsClean v → v.is_broken ≡ false → IsSound schema v.trees
 sound_of v schema law is clean sound = subst (IsSound schema) (sym (is.settled clean sound)) (is.sound (open_of v.is_open v.is_broken law sound))
+
+-- and its tables stand where they are found by name
+pub stand_at : (v : View) (schema : Schema) (places : Places) → (v.is_open ≡ false → IsTrue v.is_broken) → IsSettledStore v schema × (schema ≡ schema_2 → places ≡ places_2) → StandAt places v
+stand_at v schema places law is clean sound runs keeps = is.1 (schema_is schema runs v.trees (sound_of v schema law is.0 clean sound) keeps)
 
 -- and is what it stands for
 pub has_runs : (v : View) (schema : Schema) → (v.is_open ≡ false → IsTrue v.is_broken) → IsSettledStore v schema → (runs : List Run) → HasCommitted v runs → HasRuns v runs

@@ -1,11 +1,13 @@
 -- What is shown of the rows that a cursor finds.
 use Rattle.std.proofs.Common.{arith, length, ◌≡◌, ℕ, suc, pos, List, [], ◌∷◌, ◌++◌, map, drop, filter, true, false, Some, None, Option, refl, sym, ap, ap₂, subst, ◌∙◌}
-use Rattle.kt_store.proofs.Common.{AreWide, column, length-map, map-append, Ghosts, map-map, flat_map, option_to_list, Row, Entry, Variable, Run, Keeps, entry_row, entry_columns, output_columns, pair_rows, pair_rows_from, pair_columns, pairs_shown, head_columns, run_row, run_at, has_rowid, AreNumbered}
+use Rattle.kt_store.proofs.Common.{AreWide, column, length-map, map-append, Ghosts, map-map, flat_map, option_to_list, Row, Entry, Variable, Run, Keeps, entry_row, entry_columns, output_columns, pair_rows, pair_rows_from, pair_columns, pairs_shown, head_columns, run_row, run_at, has_rowid, AreNumbered, Trees}
 use Rattle.sqlite_trees.specs.View.{View, Finds}
 use Rattle.kt_store.proofs.EntryLemmas.{back}
 use Rattle.kt_store.proofs.FindLemmas.{found_run}
 use Rattle.kt_store.specs.Inner.Cursors.{Looks, Shows, in_columns}
+use Rattle.kt_store.specs.Inner.Places.{StandAt, places_2}
 use Rattle.kt_store.specs.Seeks.{HasRuns}
+use Rattle.kt_store.specs.declared.places.Places.{Places}
 
 -- columns that leave the rowid out
 abbrev pub LeavesRowid : List ℕ → Type 0
@@ -62,6 +64,10 @@ head_places = 0 ∷ 2 ∷ 3 ∷ 4 ∷ []
 pub seen_heads : (runs : List Run) (table shown : List Row) → table ≡ map run_row runs → shown ≡ map (in_columns head_places) table → shown ≡ map head_columns runs
 seen_heads runs table shown are is = is ∙ ap (map (in_columns head_places)) are ∙ map-map (in_columns head_places) run_row runs
 
+-- the rows of runs, where their table stands
+pub rows_of_runs : (places : Places) (runs : List Run) (trees : Trees) → Keeps runs trees → places ≡ places_2 → trees places.runs.tree ≡ map run_row runs
+rows_of_runs places runs trees keeps is = ap (λ (p : Places). trees p.runs.tree) is ∙ ap (λ (t : Trees). t 2) keeps.2 ∙ keeps.3.runs_are
+
 -- a run is found by its rowid
 pub there_is : (runs : List Run) (n : ℕ) (table : List Row) (row : Row) → AreNumbered 1 runs → table ≡ map run_row runs → Finds table (pos n) row true → (r : Run) × (run_at runs n ≡ Some r) × (row ≡ run_row r)
 there_is runs n table row numbered are found = go (run_at runs n) (sym (found_run n runs numbered) ∙ ap (filter (has_rowid (pos n))) (sym are) ∙ found)
@@ -82,6 +88,12 @@ pub still_has : {S : Type 0} (g : Ghosts S) (old new : S) → Looks g old new �
 still_has g old new looks runs has clean sound =
     let same = looks.same clean sound in
     subst (Keeps runs) (ap (λ (v : View). v.trees) (sym same)) (has (looks.clean clean) (ap (λ (v : View). v.is_broken) (sym same) ∙ sound))
+
+-- and its tables where they stood
+pub still_at : {S : Type 0} (g : Ghosts S) (old new : S) (places : Places) → Looks g old new → StandAt places (g.view old) → StandAt places (g.view new)
+still_at g old new places looks stands clean sound runs keeps =
+    let same = looks.same clean sound in
+    stands (looks.clean clean) (ap (λ (v : View). v.is_broken) (sym same) ∙ sound) runs (subst (Keeps runs) (ap (λ (v : View). v.trees) same) keeps)
 
 -- each has as many columns as were asked for
 pub all_wide : (columns : List ℕ) (rows : List Row) → AreWide (length columns) (map (in_columns columns) rows)

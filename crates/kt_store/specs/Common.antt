@@ -28,6 +28,7 @@ pub use Rattle.kt_store.specs.Inner.Edits.{Fills, Obeys, PutsRows, Wrote, done_r
 pub use Rattle.kt_store.specs.Inner.Fault.{Tells}
 pub use Rattle.kt_store.specs.Inner.Heads.{entry_columns, head_columns, output_columns, pair_columns, pairs_shown}
 pub use Rattle.kt_store.specs.Inner.Opening.{ListsRuns, OpensOver}
+pub use Rattle.kt_store.specs.Inner.Places.{AreNamed, StandAt, places_2}
 pub use Rattle.kt_store.specs.Inner.Kept.{AsksNumber, Changes, CommitsNothing, FindsTables, KeepsRuns, LeavesSchema, MayChange, OnlyReads, WasClean}
 pub use Rattle.kt_store.specs.Inner.Runs.{CanAdd, IsBareIfPassed, IsComplete, entries_of}
 pub use Rattle.kt_store.specs.Inner.Transactions.{Commits, CommitsLater, MayCommit, RunsAll, RunsOne, Undoes}

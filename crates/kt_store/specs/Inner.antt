@@ -9,6 +9,7 @@ pub mod Heads
 pub mod Kept
 pub mod NewFiles
 pub mod Opening
+pub mod Places
 pub mod Runs
 pub mod SupposedLaws
 pub mod Transactions

@@ -100,10 +100,14 @@ pub record AreRuns (runs : List Run) : Type 0 where
 abbrev pub AreOrdered : List Run → Type 0
 AreOrdered runs = AllByRecursion (λ (r : Run). IsAscending (λ (a b : Entry). a.position < b.position) r.entries) runs
 
+-- the table of settings says this number of the schema
+abbrev pub SaysIn : ℤ → Trees → Type 0
+SaysIn n trees = map (drop 1) (trees 0) ≡ (Text (codes "schema") ∷ Int n ∷ []) ∷ []
+
 -- the database is the tables of schema 2, and their rows are exactly those of these runs
 pub record Tables (db : Database) (runs : List Run) : Type 0 where
   pub schema : db.schema ≡ schema_2
-  pub marked : map (drop 1) (db.trees 0) ≡ (Text (codes "schema") ∷ Int (pos 2) ∷ []) ∷ []
+  pub marked : SaysIn (pos 2) db.trees
   pub runs_are : db.trees 2 ≡ map run_row runs
   pub entries_are : IsPermutation (entry_rows runs) (map (drop 1) (db.trees 3))
   pub props_are : IsPermutation (prop_rows runs) (map (drop 1) (db.trees 5))
@@ -116,7 +120,7 @@ HaveNoPairs runs = AllByRecursion (λ (r : Run). AllByRecursion (λ (e : Entry).
 -- the database is the tables of schema 1, and their rows are exactly those of these runs, whose entries have no pairs
 pub record OldTables (db : Database) (runs : List Run) : Type 0 where
   pub schema : db.schema ≡ schema_1
-  pub marked : map (drop 1) (db.trees 0) ≡ (Text (codes "schema") ∷ Int (pos 1) ∷ []) ∷ []
+  pub marked : SaysIn (pos 1) db.trees
   pub runs_are : db.trees 2 ≡ map run_row runs
   pub entries_are : IsPermutation (entry_rows runs) (map (drop 1) (db.trees 3))
   pub bare : HaveNoPairs runs

@@ -1,6 +1,5 @@
 -- When a connection stands for a list of runs.
-use Rattle.std.specs.Prelude.{◌≡◌, false, Ok, ℕ, List, [], ◌∷◌, map, drop, codes, ℤ, pos, IsTrue}
-use Rattle.sqlite.specs.declared.types.Value.TheVariants.{Int, Text}
+use Rattle.std.specs.Prelude.{◌≡◌, false, Ok, ℕ, List, ℤ, pos, IsTrue}
 use Rattle.sqlite.specs.Effect.{Database}
 use Rattle.sqlite.specs.Listing.{understood}
 use Rattle.sqlite.specs.Tree.{Trees}
@@ -11,7 +10,7 @@ use Rattle.sqlite.specs.Table.{Table}
 use Rattle.sqlite_schema.specs.declared.schema.Index.{Index}
 use Rattle.sqlite_schema.specs.declared.schema.View.{View}
 use Rattle.kt_store.specs.Tables.{no_schema, beside_meta, runs_text, entries_text, pairs_text}
-use Rattle.kt_store.specs.Runs.{Tables, OldTables}
+use Rattle.kt_store.specs.Runs.{SaysIn, Tables, OldTables}
 
 -- no transaction is open, and the last commit is what is seen, with P
 pub record IsSettled (P : Database → Type 0) (s : State) : Type 0 where
@@ -49,7 +48,7 @@ pub record SaysNumber (n : ℤ) (s : State) : Type 0 where
   pub indexes : List Index
   pub views : List View
   pub schema : s.now.schema ≡ beside_meta others indexes views
-  pub marked : map (drop 1) (s.now.trees 0) ≡ (Text (codes "schema") ∷ Int n ∷ []) ∷ []
+  pub marked : SaysIn n s.now.trees
 
 -- the same while the disk returns what was written and the connection is open
 abbrev pub SaysSchema : ℤ → State → Type 0

@@ -1,15 +1,17 @@
 //! Runs and entries that are written into the trees of a store, without a commit.
 
 ghost use Rattle.std.specs.Prelude.{◌≡◌, ◌⊎◌, ◌<◌, ◌≤◌, ◌^◌, [], ◌∷◌, map, suc, length, List, Some, None, Ok, Err, false, is_err, IfOk, IfErr, OnOk, OnErr};
-ghost use Rattle.kt_store.specs.Common.{AllByRecursion, owned, Run, last_run, IsMoment, IsStorable, IsStoreFault, IsText, IsPair, CanAdd, IsComplete, IsBareIfPassed, HasRuns, Looks, LooksThrough, Obeys, HoldsCommit, Fills, Began, Put, Finished, Agrees, Keeps, PutsRows, changed_by, run_at, run_row, entry_row, pair_row, pair_rows_from, unnumbered, done_row, put_refusal, finish_refusal};
+ghost use Rattle.kt_store.specs.Common.{AllByRecursion, owned, Run, last_run, IsMoment, IsStorable, IsStoreFault, IsText, IsPair, CanAdd, IsComplete, IsBareIfPassed, HasRuns, StandAt, Looks, LooksThrough, Obeys, HoldsCommit, Fills, Began, Put, Finished, Agrees, Keeps, PutsRows, changed_by, run_at, run_row, entry_row, pair_row, pair_rows_from, unnumbered, done_row, put_refusal, finish_refusal};
 ghost use Rattle.sqlite_trees.specs.Tree.{Trees};
 ghost use Rattle.sqlite_trees.specs.View.{IsClean};
 ghost use Rattle.sqlite_catalog.specs.Listing.{IsSound};
 
 use crate::StoreFault;
+use crate::ends::check_last;
 use crate::heads::add;
+use crate::places::Places;
 use crate::put::{code, reason_of};
-use crate::seeks::{ENTRIES, last_number, stored_head, stored_run};
+use crate::seeks::{entries_at, last_number, stored_head, stored_run};
 use crate::store_fault::rules::put_rows;
 use crate::store_fault::trees::{add_number, count_under, number_row};
 use crate::value::{blob, int, text};
@@ -159,7 +161,8 @@ fn row_of_entry<'a>(
 }
 
 /// The number of the next run. `StoreFull` where there are 1,000,000.
-fn next_number<S: Alter>(store: &mut S, alloc: Global) -> Result<u64, StoreFault>
+fn next_number<S: Alter>(store: &mut S, alloc: Global, places: Places) -> Result<u64, StoreFault>
+    requires { StandAt places (S.Store.view store.old) }
     ensures number { (runs : List Run) → HasRuns (S.Store.view store.old) runs
         → IsClean (S.Store.view store.new)
         → IfOk result (λ n. (n ≡ suc (length runs)) × (length runs < last_run)) }
@@ -170,7 +173,8 @@ fn next_number<S: Alter>(store: &mut S, alloc: Global) -> Result<u64, StoreFault
         → OnOk result (LooksThrough (S.Store.view store.old) (S.Store.view store.new)) }
     ensures looks { Looks S.Store store.old store.new }
 {
-    let last = last_number(store, alloc)?;
+    let last = last_number(store, alloc, places)?;
+    check_last(store, alloc, places, last)?;
     if last >= MOST_RUNS {
         return Err(StoreFault::StoreFull);
     }
@@ -182,12 +186,14 @@ pub(crate) fn write_run<S: Alter>(
     store: &mut S,
     alloc: Global,
     schema: &Schema,
+    places: Places,
     total: u32,
     moment: u64,
 ) -> Result<u64, StoreFault>
     requires moment { IsMoment moment }
     requires sound { IsClean (S.Store.view store.old) → (S.Store.view store.old).is_broken ≡ false
         → IsSound schema.now (S.Store.view store.old).trees }
+    requires placed { StandAt places (S.Store.view store.old) }
     ensures agrees { (runs : List Run) → HasRuns (S.Store.view store.old) runs
         → IsClean (S.Store.view store.new) → Agrees runs (Began total moment result) }
     ensures rows { (runs : List Run) → HasRuns (S.Store.view store.old) runs
@@ -201,7 +207,7 @@ pub(crate) fn write_run<S: Alter>(
     ensures outcomes { (db : Trees) → S.Store.recovers store.new db
         → S.Store.recovers store.old db }
 {
-    let number = next_number(store, alloc)?;
+    let number = next_number(store, alloc, places)?;
     let row = row_of(
         alloc,
         &[
@@ -212,7 +218,16 @@ pub(crate) fn write_run<S: Alter>(
             int(0),
         ],
     )?;
-    put_one(store, alloc, schema, 1, &[], Rowids::Chosen, 0, row)?;
+    put_one(
+        store,
+        alloc,
+        schema,
+        places.runs.at,
+        &[],
+        Rowids::Chosen,
+        0,
+        row,
+    )?;
     Ok(number)
 }
 
@@ -220,9 +235,11 @@ pub(crate) fn write_run<S: Alter>(
 fn check_entry<S: Alter>(
     store: &mut S,
     alloc: Global,
+    places: Places,
     run: u64,
     entry: &Entry,
 ) -> Result<(), StoreFault>
+    requires { StandAt places (S.Store.view store.old) }
     ensures small { OnOk result (run ≤ last_run) }
     ensures refused { (runs : List Run) → HasRuns (S.Store.view store.old) runs
         → IsClean (S.Store.view store.new)
@@ -235,7 +252,7 @@ fn check_entry<S: Alter>(
         → OnOk result (LooksThrough (S.Store.view store.old) (S.Store.view store.new)) }
     ensures looks { Looks S.Store store.old store.new }
 {
-    let row = stored_run(store, alloc, run)?;
+    let row = stored_run(store, alloc, places, run)?;
     let head = stored_head(alloc, &row)?;
     if head.finished {
         return Err(StoreFault::RunClosed);
@@ -245,7 +262,7 @@ fn check_entry<S: Alter>(
     }
     let mut place = number_row(alloc, run)?;
     add_number(&mut place, u64::from(entry.position))?;
-    if count_under(store, alloc, &ENTRIES, &place)? > 0 {
+    if count_under(store, alloc, &entries_at(places), &place)? > 0 {
         return Err(StoreFault::RepeatedPosition);
     }
     Ok(())
@@ -256,6 +273,7 @@ fn fill<S: Alter>(
     store: &mut S,
     alloc: Global,
     schema: &Schema,
+    places: Places,
     run: u64,
     entry: &Entry,
     reason: &Text,
@@ -266,7 +284,7 @@ fn fill<S: Alter>(
     requires obeys { IsClean (S.Store.view store.old)
         → Obeys (S.Store.view store.old) schema.now }
     ensures filled { IsClean (S.Store.view store.new)
-        → OnOk result (Fills schema.now run entry.now (S.Store.view store.old).trees
+        → OnOk result (Fills schema.now places run entry.now (S.Store.view store.old).trees
         (S.Store.view store.new).trees) }
     ensures obeys { IsClean (S.Store.view store.new)
         → OnOk result (Obeys (S.Store.view store.new) schema.now) }
@@ -278,13 +296,22 @@ fn fill<S: Alter>(
     ensures failed { IfErr result IsStoreFault }
 {
     let row = row_of_entry(alloc, run, entry, reason)?;
-    put_one(store, alloc, schema, 2, &[], Rowids::Chosen, 0, row)?;
+    put_one(
+        store,
+        alloc,
+        schema,
+        places.entries.at,
+        &[],
+        Rowids::Chosen,
+        0,
+        row,
+    )?;
     let pairs = rows_of_pairs(alloc, run, entry.position, entry.meta.as_slice())?;
     put_rows(
         store,
         alloc,
         schema,
-        3,
+        places.props.at,
         &[],
         Rowids::Chosen,
         0,
@@ -298,12 +325,14 @@ pub(crate) fn write_entry<S: Alter>(
     store: &mut S,
     alloc: Global,
     schema: &Schema,
+    places: Places,
     run: u64,
     entry: &Entry,
 ) -> Result<(), StoreFault>
     requires moments { IsStorable entry.now }
     requires sound { IsClean (S.Store.view store.old) → (S.Store.view store.old).is_broken ≡ false
         → IsSound schema.now (S.Store.view store.old).trees }
+    requires placed { StandAt places (S.Store.view store.old) }
     ensures agrees { (runs : List Run) → HasRuns (S.Store.view store.old) runs
         → IsClean (S.Store.view store.new) → Agrees runs (Put run entry.now result) }
     ensures rows { (runs : List Run) → HasRuns (S.Store.view store.old) runs
@@ -318,8 +347,8 @@ pub(crate) fn write_entry<S: Alter>(
         → S.Store.recovers store.old db }
 {
     let reason = reason_of(alloc, entry)?;
-    check_entry(store, alloc, run, entry)?;
-    fill(store, alloc, schema, run, entry, &reason)?;
+    check_entry(store, alloc, places, run, entry)?;
+    fill(store, alloc, schema, places, run, entry, &reason)?;
     Ok(())
 }
 
@@ -341,7 +370,13 @@ fn finished_row(alloc: Global, row: &Row) -> Result<Row, NoMemory>
 }
 
 /// The row of a run that may be finished.
-fn check_run<S: Alter>(store: &mut S, alloc: Global, run: u64) -> Result<Row, StoreFault>
+fn check_run<S: Alter>(
+    store: &mut S,
+    alloc: Global,
+    places: Places,
+    run: u64,
+) -> Result<Row, StoreFault>
+    requires { StandAt places (S.Store.view store.old) }
     ensures small { OnOk result (run ≤ last_run) }
     ensures refused { (runs : List Run) → HasRuns (S.Store.view store.old) runs
         → IsClean (S.Store.view store.new)
@@ -354,13 +389,13 @@ fn check_run<S: Alter>(store: &mut S, alloc: Global, run: u64) -> Result<Row, St
         → OnOk result (LooksThrough (S.Store.view store.old) (S.Store.view store.new)) }
     ensures looks { Looks S.Store store.old store.new }
 {
-    let row = stored_run(store, alloc, run)?;
+    let row = stored_run(store, alloc, places, run)?;
     let head = stored_head(alloc, &row)?;
     if head.finished {
         return Err(StoreFault::RunClosed);
     }
     let key = number_row(alloc, run)?;
-    if count_under(store, alloc, &ENTRIES, &key)? < u64::from(head.total) {
+    if count_under(store, alloc, &entries_at(places), &key)? < u64::from(head.total) {
         return Err(StoreFault::Incomplete);
     }
     Ok(row)
@@ -371,10 +406,12 @@ pub(crate) fn write_finish<S: Alter>(
     store: &mut S,
     alloc: Global,
     schema: &Schema,
+    places: Places,
     run: u64,
 ) -> Result<(), StoreFault>
-    requires { IsClean (S.Store.view store.old) → (S.Store.view store.old).is_broken ≡ false
+    requires sound { IsClean (S.Store.view store.old) → (S.Store.view store.old).is_broken ≡ false
         → IsSound schema.now (S.Store.view store.old).trees }
+    requires placed { StandAt places (S.Store.view store.old) }
     ensures agrees { (runs : List Run) → HasRuns (S.Store.view store.old) runs
         → IsClean (S.Store.view store.new) → Agrees runs (Finished run result) }
     ensures rows { (runs : List Run) → HasRuns (S.Store.view store.old) runs
@@ -388,13 +425,13 @@ pub(crate) fn write_finish<S: Alter>(
     ensures outcomes { (db : Trees) → S.Store.recovers store.new db
         → S.Store.recovers store.old db }
 {
-    let row = check_run(store, alloc, run)?;
+    let row = check_run(store, alloc, places, run)?;
     let done = finished_row(alloc, &row)?;
     put_one(
         store,
         alloc,
         schema,
-        1,
+        places.runs.at,
         &[run as i64],
         Rowids::Given,
         1,

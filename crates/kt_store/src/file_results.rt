@@ -1,4 +1,4 @@
-use crate::seeks::{find_outputs, heads, outline};
+use crate::seeks::{PLACES_2, find_outputs, heads, outline};
 use crate::store_fault::trees::READ_ONLY;
 use crate::{CaseOutputs, Keeping, ResultStore, Results, RunHead, StoreFault};
 use kt_base::Entry;
@@ -56,21 +56,23 @@ impl<S: Alter> ResultStore for FileResults<S> {
     fn runs(&mut self) -> Result<Vec<RunHead>, StoreFault> {
         match self {
             FileResults::Whole(store) => store.runs(),
-            FileResults::Alone(store, alloc) => heads(store, *alloc),
+            FileResults::Alone(store, alloc) => heads(store, *alloc, PLACES_2),
         }
     }
 
     fn outline(&mut self, run: u64, pairs: bool) -> Result<Vec<Entry>, StoreFault> {
         match self {
             FileResults::Whole(store) => store.outline(run, pairs),
-            FileResults::Alone(store, alloc) => outline(store, *alloc, run, pairs),
+            FileResults::Alone(store, alloc) => outline(store, *alloc, PLACES_2, run, pairs),
         }
     }
 
     fn outputs(&mut self, run: u64, position: u32) -> Result<CaseOutputs, StoreFault> {
         match self {
             FileResults::Whole(store) => store.outputs(run, position),
-            FileResults::Alone(store, alloc) => find_outputs(store, *alloc, run, position),
+            FileResults::Alone(store, alloc) => find_outputs(
+                store, *alloc, PLACES_2, run, position,
+            ),
         }
     }
 }

@@ -4,8 +4,10 @@
 mod access;
 mod attach;
 mod batch;
+mod by_name;
 mod crashes;
 mod edits;
+mod ends;
 mod file_results;
 mod heads;
 mod lookup;
@@ -14,6 +16,7 @@ mod opening;
 mod outlines;
 mod outputs;
 mod pairs;
+mod places;
 mod put;
 mod result_store;
 mod results;

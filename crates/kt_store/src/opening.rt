@@ -1,4 +1,4 @@
-ghost use Rattle.std.specs.Prelude.{◌≡◌, [], ◌∷◌, true, false, Some, IfOk, IfErr, IfSome, IsTrue};
+ghost use Rattle.std.specs.Prelude.{◌≡◌, [], ◌∷◌, pos, codes, map, drop, true, false, Some, IfOk, IfErr, IfSome, IsTrue};
 ghost use Rattle.kt_store.specs.Common.{HasAlone, Int, IsStoreFault, Looks, ListsRuns, OpensRuns, ReadsRuns, image_at};
 ghost use Rattle.kt_store.specs.Supposed.{IsOfRuns, key_object, objects_2, table_object};
 ghost use Rattle.sqlite_trees.specs.Tree.{Trees};
@@ -10,17 +10,19 @@ ghost use Rattle.sqlite_wal.specs.Recovery.{Image};
 ghost use Rattle.sqlite_wal.specs.Reads.{AreClean, OnlyReads};
 ghost use Rattle.kt_store.specs.Common.{schema_2};
 ghost use Rattle.kt_store.specs.Inner.Opening.{OpensOver};
+ghost use Rattle.kt_store.specs.Runs.{SaysIn};
 ghost use Rattle.sqlite_catalog.specs.Listing.{IsSound};
-ghost use Rattle.sqlite_store.specs.FileStore.{view};
+ghost use Rattle.sqlite_pool.specs.Stored.{Recovers};
+ghost use Rattle.sqlite_store.specs.FileStore.{IsReady, schema_of, state, view};
 ghost use Rattle.sqlite_trees.specs.View.{IsClean};
-ghost use Rattle.sqlite_store.specs.Unopened.{AreUsable, files_of, state_of};
+ghost use Rattle.sqlite_store.specs.Unopened.{AreUsable, HasFile, Opens, files_of, image, state_of, wanted_by};
 ghost use Rattle.sqlite.specs.Files.{HoldsDatabase, image_of};
 
 use crate::StoreFault;
 use crate::attach::{CREATE_ENTRIES, CREATE_META, CREATE_PROPS, CREATE_RUNS};
 use crate::new_file::may_have_frames;
 use crate::runs_file::{RunsFile, over};
-use crate::seeks::RUNS;
+use crate::seeks::PLACES_2;
 use crate::store_fault::trees::all_shown;
 use crate::supposed::Supposed;
 use kt_base::Text;
@@ -164,11 +166,24 @@ fn list_schema<D: Disk>(alloc: Global, files: &mut Unopened<D>) -> Option<bool>
     files.list_schema(rows.as_slice(), &LAYOUTS).ok()
 }
 
+/// Whether a row of the settings says schema 2.
+fn is_of_schema_2(row: &Row) -> bool
+    ensures { IsTrue result → drop 1 row.now ≡ Words (codes "schema") ∷ Int (pos 2) ∷ [] }
+{
+    row.len() == 3
+        && is_same(row.get(1), ValueRef::Text("schema".as_bytes()))
+        && is_same(row.get(2), ValueRef::Int(2))
+}
+
 /// Whether the rows of the settings say schema 2.
-fn is_schema_2(settings: &[Row]) -> bool {
-    settings.len() == 1
-        && is_same(settings[0].get(1), ValueRef::Text("schema".as_bytes()))
-        && is_same(settings[0].get(2), ValueRef::Int(2))
+fn is_schema_2(settings: &[Row]) -> bool
+    ensures { IsTrue result → map (drop 1) settings.now
+        ≡ (Words (codes "schema") ∷ Int (pos 2) ∷ []) ∷ [] }
+{
+    let [row] = settings else {
+        return false;
+    };
+    is_of_schema_2(row)
 }
 
 /// Whether a row is of the run with this number, finished or not.
@@ -190,7 +205,9 @@ fn are_numbered(runs: &[Row]) -> bool {
 
 /// All rows of the table with this tree.
 fn rows_of<S: Store>(store: &mut S, alloc: Global, tree: u32) -> Option<Vec<Row>>
-    ensures { Looks S.Store store.old store.new }
+    ensures rows { IfSome result (λ rows. IsClean (S.Store.view store.new)
+        → rows.items ≡ (S.Store.view store.old).trees tree) }
+    ensures looks { Looks S.Store store.old store.new }
 {
     all_rows(store, &mut Workspace::new(alloc), tree).ok()
 }
@@ -200,7 +217,7 @@ fn is_ours<S: Store>(store: &mut S, alloc: Global) -> Option<bool>
     ensures { Looks S.Store store.old store.new }
 {
     let settings = rows_of(store, alloc, META)?;
-    let runs = rows_of(store, alloc, RUNS)?;
+    let runs = rows_of(store, alloc, PLACES_2.runs.tree)?;
     Some(is_schema_2(settings.as_slice()) && are_numbered(runs.as_slice()))
 }
 
@@ -231,12 +248,34 @@ fn runs_over<D: Disk + Drop>(
     kept(store, is_ours)
 }
 
-/// Opens files that plainly hold a database of schema 2, in pages that end in no sums. Their log is recovered. Of their
-/// trees nothing is tested.
+/// Opens files that are sound. All their pages and trees are tested first if `is_tested` is set, and else only those that
+/// list the schema and the free pages.
+fn sound_over<D: Disk + Drop>(files: Unopened<D>, is_tested: bool) -> Option<FileStore<D>>
+    requires usable { AreUsable files }
+    requires sound { IsTrue (state_of files).is_clean → HasFile files }
+    ensures ready { IfSome result IsReady }
+    ensures schema { IfSome result (λ it. schema_of it ≡ wanted_by files) }
+    ensures honest { IfSome result (λ it. IsTrue (state it).is_clean
+        → IsTrue (state_of files).is_clean) }
+    ensures found { IfSome result (λ it. IsTrue (state it).is_clean
+        → Recovers (state_of files).page_size (image files) (state it).committed) }
+    ensures kept { IfSome result (λ it. IsTrue (state it).is_clean → Opens files (state it)) }
+    // Only a store whose trees were tested is numbered.
+    ensures tested { is_tested ≡ true → IfSome result (λ it. IsTrue (view it).is_numbered) }
+{
+    if is_tested {
+        files.open_numbered().ok()
+    } else {
+        files.open_trusted().ok()
+    }
+}
+
+/// Opens files that plainly hold a database of schema 2, in pages that end in no sums. Their log is recovered.
 fn known_over<D: Disk + Drop>(
     alloc: Global,
     mut files: Files<D>,
     options: Option<Options>,
+    is_tested: bool,
 ) -> Option<FileStore<D>>
     requires log { IsTrue (D.Disk.is_usable files.log) }
     requires db { IsTrue (D.Disk.is_usable files.db) }
@@ -247,13 +286,14 @@ fn known_over<D: Disk + Drop>(
     ensures unbroken { IfSome result (λ s. IsClean (view s) → (view s).is_broken ≡ false) }
     ensures sound { IfSome result (λ s. IsTrue (view s).is_open
         → IsSound schema_2 (view s).committed) }
+    ensures tested { is_tested ≡ true → IfSome result (λ s. IsTrue (view s).is_numbered) }
 {
     let options = options?;
     let size = plain_size(alloc, &mut files)?;
     let mut fresh = unopened(alloc, files, size, options)?;
     let is_listed = list_schema(alloc, &mut fresh);
     let mid = kept(fresh, is_listed)?;
-    let store = mid.open_trusted().ok()?;
+    let store = sound_over(mid, is_tested)?;
     Some(store)
 }
 
@@ -262,13 +302,17 @@ fn known<D: Disk + Drop>(
     alloc: Global,
     files: Files<D>,
     options: Option<Options>,
+    is_tested: bool,
 ) -> Option<RunsFile<FileStore<D>>>
     requires log { IsTrue (D.Disk.is_usable files.log) }
     requires db { IsTrue (D.Disk.is_usable files.db) }
     requires held { IsOfRuns (image_of D.Disk files) }
-    ensures { IfSome result (OpensRuns (image_of D.Disk files)) }
+    ensures opens { IfSome result (OpensRuns (image_of D.Disk files)) }
+    ensures says { IfSome result (λ r. IsTrue (view r).is_open
+        → SaysIn (pos 2) (view r).committed) }
+    ensures tested { is_tested ≡ true → IfSome result (λ r. IsTrue (view r).is_numbered) }
 {
-    let mut store = known_over(alloc, files, options)?;
+    let mut store = known_over(alloc, files, options, is_tested)?;
     let is_ours = says_2(&mut store, alloc);
     let last = kept(store, is_ours)?;
     over(alloc, last).ok()
@@ -289,35 +333,46 @@ pub(crate) fn close_store<D: Disk + Drop>(mut store: FileStore<D>) -> Result<Fil
 
 /// Whether the tables say that they are those of schema 2.
 fn says_2<S: Store>(store: &mut S, alloc: Global) -> Option<bool>
-    ensures { Looks S.Store store.old store.new }
+    ensures says { IfSome result (λ it. IsTrue it → IsClean (S.Store.view store.new)
+        → SaysIn (pos 2) (S.Store.view store.old).trees) }
+    ensures looks { Looks S.Store store.old store.new }
 {
     let settings = rows_of(store, alloc, META)?;
     Some(is_schema_2(settings.as_slice()))
 }
 
-/// Whether this is a file that is not empty. One that is missing would be made by an opening.
-fn is_there<R: FileSystem>(rt: &R, file: &Text) -> bool {
-    match fs::symlink_metadata(rt, file.as_str()) {
-        Ok(found) => found.is_file() && found.len() > 0,
-        Err(_missing) => false,
+/// Whether all pages and trees of a file are tested before it is read: those of a file of at most 16 MiB, which takes some
+/// 60 ms, and of one whose log may have frames, since a runner was killed or the machine lost power. `None` of a file that
+/// is missing or empty, which an opening would make.
+fn is_tested<R: FileSystem>(rt: &R, file: &Text) -> Option<bool> {
+    let found = fs::symlink_metadata(rt, file.as_str()).ok()?;
+    if !found.is_file() || found.len() == 0 {
+        return None;
     }
+    Some(found.len() <= MOST_TESTED || may_have_frames(rt, file).ok()?)
 }
 
 /// The results in a file that lists the tables of schema 2 and says their number. `S` stands for what the file held, which
-/// no code reads. `None` of any other file, and of one that can't be opened.
+/// no code reads. `None` of any other file, and of one that can't be opened or fails the test that it is due.
 pub(crate) fn open_known<S: Supposed>(
     rt: &HostRuntime,
     file: &Text,
     start: S,
 ) -> Option<RunsFile<FileStore<FileFrom<S>>>>
-    ensures { IfSome result (OpensRuns (image_at S.Start)) }
+    ensures opens { IfSome result (OpensRuns (image_at S.Start)) }
+    ensures says { IfSome result (λ r. IsTrue (view r).is_open
+        → SaysIn (pos 2) (view r).committed) }
 {
-    if !is_path(file.as_str()) || !is_there(rt, file) {
+    if !is_path(file.as_str()) {
         return None;
     }
+    let is_tested = is_tested(rt, file)?;
     let files = sqlite_std_file::open(rt, file.as_str(), start).ok()?;
-    known(rt.alloc(), files, options(rt, PAGES))
+    known(rt.alloc(), files, options(rt, PAGES), is_tested)
 }
+
+/// The largest file whose pages and trees are all tested, in bytes.
+const MOST_TESTED: u64 = 16 * 1_048_576;
 
 /// How many pages are kept in memory: most are read once.
 const PAGES: usize = 64;

@@ -1,6 +1,7 @@
-ghost use Rattle.std.specs.Prelude.{◌≡◌, ◌<◌, ◌≤◌, ◌^◌, pos, ℕ, length, map, List, ◌++◌, IfOk, OnOk, IfErr};
+ghost use Rattle.std.specs.Prelude.{◌≡◌, ◌<◌, ◌≤◌, ◌^◌, pos, ℕ, length, map, List, ◌++◌, ◌+◌, IfOk, OnOk, IfErr};
 ghost use Rattle.kt_store.specs.Common.{utf8, AllByRecursion, AreWide, Int, column, HasCleanDisk, state, IsNoMemory, IsStoreFault, no_output, outlined, with_pairs, without_outputs, KeepsRuns, OnlyReads, IsAscending, entries_of, IsEntry, IsPair, IsText, AreRuns, kind_code, run_at, entry_columns, pair_columns, pairs_shown, StandsFor};
 ghost use Rattle.kt_base.specs.declared.entry.Entry.{Entry as Stored};
+ghost use Rattle.kt_store.specs.Inner.Heads.{pair_count};
 ghost use Rattle.kt_base.specs.declared.verdict.Kind.{Kind as Sort};
 ghost use Rattle.sqlite_value.specs.declared.value.Value.TheVariants.{Text as Words};
 ghost use Rattle.kt_base.specs.declared.variable.Variable.{Variable as StoredPair};
@@ -8,6 +9,7 @@ ghost use Rattle.kt_base.specs.declared.variable.Variable.{Variable as StoredPai
 use crate::StoreFault;
 use crate::heads::add;
 use crate::store_fault::statements::{query, value_in};
+use crate::store_fault::trees::DAMAGED;
 use crate::stored_kind::StoredKind;
 use crate::value::{int, number_in, small_in};
 use kt_base::{Bytes, Entry, Kind, Output, Text, Variable, Variables, Verdict};
@@ -61,6 +63,7 @@ pub(crate) fn meta_in(
 ) -> Result<(Variables, &[Row]), StoreFault>
     requires { AreWide 3 rows.now }
     ensures wide { IfOk result (λ found. AreWide 3 found.1.now) }
+    ensures split { IfOk result (λ found. length found.0 + length found.1.now ≡ length rows.now) }
     ensures meta { (vs : List StoredPair) (others : List Stored) → AllByRecursion IsPair vs
         → AllByRecursion (λ (e : Stored). position < e.position) others
         → rows.now ≡ map (pair_columns position) vs ++ pairs_shown others
@@ -98,6 +101,7 @@ pub(crate) fn entry_in(alloc: Global, row: &Row, meta: Variables) -> Result<Entr
     requires { 7 ≤ length row.now }
     ensures entry { (e : Stored) → IsEntry e → row.now ≡ entry_columns e → meta ≡ e.meta
         → IfOk result (λ x. x ≡ without_outputs e) }
+    ensures pairs { IfOk result (λ x. x.meta ≡ meta) }
     ensures read { (e : Stored) → IsEntry e → e.position < 2 ^ 32 → row.now ≡ entry_columns e
         → IfErr result IsNoMemory }
     ensures failed { IfErr result IsStoreFault }
@@ -130,6 +134,8 @@ pub(crate) fn entries_in(
 ) -> Result<Vec<Entry>, StoreFault>
     requires rows { AreWide 7 rows.now }
     requires pairs { AreWide 3 pairs.now }
+    // Of any rows.
+    ensures none_left { IfOk result (λ found. pair_count found.items ≡ length pairs.now) }
     ensures entries { (es : List Stored) → AllByRecursion IsEntry es
         → IsAscending (λ (a b : Stored). a.position < b.position) es
         → rows.now ≡ map entry_columns es → pairs.now ≡ pairs_shown es
@@ -147,6 +153,9 @@ pub(crate) fn entries_in(
         let entry = entry_in(alloc, row, meta)?;
         add(&mut entries, entry)?;
         rest = after;
+    }
+    if !rest.is_empty() {
+        return Err(DAMAGED);
     }
     Ok(entries)
 }

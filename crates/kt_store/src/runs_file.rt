@@ -6,8 +6,10 @@ ghost use Rattle.sqlite_trees.specs.Objects.{catalog_tree};
 ghost use Rattle.sqlite_trees.specs.View.{IsClean};
 
 use crate::attach::lives;
+use crate::by_name::places_in;
 use crate::edits::{ended, write_entry, write_finish, write_run};
 use crate::opening::{close_store, open_known};
+use crate::places::Places;
 use crate::seeks::{find_outputs, heads, outline};
 use crate::store_fault::trees::DAMAGED;
 use crate::supposed::Supposed;
@@ -27,10 +29,13 @@ use std::marker::Model;
 pub struct RunsFile<S: Alter> {
     store: S,
     schema: Schema,
+    places: Places,
     alloc: Global,
 }
 
 impl<S: Alter> Model for RunsFile<S> {
+    ghost use Rattle.std.specs.Prelude.{◌≡◌};
+    ghost use Rattle.kt_store.specs.Common.{places_2, schema_2};
     ghost use Rattle.kt_store.specs.Inner.Edits.{IsSettledStore};
 
     ghost Value = { S };
@@ -39,7 +44,8 @@ impl<S: Alter> Model for RunsFile<S> {
 
     ghost view = { λ r. r.store };
 
-    ghost invariant = { λ r. IsSettledStore (S.Store.view r.store) r.schema };
+    ghost invariant = { λ r. IsSettledStore (S.Store.view r.store) r.schema
+        × (r.schema ≡ schema_2 → r.places ≡ places_2) };
 }
 
 /// The schema that a store lists.
@@ -52,21 +58,7 @@ fn listed<S: Alter>(store: &S, alloc: Global) -> Result<Option<Schema>, NoMemory
     Ok(found)
 }
 
-/// Whether the table at a place of the schema has this name and this tree.
-fn is_at(schema: &Schema, place: usize, name: &str, tree: u32) -> bool {
-    match schema.tables.as_slice().get(place) {
-        Some(table) => table.name.as_slice() == name.as_bytes() && table.tree == tree,
-        None => false,
-    }
-}
-
-/// Whether the tables stand where they are read and written.
-fn are_placed(schema: &Schema) -> bool {
-    is_at(schema, 1, "runs", 2) && is_at(schema, 2, "entries", 3) && is_at(schema, 3, "props", 5)
-}
-
-/// The results in a store that shows its last commit, if that obeys the schema that it lists, with the tables of results in
-/// their order.
+/// The results in a store that shows its last commit, if that obeys the schema that it lists, with the tables of results.
 pub(crate) fn over<S: Alter + Drop>(alloc: Global, store: S) -> Result<RunsFile<S>, StoreFault>
     requires settled { IsClean (S.Store.view store) → (S.Store.view store).is_broken ≡ false
         → (S.Store.view store).trees ≡ (S.Store.view store).committed }
@@ -81,12 +73,13 @@ pub(crate) fn over<S: Alter + Drop>(alloc: Global, store: S) -> Result<RunsFile<
     let Some(schema) = listed(&store, alloc)? else {
         return Err(DAMAGED);
     };
-    if !are_placed(&schema) {
+    let Some(places) = places_in(&schema) else {
         return Err(DAMAGED);
-    }
+    };
     Ok(RunsFile {
         store,
         schema,
+        places,
         alloc,
     })
 }
@@ -111,6 +104,19 @@ impl<S: Alter + Drop> RunsFile<S> {
         lives(&connection);
         over(alloc, connection.into_store())
     }
+
+    /// The store of the results.
+    pub fn into_store(self) -> S
+        ensures { result ≡ self }
+    {
+        let RunsFile {
+            store,
+            schema: _,
+            places: _,
+            alloc: _,
+        } = self;
+        store
+    }
 }
 
 impl<D: Disk + Drop> RunsFile<FileStore<D>> {
@@ -132,6 +138,7 @@ impl<D: Disk + Drop> RunsFile<FileStore<D>> {
         let RunsFile {
             store,
             schema: _,
+            places: _,
             alloc: _,
         } = self;
         close_store(store)
@@ -139,13 +146,18 @@ impl<D: Disk + Drop> RunsFile<FileStore<D>> {
 }
 
 impl<S: Supposed> RunsFile<FileStore<FileFrom<S>>> {
-    ghost use Rattle.std.specs.Prelude.{IfSome};
+    ghost use Rattle.std.specs.Prelude.{IfSome, IsTrue, pos};
     ghost use Rattle.kt_store.specs.Common.{OpensRuns, image_at};
+    ghost use Rattle.kt_store.specs.Runs.{SaysIn};
+    ghost use Rattle.sqlite_store.specs.FileStore.{view};
 
     /// Opens the results in a file that lists the tables of schema 2 and says their number; `None` of any other file, and
-    /// of one that can't be opened. Of its trees nothing is tested, and no more is read than these say.
+    /// of one that can't be opened. All pages and trees of a file of at most 16 MiB are tested first, and those of one whose
+    /// log has frames, since a runner was killed or the machine lost power. Of a larger file no more is read than is asked.
     pub fn open_known(rt: &HostRuntime, file: &Text, start: S) -> Option<Self>
-        ensures { IfSome result (OpensRuns (image_at S.Start)) }
+        ensures opens { IfSome result (OpensRuns (image_at S.Start)) }
+        ensures says { IfSome result (λ r. IsTrue (view r).is_open
+            → SaysIn (pos 2) (view r).committed) }
     {
         open_known(rt, file, start)
     }
@@ -173,29 +185,43 @@ impl<S: Alter> Keeping for RunsFile<S> {
 
 impl<S: Alter> ResultStore for RunsFile<S> {
     fn begin(&mut self, total: u32, moment: u64) -> Result<u64, StoreFault> {
-        let written = write_run(&mut self.store, self.alloc, &self.schema, total, moment);
+        let written = write_run(
+            &mut self.store,
+            self.alloc,
+            &self.schema,
+            self.places,
+            total,
+            moment,
+        );
         ended(&mut self.store, written)
     }
 
     fn put(&mut self, run: u64, entry: &Entry) -> Result<(), StoreFault> {
-        let written = write_entry(&mut self.store, self.alloc, &self.schema, run, entry);
+        let written = write_entry(
+            &mut self.store,
+            self.alloc,
+            &self.schema,
+            self.places,
+            run,
+            entry,
+        );
         ended(&mut self.store, written)
     }
 
     fn finish(&mut self, run: u64) -> Result<(), StoreFault> {
-        let written = write_finish(&mut self.store, self.alloc, &self.schema, run);
+        let written = write_finish(&mut self.store, self.alloc, &self.schema, self.places, run);
         ended(&mut self.store, written)
     }
 
     fn runs(&mut self) -> Result<Vec<RunHead>, StoreFault> {
-        heads(&mut self.store, self.alloc)
+        heads(&mut self.store, self.alloc, self.places)
     }
 
     fn outline(&mut self, run: u64, pairs: bool) -> Result<Vec<Entry>, StoreFault> {
-        outline(&mut self.store, self.alloc, run, pairs)
+        outline(&mut self.store, self.alloc, self.places, run, pairs)
     }
 
     fn outputs(&mut self, run: u64, position: u32) -> Result<CaseOutputs, StoreFault> {
-        find_outputs(&mut self.store, self.alloc, run, position)
+        find_outputs(&mut self.store, self.alloc, self.places, run, position)
     }
 }

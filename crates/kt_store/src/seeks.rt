@@ -1,12 +1,15 @@
-ghost use Rattle.std.specs.Prelude.{◌≡◌, ◌⊎◌, ◌<◌, ◌≤◌, ◌^◌, List, Some, None, length, map, IfOk, IfErr, OnOk};
-ghost use Rattle.kt_store.specs.Common.{HasRuns, IsStoreFault, Looks, LooksThrough, Run, AreRuns, last_run, run_row, head_of, Serves, Heads, Outline, Outputs, entries_of, outlined, run_at, seen_as};
+ghost use Rattle.std.specs.Prelude.{◌≡◌, ◌⊎◌, ◌<◌, ◌≤◌, ◌^◌, List, Some, None, length, map, IfOk, IfErr, OnOk, true};
+ghost use Rattle.kt_store.specs.Common.{HasRuns, IsStoreFault, StandAt, Looks, LooksThrough, Run, AreRuns, last_run, run_row, head_of, Serves, Heads, Outline, Outputs, entries_of, outlined, run_at, seen_as};
 ghost use Rattle.kt_store.specs.Known.{readings};
+ghost use Rattle.kt_store.specs.Runs.{IsRun};
 ghost use Rattle.sqlite_trees.specs.View.{IsClean};
 
+use crate::ends::{NO_RUN, check_ends};
 use crate::heads::{head_in, heads_in};
 use crate::lookup::key;
 use crate::outlines::entries_in;
 use crate::outputs::outputs_in;
+use crate::places::{Place, Places};
 use crate::store_fault::trees::{
     DAMAGED, Table, add_number, all_shown, number_row, rows_behind, rows_in, shown,
 };
@@ -19,38 +22,68 @@ use sqlite_value::row;
 use sqlite_value::value::ValueRef;
 use std::alloc::Global;
 
-// The trees of the tables and of the indexes of their keys.
-
-pub(crate) const RUNS: u32 = 2;
-
-pub(crate) const ENTRIES: Table<'static> = Table {
-    tree: 3,
-    index: 4,
-    key: &[1, 2],
-    blobs: &[9, 10, 11, 12],
+/// Where the tables stand in a file that plainly lists schema 2.
+pub(crate) const PLACES_2: Places = Places {
+    runs: Place { at: 1, tree: 2 },
+    entries: Place { at: 2, tree: 3 },
+    entry_keys: 4,
+    props: Place { at: 3, tree: 5 },
+    pair_keys: 6,
 };
 
-const PAIRS: Table<'static> = Table {
-    tree: 5,
-    index: 6,
-    key: &[1, 2, 3],
-    blobs: &[],
-};
+/// The table of entries.
+pub(crate) fn entries_at(places: Places) -> Table<'static>
+    ensures tree { result.tree ≡ places.entries.tree }
+    ensures index { result.index ≡ places.entry_keys }
+{
+    Table {
+        tree: places.entries.tree,
+        index: places.entry_keys,
+        key: &[1, 2],
+        blobs: &[9, 10, 11, 12],
+    }
+}
+
+/// The table of pairs.
+pub(crate) fn pairs_at(places: Places) -> Table<'static>
+    ensures tree { result.tree ≡ places.props.tree }
+    ensures index { result.index ≡ places.pair_keys }
+{
+    Table {
+        tree: places.props.tree,
+        index: places.pair_keys,
+        key: &[1, 2, 3],
+        blobs: &[],
+    }
+}
 
 /// The heads of all runs, by number.
-pub(crate) fn heads<S: Store>(store: &mut S, alloc: Global) -> Result<Vec<RunHead>, StoreFault>
+pub(crate) fn heads<S: Store>(
+    store: &mut S,
+    alloc: Global,
+    places: Places,
+) -> Result<Vec<RunHead>, StoreFault>
+    requires { StandAt places (S.Store.view store.old) }
     ensures served { Serves (readings S.Store) (Heads (seen_as (λ heads. heads.items) result))
         store.old store.new }
     ensures failed { IfErr result IsStoreFault }
     ensures looks { Looks S.Store store.old store.new }
 {
-    let stored = all_rows(store, &mut Workspace::new(alloc), RUNS)?;
+    let stored = all_rows(store, &mut Workspace::new(alloc), places.runs.tree)?;
     let rows = all_shown(alloc, &stored, &[0, 2, 3, 4])?;
-    heads_in(alloc, &rows)
+    let found = heads_in(alloc, &rows)?;
+    let last = found.last().copied().unwrap_or(NO_RUN);
+    check_ends(store, alloc, places, last)?;
+    Ok(found)
 }
 
 /// The number of the last run, 0 if there is none.
-pub(crate) fn last_number<S: Store>(store: &mut S, alloc: Global) -> Result<u64, StoreFault>
+pub(crate) fn last_number<S: Store>(
+    store: &mut S,
+    alloc: Global,
+    places: Places,
+) -> Result<u64, StoreFault>
+    requires { StandAt places (S.Store.view store.old) }
     ensures last { (runs : List Run) → HasRuns (S.Store.view store.old) runs
         → IsClean (S.Store.view store.new) → IfOk result (λ n. n ≡ length runs) }
     ensures through { IsClean (S.Store.view store.new)
@@ -58,11 +91,11 @@ pub(crate) fn last_number<S: Store>(store: &mut S, alloc: Global) -> Result<u64,
     ensures failed { IfErr result IsStoreFault }
     ensures looks { Looks S.Store store.old store.new }
 {
-    if store.shape(RUNS) != Shape::Table {
+    if store.shape(places.runs.tree) != Shape::Table {
         return Err(DAMAGED);
     }
     let mut row = row::Row::new(alloc);
-    store.seek(0, RUNS, &row, Direction::Backward)?;
+    store.seek(0, places.runs.tree, &row, Direction::Backward)?;
     if !store.next(0, &mut row)? {
         return Ok(0);
     }
@@ -76,8 +109,10 @@ pub(crate) fn last_number<S: Store>(store: &mut S, alloc: Global) -> Result<u64,
 pub(crate) fn stored_run<S: Store>(
     store: &mut S,
     alloc: Global,
+    places: Places,
     run: u64,
 ) -> Result<row::Row, StoreFault>
+    requires { StandAt places (S.Store.view store.old) }
     ensures small { OnOk result (run ≤ last_run) }
     ensures found { (runs : List Run) → HasRuns (S.Store.view store.old) runs
         → IsClean (S.Store.view store.new) → IfOk result (λ row. (r : Run)
@@ -90,11 +125,11 @@ pub(crate) fn stored_run<S: Store>(
     ensures looks { Looks S.Store store.old store.new }
 {
     let number = key(run);
-    if store.shape(RUNS) != Shape::Table {
+    if store.shape(places.runs.tree) != Shape::Table {
         return Err(DAMAGED);
     }
     let mut row = row::Row::new(alloc);
-    if !store.get(RUNS, number as i64, &mut row)? || number != run {
+    if !store.get(places.runs.tree, number as i64, &mut row)? || number != run {
         return Err(StoreFault::NoRun);
     }
     Ok(row)
@@ -113,60 +148,81 @@ pub(crate) fn stored_head(alloc: Global, row: &row::Row) -> Result<RunHead, Stor
 fn all_entries<S: Store>(
     store: &mut S,
     alloc: Global,
+    places: Places,
     run: u64,
     pairs: bool,
 ) -> Result<Vec<Entry>, StoreFault>
-    requires { run < 2 ^ 63 }
+    requires run { run < 2 ^ 63 }
+    requires placed { StandAt places (S.Store.view store.old) }
     ensures all { (runs : _) → HasRuns (S.Store.view store.old) runs
         → IsClean (S.Store.view store.new) → IfOk result (λ found. found.items
         ≡ map (outlined pairs) (entries_of (run_at runs run))) }
     ensures failed { IfErr result IsStoreFault }
     ensures looks { Looks S.Store store.old store.new }
 {
-    let rows = rows_in(store, alloc, &ENTRIES, run, &[2, 3, 4, 5, 6, 7, 8])?;
+    let rows = rows_in(
+        store,
+        alloc,
+        &entries_at(places),
+        run,
+        &[2, 3, 4, 5, 6, 7, 8],
+    )?;
     if !pairs {
         return entries_in(alloc, &rows, &[]);
     }
-    let shown = rows_in(store, alloc, &PAIRS, run, &[2, 4, 5])?;
+    let shown = rows_in(store, alloc, &pairs_at(places), run, &[2, 4, 5])?;
     entries_in(alloc, &rows, &shown)
+}
+
+/// Whether a run with this head has so many entries: a finished one as many as its total, another no more.
+fn has_as_many(head: RunHead, count: usize) -> bool
+    ensures { (r : Run) → IsRun r → head ≡ head_of r → count ≡ length r.entries → result ≡ true }
+{
+    if head.finished {
+        count == head.total as usize
+    } else {
+        count <= head.total as usize
+    }
 }
 
 /// The same, of a run that is there.
 pub(crate) fn outline<S: Store>(
     store: &mut S,
     alloc: Global,
+    places: Places,
     run: u64,
     pairs: bool,
 ) -> Result<Vec<Entry>, StoreFault>
+    requires { StandAt places (S.Store.view store.old) }
     ensures served { Serves (readings S.Store) (Outline run pairs
         (seen_as (λ found. found.items) result)) store.old store.new }
     ensures looks { Looks S.Store store.old store.new }
 {
-    let number = key(run);
-    if store.shape(RUNS) != Shape::Table {
+    let row = stored_run(store, alloc, places, run)?;
+    let head = stored_head(alloc, &row)?;
+    let found = all_entries(store, alloc, places, run, pairs)?;
+    if !has_as_many(head, found.len()) {
         return Err(DAMAGED);
     }
-    let mut row = row::Row::new(alloc);
-    if !store.get(RUNS, number as i64, &mut row)? || number != run {
-        return Err(StoreFault::NoRun);
-    }
-    all_entries(store, alloc, run, pairs)
+    Ok(found)
 }
 
 /// The outputs of a run's entry at a position.
 pub(crate) fn find_outputs<S: Store>(
     store: &mut S,
     alloc: Global,
+    places: Places,
     run: u64,
     position: u32,
 ) -> Result<CaseOutputs, StoreFault>
+    requires { StandAt places (S.Store.view store.old) }
     ensures served { Serves (readings S.Store) (Outputs run position result) store.old store.new }
     ensures looks { Looks S.Store store.old store.new }
 {
     let number = key(run);
     let mut place = number_row(alloc, number)?;
     add_number(&mut place, u64::from(position))?;
-    let rows = rows_behind(store, alloc, &ENTRIES, &place, &[9, 10, 11, 12])?;
+    let rows = rows_behind(store, alloc, &entries_at(places), &place, &[9, 10, 11, 12])?;
     match rows.first() {
         Some(row) if number == run => outputs_in(row),
         _ => Err(StoreFault::NoRun),

@@ -21,6 +21,7 @@ use Rattle.kt_store.specs.Runs.{Keeps, entry_row, pair_rows}
 use Rattle.kt_store.specs.Seeks.{HasRuns}
 use Rattle.kt_store.specs.Serving.{Agrees, changed_by}
 use Rattle.kt_store.specs.StoreCalls.{StoreCall}
+use Rattle.kt_store.specs.declared.places.Places.{Places}
 use Rattle.kt_store.specs.declared.store_fault.StoreFault.{StoreFault}
 
 -- the transaction is not broken, and its trees list the schema and obey it
@@ -51,10 +52,10 @@ abbrev pub done_row : Run → Row
 done_row r = Int (pos r.number) ∷ Int (pos r.number) ∷ Null ∷ Int (pos r.started) ∷ Int (pos r.total) ∷ Int (pos 1) ∷ []
 
 -- an entry of texts is put into its table, and then its pairs into theirs
-abbrev pub Fills : Schema → ℕ → Entry → Trees → Trees → Type 0
-Fills schema run' e old new =
-    HasTexts e × ((mid : Trees) × PutsRows schema 2 [] Chosen 0 (unnumbered (entry_row run' e) ∷ []) old mid
-    × PutsRows schema 3 [] Chosen 0 (map unnumbered (pair_rows run' e)) mid new)
+abbrev pub Fills : Schema → Places → ℕ → Entry → Trees → Trees → Type 0
+Fills schema places run' e old new =
+    HasTexts e × ((mid : Trees) × PutsRows schema places.entries.at [] Chosen 0 (unnumbered (entry_row run' e) ∷ []) old mid
+    × PutsRows schema places.props.at [] Chosen 0 (map unnumbered (pair_rows run' e)) mid new)
 
 -- a call wrote its rows, or failed, and committed nothing: the last commit stands, and a crash leaves what it left before; once it is done, the
 -- trees are those of the changed runs

@@ -1,5 +1,5 @@
 -- The columns that heads, entries, their pairs and their outputs are read from.
-use Rattle.std.specs.Prelude.{ℕ, pos, List, [], ◌∷◌, map, flat_map}
+use Rattle.std.specs.Prelude.{ℕ, ◌+◌, pos, List, [], ◌∷◌, length, map, flat_map}
 use Rattle.sqlite.specs.declared.types.Value.TheVariants.{Int, Text, Blob}
 use Rattle.sqlite.specs.Order.{Row}
 use Rattle.kt_base.specs.declared.entry.Run.{Run}
@@ -28,3 +28,8 @@ pair_columns position v = Int (pos position) ∷ Text (utf8 v.name) ∷ Text (ut
 -- the rows of the pairs of these entries, as the query for a run's pairs shows them
 abbrev pub pairs_shown : List Entry → List Row
 pairs_shown es = flat_map (λ e. map (pair_columns e.position) e.meta) es
+
+-- how many pairs these entries have
+abbrev pub pair_count : List Entry → ℕ
+pair_count [] = 0
+pair_count (e ∷ es) = length e.meta + pair_count es

@@ -29,6 +29,7 @@ pub(crate) const DAMAGED: StoreFault = StoreFault::Store(FailedStatement(Cause::
 pub(crate) const READ_ONLY: StoreFault = StoreFault::Store(FailedStatement(Cause::ReadOnly));
 
 /// A table and the index of its key, with the columns of the key and those that are blobs.
+#[derive(Clone, Copy)]
 pub(crate) struct Table<'a> {
     pub(crate) tree: u32,
     pub(crate) index: u32,
@@ -37,13 +38,13 @@ pub(crate) struct Table<'a> {
 }
 
 /// A place of an index, and the row that it is of.
-struct Found {
-    place: row::Row,
+pub(crate) struct Found {
+    pub(crate) place: row::Row,
     row: row::Row,
 }
 
 impl Found {
-    fn new(alloc: Global) -> Found {
+    pub(crate) fn new(alloc: Global) -> Found {
         Found {
             place: row::Row::new(alloc),
             row: row::Row::new(alloc),
@@ -137,7 +138,7 @@ fn rowid_of(place: &row::Row) -> Option<i64>
 }
 
 /// Whether the tree of a table is one, and that of its key an index in the order of its bytes.
-fn are_shaped<S: Store>(store: &S, table: &Table) -> bool
+pub(crate) fn are_shaped<S: Store>(store: &S, table: &Table) -> bool
     ensures table { IsTrue result
         → (S.Store.view store.now).shape table.now.tree ≡ kind.Table }
     ensures index { IsTrue result
@@ -159,7 +160,7 @@ fn has_blobs(row: &row::Row, columns: &[usize]) -> bool {
 
 /// Writes the next place of the cursor and its row over what was found, if one is left, and returns whether it
 /// begins with the key. A place of another row is damage, and so is a row of another form.
-fn next_row<S: Store>(
+pub(crate) fn next_row<S: Store>(
     store: &mut S,
     alloc: Global,
     table: &Table,

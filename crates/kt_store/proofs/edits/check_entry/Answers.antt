@@ -30,7 +30,8 @@ returns-then-branch-gt0-clause-refused g c runs has clean =
     let head = c.in_ok-head.ensures.head it.0 it.2 in
     let n = c.args.run in
     let trees = ap (λ (v : View). v.trees) through.1 in
-    let many = rw (trees, c.in_ok-add_number.ensures, c.from.ensures, c.in_ok-place.ensures) at (c.in_ok-count_under.ensures.counted clean) cs (map (entry_row n) (filter (is_at c.args.entry.now.position) (entries_of (run_at runs n)))) (λ shaped up. place_of_entry runs _ keeps shaped up n c.args.entry.now.position) in
+    let is = c.requires was through.0 runs keeps in
+    let many = rw (c.entries_at.ensures.tree, c.entries_at.ensures.index, is, trees, c.in_ok-add_number.ensures, c.from.ensures, c.in_ok-place.ensures) at (c.in_ok-count_under.ensures.counted clean) cs (map (entry_row n) (filter (is_at c.args.entry.now.position) (entries_of (run_at runs n)))) (λ shaped up. place_of_entry runs _ keeps shaped up n c.args.entry.now.position) in
     inr (refused_repeated runs n c.args.entry.now it.0 it.1 (sym (ap (λ (h : RunHead). h.finished) head) ∙ c.if-head.false) (omega (arith, c.if-entry-head.false, ap (λ (h : RunHead). h.total) head))
     (counted_here c.args.entry.now.position (entries_of (run_at runs n)) (omega (arith, c.if-branch-gt0.true, many, length-map (filter (is_at c.args.entry.now.position) (entries_of (run_at runs n))) (entry_row n)))))
 
@@ -44,6 +45,7 @@ returns-clause-taken g c runs has clean passed =
     let head = c.in_ok-head.ensures.head it.0 it.2 in
     let n = c.args.run in
     let trees = ap (λ (v : View). v.trees) through.1 in
-    let many = rw (trees, c.in_ok-add_number.ensures, c.from.ensures, c.in_ok-place.ensures) at (c.in_ok-count_under.ensures.counted clean) cs (map (entry_row n) (filter (is_at c.args.entry.now.position) (entries_of (run_at runs n)))) (λ shaped up. place_of_entry runs _ keeps shaped up n c.args.entry.now.position) in
+    let is = c.requires was through.0 runs keeps in
+    let many = rw (c.entries_at.ensures.tree, c.entries_at.ensures.index, is, trees, c.in_ok-add_number.ensures, c.from.ensures, c.in_ok-place.ensures) at (c.in_ok-count_under.ensures.counted clean) cs (map (entry_row n) (filter (is_at c.args.entry.now.position) (entries_of (run_at runs n)))) (λ shaped up. place_of_entry runs _ keeps shaped up n c.args.entry.now.position) in
     taken runs n c.args.entry.now it.0 it.1 (sym (ap (λ (h : RunHead). h.finished) head) ∙ c.if-head.false) (omega (arith, c.if-entry-head.false, ap (λ (h : RunHead). h.total) head)) passed it.3
     (counted_none c.args.entry.now.position (entries_of (run_at runs n)) (omega (arith, c.if-branch-gt0.false, many, length-map (filter (is_at c.args.entry.now.position) (entries_of (run_at runs n))) (entry_row n))))

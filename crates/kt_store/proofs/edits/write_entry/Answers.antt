@@ -2,6 +2,7 @@ use Rattle.std.proofs.Common.{ap, subst}
 use Rattle.kt_store.proofs.Common.{Trees}
 use Rattle.sqlite_trees.specs.View.{View, IsClean}
 use Rattle.kt_store.specs.Inner.Edits.{Fills}
+use Rattle.kt_store.specs.Inner.Places.{places_2}
 use Rattle.kt_store.proofs.EditLemmas.{entry_filled}
 use Rattle.kt_store.proofs.edits.write_entry.Goals as goal
 
@@ -14,6 +15,7 @@ returns-clause-rows g c runs has clean =
     let through = c.in_ok-check_entry.ensures.through early in
     let was = c.check_entry.ensures.looks.clean early in
     let trees = ap (λ (v : View). v.trees) through.1 in
-    let fills = subst (λ (t : Trees). Fills c.args.schema.now c.args.run c.args.entry.now t (g.S.Store.view c.fill.new.store).trees) trees (c.in_ok-fill.ensures.filled clean) in
+    let is = c.requires.placed was through.0 runs (has was through.0) in
+    let fills = subst (λ (t : Trees). Fills c.args.schema.now places_2 c.args.run c.args.entry.now t (g.S.Store.view c.fill.new.store).trees) trees (rw is at (c.in_ok-fill.ensures.filled clean)) in
     entry_filled c.args.schema.now runs (g.S.Store.view c.args.store.now).trees _ (c.requires.sound was through.0) (c.in_ok-fill.ensures.obeys clean).sound (has was through.0) c.args.run c.args.entry.now
     (c.in_ok-check_entry.ensures.taken runs has early c.in_ok-reason.ensures.passed).1 fills

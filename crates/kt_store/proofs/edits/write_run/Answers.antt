@@ -14,6 +14,7 @@ returns-clause-rows g c runs has clean =
     let trees = ap (λ (v : View). v.trees) through.1 in
     let keeps = has was through.0 in
     let sound = c.requires.sound was through.0 in
+    let is = c.requires.placed was through.0 runs keeps in
     let puts = subst (λ (t : Trees). PutsRows c.args.schema.now 1 [] Chosen 0 (begun_row c.args.total c.args.moment ∷ []) t (g.S.Store.view c.put_one.new.store).trees) trees
-    (rw (c.in_ok-row.ensures, c.int.ensures, c.int-2.ensures, c.from.ensures, c.int-3.ensures) at (c.in_ok-put_one.ensures.puts clean)) in
+    (rw (is, c.in_ok-row.ensures, c.int.ensures, c.int-2.ensures, c.from.ensures, c.int-3.ensures) at (c.in_ok-put_one.ensures.puts clean)) in
     run_made c.args.schema.now runs (g.S.Store.view c.args.store.now).trees _ sound (c.in_ok-put_one.ensures.obeys clean).sound keeps c.args.total c.args.moment (c.in_ok-number.ensures.number runs has early).1 (omega arith) puts

@@ -22,29 +22,28 @@ use Rattle.sqlite.proofs.FileLemmas.{same_image}
 use Rattle.sqlite.proofs.OpenLemmas.{pool_files}
 use Rattle.kt_store.specs.Inner.Opening.{ListsRuns}
 use Rattle.kt_store.specs.Seeks.{HoldsRuns}
-use Rattle.kt_store.proofs.OpeningLemmas.{ok_is, without_sums}
+use Rattle.kt_store.proofs.OpeningLemmas.{without_sums}
 use Rattle.kt_store.proofs.opening.known_over.Goals as goal
 
 pub returns-clause-opens : goal.returns-clause-opens
 returns-clause-opens g c clean =
     let start = image_of g.D.Disk c.args.files in
     let store = c.in_ok-store.store in
-    let ok = ok_is c.open_trusted.result c.ok.result store c.ok.ensures.value c.in_ok-store.was in
     let now = clean_of _ clean in
     let fresh = c.in_ok-fresh.fresh in
     let made = c.in_ok-fresh.ensures in
     let mid = c.in_ok-mid.mid in
-    let it = c.open_trusted.ensures in
-    let ready = rw ok at it.ready in
-    let kept = rw ok at it.kept in
+    let it = c.in_ok-store.ensures in
+    let ready = it.ready in
+    let kept = it.kept in
     let lists : IsTrue (state_of mid).is_clean → ListsRuns fresh mid = subst (λ m. IsTrue (state_of m).is_clean → ListsRuns fresh m) (sym c.in_ok-mid.ensures.0) ((rw c.in_ok-mid.ensures.1 at c.list_schema-is_listed.ensures.lists) refl) in
-    let listed = lists ((rw ok at it.honest) now) in
+    let listed = lists (it.honest now) in
     let clean = sym ((pool_files fresh.pool).1 ∙ ap (λ f. are_clean g.D.Disk f.0 f.1) made.files) ∙ listed.honest in
     let seen : image fresh ≡ start = ap (λ f. seen_image g.D.Disk f.0 f.1) made.files ∙ same_image c.plain_size.ensures.log c.plain_size.ensures.db in
     let size = (state_of fresh).page_size in
     let plain : size % 16 ≢ 8 = λ summed. omega (arith, summed, made.size, c.in_ok-size.size.aligned) in
-    let same = recovers_once size (image mid) listed.pages (state store).committed listed.again (subst (λ n. Recovers n (image mid) (state store).committed) listed.size ((rw ok at it.found) now)) in
-    let listing : kept_schema store.saved store.schema.items ≡ wanted_by mid = ap (λ o. kept_schema o store.schema.items) ready.unaltered ∙ (rw ok at it.schema) in
+    let same = recovers_once size (image mid) listed.pages (state store).committed listed.again (subst (λ n. Recovers n (image mid) (state store).committed) listed.size (it.found now)) in
+    let listing : kept_schema store.saved store.schema.items ≡ wanted_by mid = ap (λ o. kept_schema o store.schema.items) ready.unaltered ∙ it.schema in
     let reads : (view store).trees ≡ file_trees size (wanted_by mid) (state store).committed =
     ready.clean
     ∙ cond-true _ (file_trees (state store).page_size (kept_schema store.saved store.schema.items) (state store).committed) no_trees now
@@ -60,8 +59,8 @@ returns-clause-opens g c clean =
     }
 
 -- files that hold runs have a sound file
-pub open_trusted-requires-clause-sound : goal.open_trusted-requires-clause-sound
-open_trusted-requires-clause-sound g c now =
+pub sound_over-requires-clause-sound : goal.sound_over-requires-clause-sound
+sound_over-requires-clause-sound g c now =
     let start = image_of g.D.Disk c.args.files in
     let fresh = c.in_ok-fresh.fresh in
     let made = c.in_ok-fresh.ensures in
@@ -83,26 +82,23 @@ pub returns-clause-sound : goal.returns-clause-sound
 returns-clause-sound g c opens =
     let start = image_of g.D.Disk c.args.files in
     let store = c.in_ok-store.store in
-    let ok = ok_is c.open_trusted.result c.ok.result store c.ok.ensures.value c.in_ok-store.was in
     let loose = clean_of_open (view store) (shut_if_dirty_at store) opens in
     let now = clean_of _ loose in
     let fresh = c.in_ok-fresh.fresh in
     let made = c.in_ok-fresh.ensures in
     let mid = c.in_ok-mid.mid in
-    let it = c.open_trusted.ensures in
-    let ready = rw ok at it.ready in
+    let it = c.in_ok-store.ensures in
+    let ready = it.ready in
     let lists : IsTrue (state_of mid).is_clean → ListsRuns fresh mid = subst (λ m. IsTrue (state_of m).is_clean → ListsRuns fresh m) (sym c.in_ok-mid.ensures.0) ((rw c.in_ok-mid.ensures.1 at c.list_schema-is_listed.ensures.lists) refl) in
-    let listed = lists ((rw ok at it.honest) now) in
+    let listed = lists (it.honest now) in
     let seen : image fresh ≡ start = ap (λ f. seen_image g.D.Disk f.0 f.1) made.files ∙ same_image c.plain_size.ensures.log c.plain_size.ensures.db in
     let all = c.requires.held (state_of fresh).page_size listed.pages (subst (λ i. Recovers (state_of fresh).page_size i listed.pages) seen listed.found) listed.lists in
     subst (IsSound schema_2) ready.clean (sound_in all.0 (view store).trees ((returns-clause-opens g c loose).holds all.0 all.1 (ready.sound loose)))
 
 pub returns-clause-settled : goal.returns-clause-settled
 returns-clause-settled g c =
-    let ok = ok_is c.open_trusted.result c.ok.result c.in_ok-store.store c.ok.ensures.value c.in_ok-store.was in
-    (rw ok at c.open_trusted.ensures.ready).clean
+    c.in_ok-store.ensures.ready.clean
 
 pub returns-clause-unbroken : goal.returns-clause-unbroken
 returns-clause-unbroken g c =
-    let ok = ok_is c.open_trusted.result c.ok.result c.in_ok-store.store c.ok.ensures.value c.in_ok-store.was in
-    (rw ok at c.open_trusted.ensures.ready).sound
+    c.in_ok-store.ensures.ready.sound

@@ -12,12 +12,12 @@ image log db = record { log = log; db = db }
 abbrev seen : List ℕ → List ℕ → Bool → List Event → List ℕ
 seen log db is_log history = (replay (cond is_log log db) history).seen
 
-pub returns : goal.returns
-returns g c =
+pub returns-clause-opens : goal.returns-clause-opens
+returns-clause-opens g c =
     let ok = ok_is c.open.result c.ok.result c.in_ok-files.files c.ok.ensures.value c.in_ok-files.was in
     let (log, db) = rw ok at c.open.ensures.fresh in
     let same = ap₂ image (ap₂ (seen g.S.Start.log g.S.Start.db) log.0 log.1) (ap₂ (seen g.S.Start.log g.S.Start.db) db.0 db.1) in
-    subst (λ i. IfSome c.known.result (OpensRuns i)) same c.known.ensures
+    subst (λ i. IfSome c.known.result (OpensRuns i)) same c.known.ensures.opens
 
 -- what is supposed of the start is supposed of the files
 pub known-requires-clause-held : goal.known-requires-clause-held

@@ -1,10 +1,16 @@
-use Rattle.std.proofs.Common.{rules, pos, ◌≡◌, ◌∙◌, ◌<◌, ◌+◌, suc, [], ◌∷◌, ◌++◌, map, take, drop, get_or, length, sym, ap, subst, arith}
+use Rattle.kt_store.specs.Inner.Heads.{pair_count}
+use Rattle.std.proofs.Common.{rules, pos, List, ◌≡◌, ◌∙◌, ◌<◌, ◌+◌, suc, [], ◌∷◌, ◌++◌, map, take, drop, get_or, length, sym, ap, subst, arith}
 use Rattle.kt_store.proofs.Common.{length-map, map-append, take_all, Entry, column, Int, IsNoMemory, without_outputs, entry_columns, pair_columns, pairs_shown}
 use Rattle.kt_store.proofs.EntriesLemmas.{one_sound}
 use Rattle.kt_store.proofs.FaultLemmas.{if_same, starved_err}
 use Rattle.kt_store.proofs.MergeLemmas.{Later, at, entry_position}
 use Rattle.kt_store.proofs.WideLemmas.{one_wide}
 use Rattle.kt_store.proofs.outlines.entries_in.Goals as goal
+
+-- the pairs of one more entry
+counted : (es : List Entry) (e : Entry) → pair_count (es ++ e ∷ []) ≡ pair_count es + length e.meta
+counted [] e = omega arith
+counted (x ∷ es) e = ap (λ n. length x.meta + n) (counted es e) ∙ omega arith
 
 pub small_in-requires : goal.small_in-requires
 small_in-requires c = omega (arith, one_wide 7 c.args.rows.now c.loop-row.row-index c.row-item.result c.requires.rows (omega (arith, c.loop-row-test.true)) c.row-item.is)
@@ -31,6 +37,14 @@ loop-row-preserved c = (
         found.1 ∙ ap (λ k. pairs_shown (drop k es)) place,
       ),
   c.in_ok-meta.ensures.wide,
+  omega (
+    arith,
+    c.loop-row.invariant.2,
+    c.in_ok-meta.ensures.split,
+    let pushed : c.add.new.items.items ≡ c.loop-row.entries.items ++ c.in_ok-entry.entry ∷ [] = search rules in ap pair_count pushed,
+    counted c.loop-row.entries.items c.in_ok-entry.entry,
+    ap length c.in_ok-entry.ensures.pairs,
+  ),
 )
 
 pub returns-clause-entries : goal.returns-clause-entries

@@ -1,7 +1,8 @@
-use Rattle.std.proofs.Common.{◌≡◌, ◌<◌, List, map, take, drop}
+use Rattle.std.proofs.Common.{◌≡◌, ◌+◌, ◌<◌, List, length, map, take, drop}
 use Rattle.kt_store.proofs.Common.{AreWide, Entry, AllByRecursion, IsAscending, IsEntry, without_outputs, entry_columns, pairs_shown}
+use Rattle.kt_store.specs.Inner.Heads.{pair_count}
 use Rattle.kt_store.proofs.outlines.entries_in.Given as goal
 
 abbrev pub invariant-loop-row : goal.invariant-loop-row
 invariant-loop-row l = ((es : List Entry) → AllByRecursion IsEntry es → IsAscending (λ (a b : Entry). a.position < b.position) es → l.rows ≡ map entry_columns es → l.pairs ≡ pairs_shown es
-    → (l.entries.items ≡ map without_outputs (take l.row-index es)) × (l.rest ≡ pairs_shown (drop l.row-index es))) × AreWide 3 l.rest
+    → (l.entries.items ≡ map without_outputs (take l.row-index es)) × (l.rest ≡ pairs_shown (drop l.row-index es))) × AreWide 3 l.rest × (pair_count l.entries.items + length l.rest ≡ length l.pairs)

@@ -1,4 +1,4 @@
-use Rattle.std.proofs.Common.{◌∙◌, sym, subst, arith, rules}
+use Rattle.std.proofs.Common.{[], ◌∷◌, ◌∙◌, sym, ap, subst, arith, rules, length, length-append}
 use Rattle.kt_store.proofs.Common.{AreWide}
 use Rattle.kt_store.proofs.MergeLemmas.{next_is, first_column, next_pair, one_read, all_read, no_more}
 use Rattle.kt_store.proofs.outlines.meta_in.Goals as goal
@@ -37,4 +37,5 @@ loop-row-preserved c = (
   one_read c.args.position c.args.rows.now c.loop-row.meta c.push.new.self c.in_ok-pair_in.field-0 c.in_ok-number_in.field-0 c.in-Some.row.now c.loop-row.rest.now c.in-Some.after.now c.in-Some.ensures.cases.0
       c.in_ok-number_in.ensures.number (c.if-branch-from.false ∙ c.from.ensures) c.in_ok-pair_in.ensures.pair c.in_ok-push.ensures.ok c.loop-row.invariant.0,
   (subst (AreWide 3) c.in-Some.ensures.cases.0 c.loop-row.invariant.1).1,
+  omega (arith, c.loop-row.invariant.2, ap length c.in-Some.ensures.cases.0, ap length c.in_ok-push.ensures.ok, length-append c.loop-row.meta (c.in_ok-pair_in.field-0 ∷ [])),
 )

@@ -11,24 +11,30 @@ use Rattle.kt_store.proofs.seeks.all_entries.Goals as goal
 
 pub returns-then-not-pairs-clause-all : goal.returns-then-not-pairs-clause-all
 returns-then-not-pairs-clause-all g c runs has clean =
-    let keeps = has (c.rows_in.ensures.looks.clean clean) (c.in_ok-rows.ensures.sound clean) in
+    let first = c.rows_in.ensures.looks.clean clean in
+    let sound = c.in_ok-rows.ensures.sound clean in
+    let keeps = has first sound in
+    let is = c.requires.placed first sound runs keeps in
     let n = c.args.run in
     let es = entries_of (run_at runs n) in
     let pairs = c.args.pairs in
-    let rows = seen_entries n es _ (c.in_ok-rows.ensures.all clean cs (map (entry_row n) es) (λ shaped up. places_of_run runs _ keeps shaped up n)) in
+    let rows = seen_entries n es _ ((rw (c.entries_at.ensures.tree, c.entries_at.ensures.index, is) at (c.in_ok-rows.ensures.all clean)) cs (map (entry_row n) es) (λ shaped up. places_of_run runs _ keeps shaped up n)) in
     IfOk-weaker c.entries_in.result _ _ (λ found e. e ∙ map-map without_outputs (with_pairs pairs) es) (c.entries_in.ensures.entries (map (with_pairs pairs) es) (still_sound pairs es (sound_of runs n keeps.3.valid)) (still_up pairs es (up_of runs n keeps.3.valid))
     (c.deref.ensures.value ∙ rows ∙ same_columns pairs es) (rw c.if-not-pairs.true (none_shown es)))
 
 pub returns-clause-all : goal.returns-clause-all
 returns-clause-all g c runs has clean =
     let early : IsClean (g.S.Store.view c.rows_in.new.store) = c.rows_in-2.ensures.looks.clean clean in
-    let keeps = has (c.rows_in.ensures.looks.clean early) (c.in_ok-rows.ensures.sound early) in
+    let first = c.rows_in.ensures.looks.clean early in
+    let sound = c.in_ok-rows.ensures.sound early in
+    let keeps = has first sound in
+    let is = c.requires.placed first sound runs keeps in
     let later = still_has g.S.Store _ _ c.rows_in.ensures.looks runs has early (c.in_ok-shown.ensures.sound clean) in
     let n = c.args.run in
     let es = entries_of (run_at runs n) in
     let pairs = c.args.pairs in
-    let rows = seen_entries n es _ (c.in_ok-rows.ensures.all early cs (map (entry_row n) es) (λ shaped up. places_of_run runs _ keeps shaped up n)) in
-    let shown = seen_pairs n es _ (c.in_ok-shown.ensures.all clean cs3 (flat_map (pair_rows n) es) (λ shaped up. places_of_pairs runs _ later shaped up n)) in
+    let rows = seen_entries n es _ ((rw (c.entries_at.ensures.tree, c.entries_at.ensures.index, is) at (c.in_ok-rows.ensures.all early)) cs (map (entry_row n) es) (λ shaped up. places_of_run runs _ keeps shaped up n)) in
+    let shown = seen_pairs n es _ ((rw (c.pairs_at.ensures.tree, c.pairs_at.ensures.index, is) at (c.in_ok-shown.ensures.all clean)) cs3 (flat_map (pair_rows n) es) (λ shaped up. places_of_pairs runs _ later shaped up n)) in
     IfOk-weaker c.entries_in-2.result _ _ (λ found e. e ∙ map-map without_outputs (with_pairs pairs) es) (c.entries_in-2.ensures.entries (map (with_pairs pairs) es) (still_sound pairs es (sound_of runs n keeps.3.valid)) (still_up pairs es (up_of runs n keeps.3.valid))
     (c.deref-2.ensures.value ∙ rows ∙ same_columns pairs es) (c.deref-3.ensures.value ∙ rw c.if-not-pairs.false (shown ∙ all_shown es)))
 

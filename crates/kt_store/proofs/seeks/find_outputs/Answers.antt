@@ -20,20 +20,26 @@ it_is at Q r n run same each it = IfOk-weaker r _ _ (λ o is. (it.0, ap at (sym 
 
 pub returns-in-Some-clause-served : goal.returns-in-Some-clause-served
 returns-in-Some-clause-served g c = outputs_looked g.S.Store _ _ c.rows_behind.ensures.looks c.args.run c.args.position _ (λ runs has clean.
-    let keeps = has (c.rows_behind.ensures.looks.clean clean) (c.in_ok-rows.ensures.sound clean) in
+    let first = c.rows_behind.ensures.looks.clean clean in
+    let sound = c.in_ok-rows.ensures.sound clean in
+    let keeps = has first sound in
+    let is = c.requires first sound runs keeps in
     let n = c.key-number.result in
     let es = filter (is_at c.args.position) (entries_of (run_at runs n)) in
-    let rows = seen_outputs n es _ (rw (c.in_ok-add_number.ensures, c.from.ensures, c.in_ok-place.ensures) at (c.in_ok-rows.ensures.all clean) cs (map (entry_row n) es) (λ shaped up. place_of_entry runs _ keeps shaped up n c.args.position)) in
+    let rows = seen_outputs n es _ (rw (c.entries_at.ensures.tree, c.entries_at.ensures.index, is, c.in_ok-add_number.ensures, c.from.ensures, c.in_ok-place.ensures) at (c.in_ok-rows.ensures.all clean) cs (map (entry_row n) es) (λ shaped up. place_of_entry runs _ keeps shaped up n c.args.position)) in
     outputs_agree c.outputs_in.result runs c.args.run c.args.position (it_is (λ (n : ℕ). entry_at (run_at runs n) c.args.position) (λ e. c.in-Some.row.now ≡ output_columns e) c.outputs_in.result n c.args.run c.if-number-run.true c.outputs_in.ensures.outputs
     (outputs_there (run_at runs n) c.args.position c.in_ok-rows.rows.items c.in-Some.row.now rows (ap (λ l. slice_get l 0) (sym c.deref.ensures.value) ∙ sym c.first.ensures.value ∙ ap option_copied c.in-Some.is)))
     (IfErr-weaker c.outputs_in.result _ _ (λ e failed. inl failed) c.outputs_in.ensures.failed))
 
 pub returns-clause-served : goal.returns-clause-served
 returns-clause-served g c = outputs_looked g.S.Store _ _ c.rows_behind.ensures.looks c.args.run c.args.position _ (λ runs has clean.
-    let keeps = has (c.rows_behind.ensures.looks.clean clean) (c.in_ok-rows.ensures.sound clean) in
+    let first = c.rows_behind.ensures.looks.clean clean in
+    let sound = c.in_ok-rows.ensures.sound clean in
+    let keeps = has first sound in
+    let is = c.requires first sound runs keeps in
     let n = c.key-number.result in
     let es = filter (is_at c.args.position) (entries_of (run_at runs n)) in
-    let rows = seen_outputs n es _ (rw (c.in_ok-add_number.ensures, c.from.ensures, c.in_ok-place.ensures) at (c.in_ok-rows.ensures.all clean) cs (map (entry_row n) es) (λ shaped up. place_of_entry runs _ keeps shaped up n c.args.position)) in
+    let rows = seen_outputs n es _ (rw (c.entries_at.ensures.tree, c.entries_at.ensures.index, is, c.in_ok-add_number.ensures, c.from.ensures, c.in_ok-place.ensures) at (c.in_ok-rows.ensures.all clean) cs (map (entry_row n) es) (λ shaped up. place_of_entry runs _ keeps shaped up n c.args.position)) in
     inr (
       refl,
       elim c.in_default.branch [

@@ -1,8 +1,8 @@
 use Rattle.std.proofs.Common.{rules, ◌∙◌, map, subst, sym, ap}
-use Rattle.kt_store.proofs.Common.{AreWide, Trees}
+use Rattle.kt_store.proofs.Common.{AreWide}
 use Rattle.kt_store.specs.Inner.Cursors.{Looks, in_columns}
-use Rattle.kt_store.proofs.AloneLemmas.{heads_agree, heads_looked}
-use Rattle.kt_store.proofs.SeenLemmas.{all_wide, head_places, seen_heads}
+use Rattle.kt_store.proofs.AloneLemmas.{heads_looked, looks_then}
+use Rattle.kt_store.proofs.SeenLemmas.{all_wide, head_places, rows_of_runs, seen_heads}
 use Rattle.kt_store.proofs.seeks.heads.Goals as goal
 
 pub heads_in-requires : goal.heads_in-requires
@@ -11,7 +11,9 @@ heads_in-requires g c = subst (AreWide 4) (sym (c.deref-2.ensures.value ∙ c.in
 pub returns-clause-served : goal.returns-clause-served
 returns-clause-served g c =
     let looks : Looks g.S.Store c.args.store.now c.all_rows.new.store = search rules in
-    heads_looked g.S.Store _ _ looks _ (λ runs has clean.
-    let keeps = has (looks.clean clean) (c.in_ok-stored.ensures.sound clean) in
+    heads_looked g.S.Store _ _ (looks_then g.S.Store _ _ _ looks c.check_ends.ensures.looks) _ (λ runs has late.
+    let clean = c.check_ends.ensures.looks.clean late in
+    let sound = c.in_ok-stored.ensures.sound clean in
+    let keeps = has (looks.clean clean) sound in
     let shown = c.in_ok-rows.ensures ∙ ap (map (in_columns head_places)) (c.deref.ensures.value ∙ c.in_ok-stored.ensures.ok clean) in
-    heads_agree c.heads_in.result _ runs (c.heads_in.ensures.heads runs (c.deref-2.ensures.value ∙ seen_heads runs _ _ (ap (λ (t : Trees). t 2) keeps.2 ∙ keeps.3.runs_are) shown)) c.heads_in.ensures.failed)
+    c.in_ok-found.ensures.heads runs (c.deref-2.ensures.value ∙ seen_heads runs _ _ (rows_of_runs c.args.places runs _ keeps (c.requires (looks.clean clean) sound runs keeps)) shown))

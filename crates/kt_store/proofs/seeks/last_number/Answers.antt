@@ -1,8 +1,9 @@
 use Rattle.std.proofs.Common.{rules, arith, ◌≡◌, ◌∙◌, pos, length, unsigned_abs, w64, SFits, sym, ap}
-use Rattle.kt_store.proofs.Common.{Trees, Int, plain, rowid, to_z-of_z}
+use Rattle.kt_store.proofs.Common.{Int, plain, rowid, to_z-of_z}
 use Rattle.sqlite_trees.specs.View.{IsClean}
 use Rattle.sqlite_trees.specs.declared.store.Shape.TheVariants.{Table}
 use Rattle.kt_store.proofs.PlaceLemmas.{last_is, none_is, sought_none, sought_one}
+use Rattle.kt_store.proofs.SeenLemmas.{rows_of_runs}
 use Rattle.kt_store.proofs.seeks.last_number.Goals as goal
 
 pub returns-then-not-branch-clause-last : goal.returns-then-not-branch-clause-last
@@ -10,23 +11,31 @@ returns-then-not-branch-clause-last g c runs has clean =
     let falls = c.next.ensures.quiet.clean in
     let falls2 = c.seek.ensures.quiet.clean in
     let early : IsClean (g.S.Store.view c.seek.new.self) = omega arith in
-    let keeps = has (omega arith) (c.in_ok-seek.ensures.sound early) in
-    let shape : (g.S.Store.view c.args.store.now).shape 2 ≡ Table = search rules in
+    let first : IsClean (g.S.Store.view c.args.store.now) = omega arith in
+    let sound = c.in_ok-seek.ensures.sound early in
+    let keeps = has first sound in
+    let tree = c.args.places.runs.tree in
+    let are = rows_of_runs c.args.places runs _ keeps (c.requires first sound runs keeps) in
+    let shape : (g.S.Store.view c.args.store.now).shape tree ≡ Table = search rules in
     let end = rw c.if-not-branch.true at (c.in_ok-next.ensures.ok clean) in
     let sought = rw (shape, c.new-row.ensures) at (c.in_ok-seek.ensures.ok early) in
-    none_is runs ((g.S.Store.view c.args.store.now).trees 2) (ap (λ (t : Trees). t 2) keeps.2 ∙ keeps.3.runs_are) (sought_none (g.S.Store.view c.args.store.now) (g.S.Store.view c.seek.new.self) (g.S.Store.view c.next.new.self) plain ((g.S.Store.view c.args.store.now).trees 2) c.next.new.row sought end)
+    none_is runs ((g.S.Store.view c.args.store.now).trees tree) are (sought_none (g.S.Store.view c.args.store.now) (g.S.Store.view c.seek.new.self) (g.S.Store.view c.next.new.self) plain ((g.S.Store.view c.args.store.now).trees tree) c.next.new.row sought end)
 
 pub returns-in-Int-clause-last : goal.returns-in-Int-clause-last
 returns-in-Int-clause-last g c runs has clean =
     let falls = c.next.ensures.quiet.clean in
     let falls2 = c.seek.ensures.quiet.clean in
     let early : IsClean (g.S.Store.view c.seek.new.self) = omega arith in
-    let keeps = has (omega arith) (c.in_ok-seek.ensures.sound early) in
-    let shape : (g.S.Store.view c.args.store.now).shape 2 ≡ Table = search rules in
+    let first : IsClean (g.S.Store.view c.args.store.now) = omega arith in
+    let sound = c.in_ok-seek.ensures.sound early in
+    let keeps = has first sound in
+    let tree = c.args.places.runs.tree in
+    let are = rows_of_runs c.args.places runs _ keeps (c.requires first sound runs keeps) in
+    let shape : (g.S.Store.view c.args.store.now).shape tree ≡ Table = search rules in
     let one = rw c.if-not-branch.false at (c.in_ok-next.ensures.ok clean) in
     let sought = rw (shape, c.new-row.ensures) at (c.in_ok-seek.ensures.ok early) in
-    let found = sought_one (g.S.Store.view c.args.store.now) (g.S.Store.view c.seek.new.self) (g.S.Store.view c.next.new.self) plain ((g.S.Store.view c.args.store.now).trees 2) c.next.new.row sought one in
-    let last : rowid c.next.new.row ≡ Int (pos (length runs)) = last_is runs ((g.S.Store.view c.args.store.now).trees 2) found.0 c.next.new.row keeps.3.valid.numbered (ap (λ (t : Trees). t 2) keeps.2 ∙ keeps.3.runs_are) found.1 in
+    let found = sought_one (g.S.Store.view c.args.store.now) (g.S.Store.view c.seek.new.self) (g.S.Store.view c.next.new.self) plain ((g.S.Store.view c.args.store.now).trees tree) c.next.new.row sought one in
+    let last : rowid c.next.new.row ≡ Int (pos (length runs)) = last_is runs ((g.S.Store.view c.args.store.now).trees tree) found.0 c.next.new.row keeps.3.valid.numbered are found.1 in
     let read : rowid c.next.new.row ≡ Int c.in-Int.number = search rules in
     let number : c.in-Int.number ≡ pos (length runs) = let e : Int c.in-Int.number ≡ Int (pos (length runs)) = sym read ∙ last in cc in
     c.unsigned_abs.ensures.value ∙ ap unsigned_abs (to_z-of_z w64 c.in-Int.number (let fits : SFits w64 c.in-Int.number = search rules in fits) ∙ number)

@@ -1,0 +1,16 @@
+/// The place of a table in a schema, and its tree.
+#[derive(Clone, Copy)]
+pub(crate) struct Place {
+    pub(crate) at: usize,
+    pub(crate) tree: u32,
+}
+
+/// Where the tables of results stand in a schema, with the trees of their keys.
+#[derive(Clone, Copy)]
+pub(crate) struct Places {
+    pub(crate) runs: Place,
+    pub(crate) entries: Place,
+    pub(crate) entry_keys: u32,
+    pub(crate) props: Place,
+    pub(crate) pair_keys: u32,
+}
