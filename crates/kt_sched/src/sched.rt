@@ -117,27 +117,22 @@ impl Sched {
         ensures stands { (plan : List Job) (n : ℕ) (fed : Fed) → Stands plan n fed self.old
             → Stands plan n (fed_after fed self.old.asked answer) self.new }
     {
-        match self.asked {
-            Next::Start(i, role) => match answer {
-                Answer::Started(moment) => self.started(i, role, StartAnswer::Started(moment)),
-                Answer::Refused(cause) => self.started(i, role, StartAnswer::Refused(cause)),
-                _ => unreachable!(),
-            },
-            Next::Wait => match answer {
-                Answer::Ended(ended) => self.ended(ended),
-                _ => unreachable!(),
-            },
-            Next::Put(i) => match answer {
-                Answer::Stored => self.put(i, false),
-                Answer::StoreFailed => self.put(i, true),
-                _ => unreachable!(),
-            },
-            Next::Done => unreachable!(),
+        match (self.asked, answer) {
+            (Next::Start(i, role), Answer::Started(moment)) => {
+                self.started(i, role, StartAnswer::Started(moment));
+            }
+            (Next::Start(i, role), Answer::Refused(cause)) => {
+                self.started(i, role, StartAnswer::Refused(cause));
+            }
+            (Next::Wait, Answer::Ended(ended)) => self.ended(ended),
+            (Next::Put(i), Answer::Stored) => self.put(i, false),
+            (Next::Put(i), Answer::StoreFailed) => self.put(i, true),
+            _ => unreachable!(),
         }
     }
 
     /// A start that was asked for was answered.
-    fn started(&mut self, i: u32, role: Role, told: StartAnswer)
+    pub(crate) fn started(&mut self, i: u32, role: Role, told: StartAnswer)
         requires { self.old.asked ≡ Next.Start i role }
         ensures { Takes self.old (Start i role told) self.new }
     {
@@ -153,7 +148,7 @@ impl Sched {
     }
 
     /// A child ended.
-    fn ended(&mut self, ended: Ended)
+    pub(crate) fn ended(&mut self, ended: Ended)
         requires asked { self.old.asked ≡ Next.Wait }
         requires runs { (c : Case) × (slice_get self.old.cases ended.position ≡ Some c)
             × (stage_runs ended.role c.stage ≡ true) }
@@ -251,7 +246,7 @@ impl Sched {
     }
 
     /// A put was answered. After one that failed nothing more is put, and no further body is started.
-    fn put(&mut self, i: u32, failed: bool)
+    pub(crate) fn put(&mut self, i: u32, failed: bool)
         requires { self.old.asked ≡ Next.Put i }
         ensures same { self.new.cases ≡ self.old.cases }
         ensures asked { self.new.asked ≡ Next.Done }
