@@ -4,6 +4,7 @@ pub mod Tables
 pub mod TableLoops
 pub mod Counting
 pub mod Unfolding
+pub mod Walking
 pub mod Openings
 pub mod OneStep
 pub mod OpenedFiles
