@@ -30,7 +30,7 @@ pub use Rattle.kt_sched.specs.Moments.{HasMoment}
 pub use Rattle.kt_sched.specs.Next.{AreWhole, Follows, IsNext, IsUpToDate, MayBegin, MayStartNow, WereOpen}
 pub use Rattle.kt_sched.specs.RecordOrder.{Due, ahead, dues, finished_by, is_begun, is_open, put_at, recorded, was_open}
 pub use Rattle.kt_sched.specs.Run.{Counts, FailedPut, FitsAt, NamesEachOnce, Ran}
-pub use Rattle.kt_sched.specs.SchedState.{AreGone, CaseStands, CasesStand, HasDecided, HasExclusive, HasRecord, HasStarted, HasTurn, IsAsked, IsOrdinary, IsSettled, IsStage, IsStanding, IsUntaken, PutsStand, SchedState, Stands, Takes, TurnStands, after_event, decided_record, decided_record_of, ended_body, entry_with, is_active_stage, is_decided, is_decided_stage, is_fresh, is_owed, is_owing_stage, is_undecided, listed, opened, positions, record_in, stage_work, work, work_left}
+pub use Rattle.kt_sched.specs.SchedState.{AreGone, CaseStands, CasesStand, HasDecided, HasExclusive, HasRecord, HasStarted, HasTurn, Implies, IsAsked, IsOrdinary, IsSettled, IsStage, IsStanding, IsUntaken, PutsStand, SchedState, Stands, Takes, TurnStands, after_event, decided_record, decided_record_of, ended_body, entry_with, is_active_stage, is_decided, is_decided_stage, is_fresh, is_owed, is_owing_stage, is_undecided, listed, opened, positions, record_in, stage_work, work, work_left}
 pub use Rattle.kt_sched.specs.ScheduleRules.{AloneAt, AloneAtStart, BusyAt, Each, IsBusy, IsQuiet, Order, PromptAt, WidthAt, declares, owed}
 pub use Rattle.kt_sched.specs.Trace.{End, Event, Leads, NoEvent, Start, Then, Trace, event_count, first, of, position_of}
 pub use Rattle.kt_sched.specs.TurnOrder.{body_start_of, body_starts, next_to_start, turns, undecided_turns}

@@ -1,6 +1,6 @@
 -- the run loop: what holds before each turn, and how each answer keeps it
 use Rattle.kt_base.specs.Kinds.{good as is_good}
-use Rattle.kt_sched.proofs.Common.{Bool, option_map, Option, Some, None, is_some, not, Ok, Err, ◌^◌, ◌≡◌, ◌<◌, ℕ, ◌+◌, ◌-◌, true, false, if◌then◌else◌, ◌==◌, List, [], ◌∷◌, ◌++◌, refl, append-nil, append_assoc, length-append, count_by-le-length, false_from_ne_true, cases_eq, filter, take, length, slice_get, slice_get_within, sym, ◌∙◌, ap, subst, arith, Role, Body, Cleanup, Entry, Job, StartAnswer, Ended, SinkFault, Totals, Child, IsEvidence, IsIdle, IsMoment, HasMoment, MayStart, IsPlan, IsEntryOf, AreEntries, IsStorable, Start, End, Each, FitsAt, Trace, event_count, owed, is_owed, history, is_whole, runs, turns, recorded, Due, dues, is_open, running_after_start, running_after_end, pending_after_start, pending_after_end, child_of, CanCount, counted, FailedPut, Fed, after_put, with_event, nothing_fed, IsNext, Follows, NoEvent, Case, SchedState, Stands, Takes, stage_runs}
+use Rattle.kt_sched.proofs.Common.{Bool, option_map, Option, Some, None, is_some, not, Ok, Err, ◌^◌, ◌≡◌, ◌<◌, ℕ, ◌+◌, ◌-◌, true, false, if◌then◌else◌, ◌==◌, List, [], ◌∷◌, ◌++◌, refl, append-nil, append_assoc, length-append, count_by-le-length, false_from_ne_true, cases_eq, filter, take, length, slice_get, slice_get_within, sym, ◌∙◌, ap, subst, arith, Role, Body, Cleanup, Entry, Job, StartAnswer, Ended, SinkFault, Totals, Child, IsEvidence, IsIdle, IsMoment, HasMoment, MayStart, IsPlan, IsEntryOf, AreEntries, IsStorable, Start, End, Each, FitsAt, Trace, event_count, owed, is_owed, history, is_whole, runs, turns, recorded, Due, dues, is_open, running_after_start, running_after_end, pending_after_start, pending_after_end, child_of, CanCount, counted, FailedPut, Fed, after_put, with_event, nothing_fed, IsNext, Follows, NoEvent, Case, Implies, SchedState, Stands, Takes, stage_runs}
 use Rattle.kt_sched.specs.declared.next.Next.TheVariants as next
 use Rattle.kt_sched.specs.declared.launcher.Launcher as launcher
 use Rattle.kt_sched.specs.declared.sink.Sink as sink
@@ -22,10 +22,6 @@ pub record Loop {L S : Type 0} (l : launcher.Ghosts L) (s : sink.Ghosts S) (plan
   pub until : Until plan n fed.stopped fed.trace
   pub gained : Gained s plan n fed totals fault before after
   pub asked : sched.asked ≡ next.Done
-
--- what `next` says, and what a step of the core keeps
-abbrev pub Says : SchedState → (List Job → ℕ → Fed → Type 0) → Type 0
-Says b P = (plan : List Job) (n : ℕ) (fed : Fed) → Stands plan n fed b → P plan n fed
 
 module _ {L S : Type 0} (l : launcher.Ghosts L) (s : sink.Ghosts S) (plan : List Job) (n : ℕ) (old : L) (before : S) where
   pub loop_first : (sched : SchedState) (totals : Totals) → Stands plan n nothing_fed sched → sched.asked ≡ next.Done → IsIdle (l.running old) (l.pending old)
@@ -88,9 +84,9 @@ module _ {L S : Type 0} {l : launcher.Ghosts L} {s : sink.Ghosts S} {plan : List
     due = x.0;
   }
 
-  module _ (i : ℕ) (role : Role) (x : Says sched (λ plan n fed. IsNext plan n fed (next.Start i role)))
-      (f : Says sched (λ plan n fed. Follows plan n fed (next.Start i role)))
-      (b : SchedState) (y : Says sched (λ plan n fed. Stands plan n fed b)) (job : Job) (g : Says b (λ plan n fed. slice_get plan i ≡ Some job)) where
+  module _ (i : ℕ) (role : Role) (x : Implies sched (λ plan n fed. IsNext plan n fed (next.Start i role)))
+      (f : Implies sched (λ plan n fed. Follows plan n fed (next.Start i role)))
+      (b : SchedState) (y : Implies sched (λ plan n fed. Stands plan n fed b)) (job : Job) (g : Implies b (λ plan n fed. slice_get plan i ≡ Some job)) where
     place : slice_get plan i ≡ Some job
     place = g plan n fed (y plan n fed k.stands)
 
@@ -121,14 +117,14 @@ module _ {L S : Type 0} {l : launcher.Ghosts L} {s : sink.Ghosts S} {plan : List
 
   -- a wait
 
-  pub loop_may_wait : Says sched (λ plan n fed. Follows plan n fed next.Wait) → (i : ℕ) × (role : Role) × (child : Child) × (l.running mid i role ≡ Some child)
+  pub loop_may_wait : Implies sched (λ plan n fed. Follows plan n fed next.Wait) → (i : ℕ) × (role : Role) × (child : Child) × (l.running mid i role ≡ Some child)
   loop_may_wait f =
       let w = f plan n fed k.stands in
       let shown = ap (λ (b : Bool). if b then child_at plan w.0 else None) w.3 ∙ ap (option_map child_of) w.4 in
       (w.0, w.1, child_of w.2, k.going.runs w.0 w.1 ∙ shown)
 
   module _ (e : Ended) (w : (child : Child) × (l.running mid e.position e.role ≡ Some child) × IsEvidence child.interface e.role e.evidence) (b : SchedState)
-      (y : Says sched (λ plan n fed. Stands plan n fed b)) where
+      (y : Implies sched (λ plan n fed. Stands plan n fed b)) where
     -- the child that ended is one of the plan
     one : (runs e.position e.role T ≡ true) × ((job : Job) × (slice_get plan e.position ≡ Some job) × (w.0 ≡ child_of job))
     one = runs_true plan T e.position e.role w.0 (sym (k.going.runs e.position e.role) ∙ w.1)
@@ -136,7 +132,7 @@ module _ {L S : Type 0} {l : launcher.Ghosts L} {s : sink.Ghosts S} {plan : List
     pub loop_runs : (c : Case) × (slice_get b.cases e.position ≡ Some c) × (stage_runs e.role c.stage ≡ true)
     loop_runs = runs_stage (y plan n fed k.stands) e.position e.role one.0
 
-    pub loop_end : (new : L) (later : SchedState) → Says sched (λ plan n fed. IsNext plan n fed next.Wait) → l.waits mid e new → IsMoment e.moment
+    pub loop_end : (new : L) (later : SchedState) → Implies sched (λ plan n fed. IsNext plan n fed next.Wait) → l.waits mid e new → IsMoment e.moment
         → ((k : ℕ) (r : Role) → l.running new k r ≡ running_after_end (l.running mid) e k r)
         → ((k : ℕ) → l.pending new k ≡ pending_after_end (l.running mid) (l.pending mid) e k)
         → Takes b (End e) later → Loop l s plan n old before later new after totals fault
@@ -159,7 +155,7 @@ module _ {L S : Type 0} {l : launcher.Ghosts L} {s : sink.Ghosts S} {plan : List
 
   -- a put of an entry that was taken
 
-  module _ (i : ℕ) (put_next : Says sched (λ plan n fed. IsNext plan n fed (next.Put i))) where
+  module _ (i : ℕ) (put_next : Implies sched (λ plan n fed. IsNext plan n fed (next.Put i))) where
     x : IsNext plan n fed (next.Put i)
     x = put_next plan n fed k.stands
 
@@ -170,21 +166,21 @@ module _ {L S : Type 0} {l : launcher.Ghosts L} {s : sink.Ghosts S} {plan : List
       bad = omega (arith, g.counts.total, g.counts.bad, count_by-le-length (λ (e : Entry). not (is_good e.verdict.kind)) g.gained);
     }
 
-    module _ (b : SchedState) (y : Says sched (λ plan n fed. Stands plan n fed b)) (e : Entry) (v : Says b (λ plan n fed. IsEntryOf plan fed.trace i e)) where
+    module _ (b : SchedState) (y : Implies sched (λ plan n fed. Stands plan n fed b)) (e : Entry) (v : Implies b (λ plan n fed. IsEntryOf plan fed.trace i e)) where
       w : IsEntryOf plan T i e
       w = v plan n fed (y plan n fed k.stands)
 
       pub loop_storable : IsStorable e
       loop_storable = storable_entry plan T i e fits w
 
-      module _ (c later : SchedState) (taken : Says b (λ plan n fed. Stands plan n fed c)) (d : later.asked ≡ next.Done)
+      module _ (c later : SchedState) (taken : Implies b (λ plan n fed. Stands plan n fed c)) (d : later.asked ≡ next.Done)
           (new : S) where
         now : Stands plan n fed c
         now = taken plan n fed (y plan n fed k.stands)
 
         pub loop_put : (more : Totals) → more ≡ counted totals e.verdict.kind → s.puts after e (Ok tt) new
             → ((put : List Entry) → s.entries after put → s.entries new (put ++ e ∷ []))
-            → Says c (λ plan n fed. Stands plan n (after_put fed false) later) → Loop l s plan n old before later mid new more fault
+            → Implies c (λ plan n fed. Stands plan n (after_put fed false) later) → Loop l s plan n old before later mid new more fault
         loop_put more m u o z = let g = k.gained in record {
           fed = after_put fed false;
           stands = z plan n fed now;
@@ -210,7 +206,7 @@ module _ {L S : Type 0} {l : launcher.Ghosts L} {s : sink.Ghosts S} {plan : List
 
         -- one that failed
         pub loop_failed : (cause : SinkFault) → s.puts after e (Err cause) new → ((put : List Entry) → s.entries after put → s.entries new put)
-            → Says c (λ plan n fed. Stands plan n (after_put fed true) later)
+            → Implies c (λ plan n fed. Stands plan n (after_put fed true) later)
             → Loop l s plan n old before later mid new totals (Some cause)
         loop_failed cause u o z = let g = k.gained in record {
           fed = after_put fed true;

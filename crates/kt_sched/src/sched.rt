@@ -57,8 +57,8 @@ impl Model for Sched {
 }
 
 impl Sched {
-    ghost use Rattle.std.specs.Prelude.{◌≡◌, ℕ, List, length, ◌^◌, Some, slice_get, IfOk, ◌<◌, ◌+◌, true, false};
-    ghost use Rattle.kt_sched.specs.Common.{Job, Next, Start, End, Case, Role, IsPlan, IsWidth, Fed, after_put, fed_after, nothing_fed, IsNext, Follows, IsEntryOf, IsChosen, IsTurn, stage_runs, SchedState, Stands, IsAnswer, IsSettled, HasRecord, CanLend, HoldsEntry, Takes, work_left, Works};
+    ghost use Rattle.std.specs.Prelude.{◌≡◌, ℕ, length, ◌^◌, Some, slice_get, IfOk, ◌<◌, ◌+◌, true, false};
+    ghost use Rattle.kt_sched.specs.Common.{Next, Start, End, Case, Role, IsPlan, IsWidth, after_put, fed_after, nothing_fed, IsNext, Follows, IsEntryOf, IsChosen, IsTurn, stage_runs, Implies, SchedState, Stands, IsAnswer, IsSettled, HasRecord, CanLend, HoldsEntry, Takes, work_left, Works};
 
     /// The core before its first answer.
     pub fn new(alloc: Global, plan: Items<Job>, width: u32) -> Result<Sched, NoMemory>
@@ -88,8 +88,7 @@ impl Sched {
     /// The plan's job at a position, until its entry is taken.
     pub fn job(&self, position: u32) -> &Job
         requires { CanLend self.now position }
-        ensures { (plan : List Job) (n : ℕ) (fed : Fed) → Stands plan n fed self.now
-            → slice_get plan position ≡ Some result.now }
+        ensures { Implies self.now (λ plan _ _. slice_get plan position ≡ Some result.now) }
     {
         &self.cases[position as usize].job
     }
@@ -100,10 +99,8 @@ impl Sched {
         requires told { HoldsEntry self.old position }
         ensures less { work_left self.new < work_left self.old }
         ensures asked { self.new.asked ≡ Next.Put position }
-        ensures stands { (plan : List Job) (n : ℕ) (fed : Fed) → Stands plan n fed self.old
-            → Stands plan n fed self.new }
-        ensures entry { (plan : List Job) (n : ℕ) (fed : Fed) → Stands plan n fed self.old
-            → IsEntryOf plan fed.trace position result }
+        ensures stands { Implies self.old (λ plan n fed. Stands plan n fed self.new) }
+        ensures entry { Implies self.old (λ plan _ fed. IsEntryOf plan fed.trace position result) }
     {
         let taken = take_entry(self.alloc, &mut self.cases, position);
         taken
@@ -114,8 +111,8 @@ impl Sched {
         requires { IsAnswer self.old answer }
         ensures works { Works self.old.asked (work_left self.old) (work_left self.new) }
         ensures asked { self.new.asked ≡ Next.Done }
-        ensures stands { (plan : List Job) (n : ℕ) (fed : Fed) → Stands plan n fed self.old
-            → Stands plan n (fed_after fed self.old.asked answer) self.new }
+        ensures stands { Implies self.old
+            (λ plan n fed. Stands plan n (fed_after fed self.old.asked answer) self.new) }
     {
         match (self.asked, answer) {
             (Next::Start(i, role), Answer::Started(moment)) => {
@@ -167,14 +164,11 @@ impl Sched {
 
     /// What is to be done next.
     pub fn next(&mut self) -> Next
-        ensures next { (plan : List Job) (n : ℕ) (fed : Fed) → Stands plan n fed self.old
-            → IsNext plan n fed result }
-        ensures only { (plan : List Job) (n : ℕ) (fed : Fed) → Stands plan n fed self.old
-            → (other : Next) → IsNext plan n fed other → other ≡ result }
-        ensures follows { (plan : List Job) (n : ℕ) (fed : Fed) → Stands plan n fed self.old
-            → Follows plan n fed result }
-        ensures stands { (plan : List Job) (n : ℕ) (fed : Fed) → Stands plan n fed self.old
-            → Stands plan n fed self.new }
+        ensures next { Implies self.old (λ plan n fed. IsNext plan n fed result) }
+        ensures only { Implies self.old
+            (λ plan n fed. (other : Next) → IsNext plan n fed other → other ≡ result) }
+        ensures follows { Implies self.old (λ plan n fed. Follows plan n fed result) }
+        ensures stands { Implies self.old (λ plan n fed. Stands plan n fed self.new) }
         ensures same { work_left self.new ≡ work_left self.old }
         ensures asked { self.new.asked ≡ result }
         ensures lends { (i : ℕ) (role : Role) → result ≡ Next.Start i role → CanLend self.new i }
@@ -189,8 +183,7 @@ impl Sched {
 
     /// Readies a decided case for its put, if it has its turn.
     fn open_decided(&mut self)
-        ensures stands { (plan : List Job) (n : ℕ) (fed : Fed) → Stands plan n fed self.old
-            → Stands plan n fed self.new }
+        ensures stands { Implies self.old (λ plan n fed. Stands plan n fed self.new) }
         ensures same { self.new.cases ≡ self.old.cases }
         ensures settled { IsSettled self.new }
         ensures told { self.old.asked ≡ Next.Done → (i : ℕ) → self.new.ready ≡ Some i
@@ -250,8 +243,7 @@ impl Sched {
         requires { self.old.asked ≡ Next.Put i }
         ensures same { self.new.cases ≡ self.old.cases }
         ensures asked { self.new.asked ≡ Next.Done }
-        ensures stands { (plan : List Job) (n : ℕ) (fed : Fed) → Stands plan n fed self.old
-            → Stands plan n (after_put fed failed) self.new }
+        ensures stands { Implies self.old (λ plan n fed. Stands plan n (after_put fed failed) self.new) }
     {
         self.ready = None;
         self.failed = failed;
