@@ -19,8 +19,10 @@ fn whole_slice(children: usize, since: u64) -> u64
 {
     let children = children.min(512) as u64;
     let short = (50 + since / 16).min(350);
-    let many = 14 * children.saturating_sub(8);
-    short.max(many).max(since * (children + 4) / 384)
+    let many = 10 * children.saturating_sub(8);
+    short
+        .max(many)
+        .max(since * children / (16 * (children + 8)))
 }
 
 /// The microseconds of the next slice of a pause, after this many of it, and so many pauses without an end.
@@ -111,12 +113,15 @@ impl Pace {
         }
     }
 
-    /// Whether one more answer `running` would come too early.
+    /// Whether one more answer `running` would come too early. One of the first half never does, and needs no clock.
     pub(crate) fn is_early<C: Clock>(&self, clock: &C) -> bool
         ensures { IsTrue result → (now : Moment) × IsSomeAnd self.now.started (λ start.
             IsEarly self.now.limit self.now.told
             ((instant_nanos now - instant_nanos start) / 1000000)) }
     {
+        if self.is_free() {
+            return false;
+        }
         match Instant::now(clock) {
             Ok(now) => self.is_early_at(now),
             Err(_) => false,
