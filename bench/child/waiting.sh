@@ -10,8 +10,8 @@ find_program
 cd "$scratch"
 printf '#!/bin/sh\nexec sleep 25\n' > long
 printf '#!/bin/sh\nexec sleep 0.5\n' > short
-printf '#!/bin/sh\nexec sleep 4\n' > wait
-chmod +x long short wait
+printf '#!/bin/sh\nexec sleep 4\n' > longer
+chmod +x long short longer
 cc -O2 -o ends.20 "$here/bench/case.c"
 for millis in 24 28 32 36 40; do ln ends.20 "ends.$millis"; done
 cc -O2 -shared -fPIC -o notice.so "$here/bench/notice.c"
@@ -23,7 +23,7 @@ spent() {
 late() {
   {
     printf '%s\n' 'syntax(2)' "test_suite('s')"
-    for _ in $(seq 2 "$1"); do echo "plain_test_program{name='wait'}"; done
+    for _ in $(seq 2 "$1"); do echo "plain_test_program{name='longer'}"; done
     for _ in $(seq 10); do
       for millis in 20 24 28 32 36 40; do echo "plain_test_program{name='ends.$millis'}"; done
     done
