@@ -8,8 +8,8 @@ pub mod Walking
 pub mod Openings
 pub mod OneStep
 pub mod OpenedFiles
-pub mod Reading
 pub mod Inclusions
+pub mod Reading
 pub mod Registering
 pub mod Agreement
 pub mod SteadyTrees

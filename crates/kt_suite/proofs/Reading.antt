@@ -1,9 +1,10 @@
 -- A file is read statement by statement.
-use Rattle.std.proofs.Common.{drop, Option, None, Ok, Err, ◌≡◌, ◌-◌, ℕ, List, [], ◌∷◌, ◌++◌, length, take, arith, length-append, refl, sym, subst, ap, ◌∙◌}
-use Rattle.kt_suite.proofs.Common.{append_assoc, append-nil, take_at, Stmt, SuiteFault, Meaning, Registry, Asked, Read, meaning_of, Site, Mark, Asks, Part, Says, said, suite_after, StatementsSay, none, one, opened, Unfolds, end, says, Counted, Walked, through, FileGives, MeaningGives, Opened, opens}
+use Rattle.std.proofs.Common.{drop, Option, None, Ok, Err, ◌≡◌, ◌-◌, ℕ, List, [], ◌∷◌, ◌++◌, length, take, ◌<◌, arith, length-append, refl, sym, subst, ap, ◌∙◌}
+use Rattle.kt_suite.proofs.Common.{append_assoc, append-nil, take_at, Stmt, SuiteFault, Meaning, Registry, Step, Enter, Asked, Read, meaning_of, Site, Mark, Asks, Part, Says, said, suite_after, StatementsSay, none, one, opened, Unfolds, end, says, Counted, Walked, through, FileGives, MeaningGives, Stepped, enters, Opened, opens}
 use Rattle.kt_suite.proofs.Counting.{counted-reading, same_reading}
 use Rattle.kt_suite.proofs.Unfolding.{unfolds-append, some_marks, some_parts}
 use Rattle.kt_suite.proofs.Walking.{walked-enough, walked-reading, walked-then}
+use Rattle.kt_suite.proofs.Inclusions.{entered_below}
 use Rattle.std.proofs.lemmas.List.{nil_from_length}
 
 -- a registry while a file is read
@@ -53,8 +54,9 @@ module _ {T : Type 0} (asks : T → Asked → T → Type 0) (old mid new : T) (s
   }
 
   -- a statement more is behind
-  pub reading_next : (after : Registry) → Walked asks mid new (MeaningGives r.reading at meaning) r (Ok after) → Reading asks old new start file after (suite_after suite meaning) rest
-  reading_next after w = walked-then f w one_more
+  pub reading_next : (after : Registry) (named : Option (List ℕ)) → named ≡ suite_after suite meaning → Walked asks mid new (MeaningGives r.reading at meaning) r (Ok after)
+      → Reading asks old new start file after named rest
+  reading_next after named n w = subst (λ (x : Option (List ℕ)). Reading asks old new start file after x rest) (sym n) (walked-then f w one_more)
 
   -- a statement's part of the tree has the mark that decides, or memory ran out in it
   pub reading_stops : (fault : SuiteFault) → Walked asks mid new (MeaningGives r.reading at meaning) r (Err fault) → Walked asks old new (FileGives start.reading file) start (Err fault)
@@ -76,3 +78,16 @@ reading_all asks old new start file _ after suite left e (through front r g c k)
     let whole : FileGives start.reading file (front ++ []) = g.goes_on [] [] (subst (λ (xs : List Stmt). StatementsSay file suite xs []) (sym (nil_from_length left e)) (none suite)) (end _) in
     through front after (subst (FileGives start.reading file) (append-nil front) whole) c
     (subst (λ (x : Registry). Counted start front x) (sym (a ∙ ap (λ (xs : List (List ℕ)). record r { reading = xs }) back)) (counted-reading (begun start file) r front start.reading k))
+
+module _ {T : Type 0} (asks : T → Asked → T → Type 0) where
+  -- a file is entered with fewer files open than the most
+  deep : (old mid sub : T) (start : Registry) (file : List ℕ) (r next : Registry) (suite : Option (List ℕ)) (m : Meaning) (at : Site) (path : List ℕ) (left : List Stmt)
+      → Reading asks old mid start file r suite left → Stepped asks mid sub r at m (Ok (Enter next path)) → 32 - length next.reading < 32 - length start.reading
+  deep old mid sub start file r _ suite m at _ left f (enters path p e n s) =
+      let same = ap (λ (xs : List (List ℕ)). length xs) (walked-reading f) in
+      let room = entered_below r.reading path e in
+      omega (arith, same, room, length-append start.reading (file ∷ []))
+
+  pub deeper : (old mid sub : T) (start : Registry) (file : List ℕ) (r next : Registry) (suite : Option (List ℕ)) (m : Meaning) (at : Site) (path : List ℕ) (step : Step) (left : List Stmt) → step ≡ Enter next path
+      → Reading asks old mid start file r suite left → Stepped asks mid sub r at m (Ok step) → 32 - length next.reading < 32 - length start.reading
+  deeper old mid sub start file r next suite m at path step left is f s = deep old mid sub start file r next suite m at path left f (subst (λ (x : Step). Stepped asks mid sub r at m (Ok x)) is s)
