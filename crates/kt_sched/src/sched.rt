@@ -243,7 +243,8 @@ impl Sched {
         requires { self.old.asked ≡ Next.Put i }
         ensures same { self.new.cases ≡ self.old.cases }
         ensures asked { self.new.asked ≡ Next.Done }
-        ensures stands { Implies self.old (λ plan n fed. Stands plan n (after_put fed failed) self.new) }
+        ensures stands { Implies self.old
+            (λ plan n fed. Stands plan n (after_put fed failed) self.new) }
     {
         self.ready = None;
         self.failed = failed;
