@@ -65,12 +65,11 @@ abbrev pub IsFree : ℕ → ℕ → Type 0
 IsFree limit told = told + 1 ≤ 50 * limit
 
 -- The microseconds of a slice, with so many children and so many microseconds after an end: 50 and a sixteenth of these, up to
--- 350; but not less than 10 for each child past the eighth, nor than a sixteenth of these microseconds times n / (n + 8) for n
--- children. At most 512 children count.
+-- 350; but not less than 14 for each child past the eighth, nor than a 384th of these microseconds for each child and 4 more.
+-- At most 512 children count.
 abbrev pub whole_slice : ℕ → ℕ → ℕ
 whole_slice children since =
-    max (max (min (50 + since / 16) 350) (10 * (min children 512 - 8)))
-    (since * min children 512 / (16 * (min children 512 + 8)))
+    max (max (min (50 + since / 16) 350) (14 * (min children 512 - 8))) (since * (min children 512 + 4) / 384)
 
 -- and of those, as many as are left of the 10,000 of a pause; so many pauses went by before
 abbrev pub next_slice : ℕ → ℕ → ℕ → ℕ

@@ -19,10 +19,8 @@ fn whole_slice(children: usize, since: u64) -> u64
 {
     let children = children.min(512) as u64;
     let short = (50 + since / 16).min(350);
-    let many = 10 * children.saturating_sub(8);
-    short
-        .max(many)
-        .max(since * children / (16 * (children + 8)))
+    let many = 14 * children.saturating_sub(8);
+    short.max(many).max(since * (children + 4) / 384)
 }
 
 /// The microseconds of the next slice of a pause, after this many of it, and so many pauses without an end.
@@ -34,6 +32,18 @@ pub(crate) fn slice_after(children: usize, pauses: u32, micros: u64) -> u64
 {
     let since = PAUSE * u64::from(pauses) + micros;
     whole_slice(children, since).min(PAUSE - micros)
+}
+
+/// The children that each slice looks at: those that began last, of which an end is likelier than of the others.
+pub(crate) const NEWEST: usize = 8;
+
+/// Whether all children are looked at, after this many microseconds of a pause, of which so many passed since the last look at
+/// all.
+pub(crate) fn is_due(children: usize, pauses: u32, micros: u64, unlooked: u64) -> bool
+    requires { micros ≤ 10000 }
+    ensures { IsTrue result ↔ (whole_slice children (10000 * pauses + micros) ≤ unlooked) }
+{
+    unlooked >= whole_slice(children, PAUSE * u64::from(pauses) + micros)
 }
 
 /// The milliseconds for each answer of the second half, which is spread over the limit.
