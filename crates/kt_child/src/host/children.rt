@@ -168,7 +168,7 @@ pub(crate) fn await_end<P: OpenProcess + Drop, R: Files + Clock + AllocGlobal>(
     let mut looked = 0;
     let mut rested = 0;
     while rested < PAUSE {
-        let slice = slice_after(children.len().min(NEWEST), pauses, rested);
+        let slice = slice_after(children.len(), pauses, rested);
         rest(removals, rt, slice);
         rested += slice;
         let due = is_due(

@@ -23,6 +23,9 @@ fn whole_slice(children: usize, since: u64) -> u64
     short.max(many).max(since * (children + 4) / 384)
 }
 
+/// The children that each slice looks at: those that began last, of which an end is likelier than of the others.
+pub(crate) const NEWEST: usize = 8;
+
 /// The microseconds of the next slice of a pause, after this many of it, and so many pauses without an end.
 pub(crate) fn slice_after(children: usize, pauses: u32, micros: u64) -> u64
     requires { micros ≤ 10000 }
@@ -31,11 +34,11 @@ pub(crate) fn slice_after(children: usize, pauses: u32, micros: u64) -> u64
     ensures fits { micros + result ≤ 10000 }
 {
     let since = PAUSE * u64::from(pauses) + micros;
-    whole_slice(children, since).min(PAUSE - micros)
+    let many = 3 * (children.min(512) as u64).saturating_sub(8);
+    whole_slice(children.min(NEWEST), since)
+        .max(many)
+        .min(PAUSE - micros)
 }
-
-/// The children that each slice looks at: those that began last, of which an end is likelier than of the others.
-pub(crate) const NEWEST: usize = 8;
 
 /// Whether all children are looked at, after this many microseconds of a pause, of which so many passed since the last look at
 /// all.
