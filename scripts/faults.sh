@@ -356,7 +356,7 @@ kt_removal/src/entries.rt: Err(_) => answer(os::rename(path, to.as_bytes())),
 kt_removal/src/entries.rt: fs::remove_dir(rt, directory.as_str()).is_ok()
 # Calls of these, which ask for a path that may be removed.
 kt_removal/src/removals.rt: if self.remove_file(rt, path.as_slice()).is_ok() {
-kt_removal/src/removals.rt: self.is_gone(rt, path) || self.remove_file(rt, path.as_bytes()).is_ok()
+kt_removal/src/removals.rt: self.remove_if_empty(rt, path) || self.remove_file(rt, path.as_bytes()).is_ok()
 kt_removal/src/removals.rt: self.remove_directory(rt, path.as_slice());
 kt_removal/src/named.rt: let _ = self.remove_file(rt, path.as_slice());
 # A directory that was just made, and can't be used.

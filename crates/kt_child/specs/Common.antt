@@ -15,7 +15,7 @@ pub use Rattle.kt_sched.specs.Trace.{Leads, Trace}
 pub use Rattle.kt_child.specs.Driving.Starting.{Begun}
 pub use Rattle.kt_child.specs.Driving.ChildrenState.{idle_state, is_among, shown_in}
 pub use Rattle.kt_child.specs.Driving.Board.{TakesNumber, Waited, board, board_of}
-pub use Rattle.kt_child.specs.Driving.DriverSteps.{DriverStarts, DriverWaits, StartsBy}
+pub use Rattle.kt_child.specs.Driving.DriverSteps.{DriverStarts, DriverWaits}
 pub use Rattle.kt_child.specs.Driving.JobPlan.{case_of, limit_of, list_case, list_purpose, program_directory, program_path, spawning_for, spawning_of, want_of}
 pub use Rattle.kt_child.specs.Driving.Lists.{ListsBy, RanList, WatchedList}
 pub use Rattle.kt_child.specs.Driving.Numbers.{AttemptsDiffer, NumbersDiffer}
@@ -32,6 +32,7 @@ pub use Rattle.kt_child.specs.Host.HostStands.{AllProceed, AllStay, IsLastEnd, O
 pub use Rattle.kt_child.specs.Host.Lateness.{IsAnyLate, IsLate, IsLateAt, Looks, Sees}
 pub use Rattle.kt_child.specs.Inner.Children.{IsOn, IsOnBy, IsWatched, Takes, count_in, state_after_start, with_pending}
 pub use Rattle.kt_child.specs.Inner.Host.{IsAt, IsCommandOf, IsFaultOf, IsFree, IsUnopened, RunsIn, TakesPiece, after_removed, after_set}
+pub use Rattle.kt_child.specs.Inner.Started.{IsStart}
 pub use Rattle.kt_child.specs.Planning.ChildPlan.{child_of, common_variables, env_of, own_variables, paths_of, removed_names, test_variable, variable, variable_word, words_of}
 pub use Rattle.kt_child.specs.Polling.ChildOutcome.{fresh}
 pub use Rattle.kt_child.specs.Polling.Polls.{asked_by_poll, is_due, turn_of, watch_after}

@@ -1,3 +1,4 @@
 -- What private functions do: no public clause cites it.
 pub mod Children
 pub mod Host
+pub mod Started

@@ -63,8 +63,8 @@ impl Removals {
         }
     }
 
-    /// Removes a directory that is empty, and returns whether it is gone.
-    pub(crate) fn is_gone<R: Files>(&self, rt: &R, directory: &Text) -> bool
+    /// Removes a directory if it is empty, and returns whether it is gone.
+    pub(crate) fn remove_if_empty<R: Files>(&self, rt: &R, directory: &Text) -> bool
         requires { MayEmpty self.now directory.now }
     {
         fs::remove_dir(rt, directory.as_str()).is_ok()
@@ -82,7 +82,7 @@ impl Removals {
     }
 
     /// Gives the owner of a directory that isn't empty all permissions, and returns whether they were given.
-    pub(crate) fn is_opened_up(&self, path: &[u8]) -> bool
+    pub(crate) fn give_rights(&self, path: &[u8]) -> bool
         requires { MayRemove self.now path.now }
     {
         os::chmod(path, OWNER_RIGHTS) == 0

@@ -34,7 +34,7 @@ impl Removals {
     }
 
     /// Removes the directory of these entries' names if it is empty.
-    fn is_work_removed<R: Files + AllocGlobal>(&self, rt: &R, directory: &Text) -> bool
+    fn remove_work<R: Files + AllocGlobal>(&self, rt: &R, directory: &Text) -> bool
         requires { MayEmpty self.now directory.now }
     {
         match entry_path(rt.alloc(), directory, WORK) {
@@ -46,11 +46,7 @@ impl Removals {
     /// Removes the directory of a case that holds nothing but what the driver put there, without
     /// reading its names, and returns whether it is gone. A link in its place isn't followed, and
     /// what is mounted there stays.
-    pub(crate) fn is_removed_by_names<R: Files + AllocGlobal>(
-        &self,
-        rt: &R,
-        directory: &Text,
-    ) -> bool
+    pub(crate) fn remove_by_names<R: Files + AllocGlobal>(&self, rt: &R, directory: &Text) -> bool
         requires { IsCaseOf self.now.root directory.now }
     {
         if !self.open_up(rt, directory) {
@@ -58,18 +54,18 @@ impl Removals {
         }
         self.remove_named(rt, directory, OUT);
         self.remove_named(rt, directory, ERR);
-        if !self.is_work_removed(rt, directory) {
+        if !self.remove_work(rt, directory) {
             return false;
         }
-        if self.is_gone(rt, directory) {
+        if self.remove_if_empty(rt, directory) {
             return true;
         }
         self.remove_named(rt, directory, RESULT);
-        if self.is_gone(rt, directory) {
+        if self.remove_if_empty(rt, directory) {
             return true;
         }
         self.remove_named(rt, directory, CLEANUP_OUT);
         self.remove_named(rt, directory, CLEANUP_ERR);
-        self.is_gone(rt, directory)
+        self.remove_if_empty(rt, directory)
     }
 }

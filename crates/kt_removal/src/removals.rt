@@ -118,10 +118,10 @@ impl Removals {
     }
 
     /// Removes an empty directory, or what a process put in the place of one.
-    fn is_removed<R: Files>(&self, rt: &R, path: &Text) -> bool
+    fn remove_held<R: Files>(&self, rt: &R, path: &Text) -> bool
         requires { IsHeld self.now path.now }
     {
-        self.is_gone(rt, path) || self.remove_file(rt, path.as_bytes()).is_ok()
+        self.remove_if_empty(rt, path) || self.remove_file(rt, path.as_bytes()).is_ok()
     }
 
     /// Passes over the next number, to which nothing was moved.
@@ -162,7 +162,7 @@ impl Removals {
             Ok(()) => self.progress = true,
             Err(error) => {
                 let full = error.kind() == ErrorKind::DirectoryNotEmpty;
-                if full && self.is_opened_up(path) && self.take(rt, path) {
+                if full && self.give_rights(path) && self.take(rt, path) {
                     self.progress = true;
                 }
             }
@@ -231,7 +231,7 @@ impl Removals {
         ensures progress { self.new.progress ≡ false }
         ensures done { self.new.done ≡ min (self.old.done + 1) (2 ^ 64 - 1) }
     {
-        if !self.is_removed(rt, path) && self.progress {
+        if !self.remove_held(rt, path) && self.progress {
             let _ = self.take(rt, path.as_bytes());
         }
         self.pass();
@@ -341,7 +341,7 @@ impl Removals {
             return;
         }
         self.done = self.moved;
-        let _ = self.is_removed(rt, &self.place);
+        let _ = self.remove_held(rt, &self.place);
         if fs::create_dir(rt, self.place.as_str()).is_err() {
             return;
         }
@@ -374,10 +374,10 @@ impl Removals {
     {
         let _ = self.empty(rt, root, bound);
         self.go_on(rt, bound);
-        if !self.is_gone(rt, &self.place) {
+        if !self.remove_if_empty(rt, &self.place) {
             self.try_again(rt, bound);
         }
-        self.is_gone(rt, root)
+        self.remove_if_empty(rt, root)
     }
 
     /// Removes what was passed over, such as a directory with an entry for whose path memory was refused.
@@ -391,7 +391,7 @@ impl Removals {
         if self.has_place(rt) {
             let _ = self.empty(rt, &place, bound);
             self.go_on(rt, bound);
-            let _ = self.is_gone(rt, &place);
+            let _ = self.remove_if_empty(rt, &place);
         }
     }
 
@@ -408,7 +408,7 @@ impl Removals {
         ensures place { self.new.place ≡ self.old.place }
     {
         let _ = self.empty(rt, tree, bound);
-        self.is_removed(rt, tree) || self.take(rt, tree.as_bytes())
+        self.remove_held(rt, tree) || self.take(rt, tree.as_bytes())
     }
 
     /// Removes the directory of a case, or moves it to the others, and goes on with these.
@@ -417,7 +417,7 @@ impl Removals {
         ensures place { self.new.place ≡ self.old.place }
     {
         let mut bound = Bound::at_once(rt);
-        let gone = self.is_removed_by_names(rt, tree) || self.walk(rt, tree, &mut bound);
+        let gone = self.remove_by_names(rt, tree) || self.walk(rt, tree, &mut bound);
         self.go_on(rt, &mut bound);
         gone
     }

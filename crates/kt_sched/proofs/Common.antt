@@ -23,14 +23,14 @@ pub use Rattle.kt_sched.specs.Children.{Child, IsEvidence, IsIdle, MayStart, chi
 pub use Rattle.kt_sched.specs.EntryOf.{AreEntries, Gains, IsEntry, IsEntryOf, cleaned, decided, ended, no_output, refused, uncleaned}
 pub use Rattle.kt_sched.specs.Fed.{Fed, IsAnswerTo, fed_after, has_failed, nothing_fed, role_runs, runs}
 pub use Rattle.kt_sched.specs.History.{BodyEnded, BodyRefused, BodyStarted, CleanupEnded, CleanupRefused, CleanupStarted, Mark, active, end_mark, has_whole_history, history, is_active, is_body_started, is_whole, mark_of, start_mark}
-pub use Rattle.kt_sched.specs.Inner.Answers.{CanCount, after_put, answer_of, counted, with_event}
+pub use Rattle.kt_sched.specs.Inner.Answers.{CanCount, after_put, counted, with_event}
 pub use Rattle.kt_sched.specs.Inner.Cases.{Declares, GoneThrough, IsAfter, Replaced, TookEntry, can_start, first_case, first_stage, is_over, owing_at, ready_at, record_of, stage_runs, unless}
 pub use Rattle.kt_sched.specs.Inner.Choice.{IsChosen, IsHeld, IsTurn}
 pub use Rattle.kt_sched.specs.Moments.{HasMoment}
 pub use Rattle.kt_sched.specs.Next.{AreWhole, Follows, IsNext, IsUpToDate, MayBegin, MayStartNow, WereOpen}
 pub use Rattle.kt_sched.specs.RecordOrder.{Due, ahead, dues, finished_by, is_begun, is_open, put_at, recorded, was_open}
 pub use Rattle.kt_sched.specs.Run.{Counts, FailedPut, FitsAt, NamesEachOnce, Ran}
-pub use Rattle.kt_sched.specs.SchedState.{AreGone, CaseStands, CasesStand, HasDecided, HasExclusive, HasRecord, HasStarted, HasTurn, IsAnswer, IsAsked, IsOrdinary, IsSettled, IsStage, IsStanding, IsUntaken, PutsStand, SchedState, Stands, Takes, TurnStands, after_event, decided_record, decided_record_of, ended_body, entry_with, is_active_stage, is_decided, is_decided_stage, is_fresh, is_owed, is_owing_stage, is_undecided, listed, opened, positions, record_in, stage_work, work, work_left}
+pub use Rattle.kt_sched.specs.SchedState.{AreGone, CaseStands, CasesStand, HasDecided, HasExclusive, HasRecord, HasStarted, HasTurn, Implies, IsAsked, IsOrdinary, IsSettled, IsStage, IsStanding, IsUntaken, PutsStand, SchedState, Stands, Takes, TurnStands, after_event, decided_record, decided_record_of, ended_body, entry_with, is_active_stage, is_decided, is_decided_stage, is_fresh, is_owed, is_owing_stage, is_undecided, listed, opened, positions, record_in, stage_work, work, work_left}
 pub use Rattle.kt_sched.specs.ScheduleRules.{AloneAt, AloneAtStart, BusyAt, Each, IsBusy, IsQuiet, Order, PromptAt, WidthAt, declares, owed}
 pub use Rattle.kt_sched.specs.Trace.{End, Event, Leads, NoEvent, Start, Then, Trace, event_count, first, of, position_of}
 pub use Rattle.kt_sched.specs.TurnOrder.{body_start_of, body_starts, next_to_start, turns, undecided_turns}

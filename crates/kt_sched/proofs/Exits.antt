@@ -1,5 +1,5 @@
 -- how a run ends
-use Rattle.kt_sched.proofs.Common.{Result, Option, Some, None, is_some, Ok, Err, ◌≡◌, ℕ, ◌-◌, Bool, if◌then◌else◌, List, [], refl, append-nil, take, sym, ◌∙◌, ap, subst, arith, Job, SinkFault, Totals, IsIdle, IsPlan, AreEntries, Each, BusyAt, Trace, runs, recorded, body_starts, Fed, IsNext, Follows, Ran, NoEvent, SchedState}
+use Rattle.kt_sched.proofs.Common.{Result, Option, Some, None, is_some, Ok, Err, ◌≡◌, ℕ, ◌-◌, Bool, if◌then◌else◌, List, [], refl, append-nil, take, sym, ◌∙◌, ap, subst, arith, Job, SinkFault, Totals, Implies, IsIdle, IsPlan, AreEntries, Each, BusyAt, Trace, runs, recorded, body_starts, Fed, IsNext, Follows, Ran, NoEvent, SchedState}
 use Rattle.kt_sched.specs.Run.{EndsAs}
 use Rattle.kt_sched.specs.declared.run_fault.RunFault.{RunFault}
 use Rattle.kt_base.specs.declared.no_memory.NoMemory.{NoMemory as Refusal}
@@ -12,7 +12,7 @@ use Rattle.kt_sched.proofs.Upcoming.{in_order}
 use Rattle.kt_sched.proofs.Runs.{child_at, each_of, up_to}
 use Rattle.kt_sched.proofs.Gaining.{Gained, four_calls, named_once}
 use Rattle.kt_sched.proofs.Once.{named_at_most_once, recorded_first}
-use Rattle.kt_sched.proofs.Loop.{Loop, Says, fits, owes}
+use Rattle.kt_sched.proofs.Loop.{Loop, fits, owes}
 
 module _ {L S : Type 0} (l : launcher.Ghosts L) (s : sink.Ghosts S) (plan : List Job) (n : ℕ) (old : L) (before : S) (p : IsPlan plan) where
   -- memory ran out before anything was done
@@ -31,7 +31,7 @@ module _ {L S : Type 0} (l : launcher.Ghosts L) (s : sink.Ghosts S) (plan : List
 
 module _ {L S : Type 0} {l : launcher.Ghosts L} {s : sink.Ghosts S} {plan : List Job} {n : ℕ} {old : L} {before : S} {sched : SchedState} {mid : L} {after : S}
     {totals : Totals} {fault : Option SinkFault} (p : IsPlan plan) (k : Loop l s plan n old before sched mid after totals fault)
-    (done : Says sched (λ plan n fed. IsNext plan n fed next.Done)) (after_done : Says sched (λ plan n fed. Follows plan n fed next.Done)) where
+    (done : Implies sched (λ plan n fed. IsNext plan n fed next.Done)) (after_done : Implies sched (λ plan n fed. Follows plan n fed next.Done)) where
   abbrev fed : Fed
   fed = k.fed
 

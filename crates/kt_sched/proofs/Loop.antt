@@ -1,12 +1,11 @@
 -- the run loop: what holds before each turn, and how each answer keeps it
 use Rattle.kt_base.specs.Kinds.{good as is_good}
-use Rattle.kt_sched.proofs.Common.{Bool, option_map, Option, Some, None, is_some, not, Ok, Err, ◌^◌, ◌≡◌, ◌<◌, ℕ, ◌+◌, ◌-◌, true, false, if◌then◌else◌, ◌==◌, List, [], ◌∷◌, ◌++◌, refl, append-nil, append_assoc, length-append, count_by-le-length, false_from_ne_true, cases_eq, filter, take, length, slice_get, slice_get_within, sym, ◌∙◌, ap, subst, arith, Role, Body, Cleanup, Entry, Job, StartAnswer, Ended, Next, Answer, SinkFault, Totals, Child, IsEvidence, IsIdle, IsMoment, HasMoment, MayStart, IsPlan, IsAnswer, IsAnswerTo, IsEntryOf, AreEntries, IsStorable, Start, End, Each, FitsAt, Trace, event_count, owed, is_owed, history, is_whole, runs, turns, recorded, Due, dues, is_open, running_after_start, running_after_end, pending_after_start, pending_after_end, child_of, CanCount, counted, FailedPut, Fed, fed_after, answer_of, with_event, nothing_fed, IsNext, Follows, NoEvent, SchedState, Stands}
+use Rattle.kt_sched.proofs.Common.{Bool, option_map, Option, Some, None, is_some, not, Ok, Err, ◌^◌, ◌≡◌, ◌<◌, ℕ, ◌+◌, ◌-◌, true, false, if◌then◌else◌, ◌==◌, List, [], ◌∷◌, ◌++◌, refl, append-nil, append_assoc, length-append, count_by-le-length, false_from_ne_true, cases_eq, filter, take, length, slice_get, slice_get_within, sym, ◌∙◌, ap, subst, arith, Role, Body, Cleanup, Entry, Job, StartAnswer, Ended, SinkFault, Totals, Child, IsEvidence, IsIdle, IsMoment, HasMoment, MayStart, IsPlan, IsEntryOf, AreEntries, IsStorable, Start, End, Each, FitsAt, Trace, event_count, owed, is_owed, history, is_whole, runs, turns, recorded, Due, dues, is_open, running_after_start, running_after_end, pending_after_start, pending_after_end, child_of, CanCount, counted, FailedPut, Fed, after_put, with_event, nothing_fed, IsNext, Follows, NoEvent, Case, Implies, SchedState, Stands, Takes, stage_runs}
 use Rattle.kt_sched.specs.declared.next.Next.TheVariants as next
-use Rattle.kt_sched.specs.declared.next.Answer.TheVariants as answer
-use Rattle.kt_sched.specs.declared.job.StartAnswer.TheVariants as told
 use Rattle.kt_sched.specs.declared.launcher.Launcher as launcher
 use Rattle.kt_sched.specs.declared.sink.Sink as sink
 use Rattle.kt_sched.proofs.Lists.{mapped_at, take_snoc, take_zero}
+use Rattle.kt_sched.proofs.Located.{runs_stage}
 use Rattle.kt_sched.proofs.Stages.{whole_quiet}
 use Rattle.kt_sched.proofs.Runs.{Going, Startable, Until, child_at, cleared, each_of, end_owes, end_runs, running_of, runs_now, runs_true, start_runs, until_more, until_now, while_runs}
 use Rattle.kt_sched.proofs.Gaining.{Gained, GainsUpTo, counts_more, due_put, entries_more, gained_event, gains_more, storable_entry}
@@ -23,15 +22,6 @@ pub record Loop {L S : Type 0} (l : launcher.Ghosts L) (s : sink.Ghosts S) (plan
   pub until : Until plan n fed.stopped fed.trace
   pub gained : Gained s plan n fed totals fault before after
   pub asked : sched.asked ≡ next.Done
-
--- what `next` says, and what a step of the core keeps
-abbrev pub Says : SchedState → (List Job → ℕ → Fed → Type 0) → Type 0
-Says b P = (plan : List Job) (n : ℕ) (fed : Fed) → Stands plan n fed b → P plan n fed
-
-fed_start : (fed : Fed) (asked : Next) (i : ℕ) (role : Role) (a : StartAnswer) → asked ≡ next.Start i role
-    → fed_after fed asked (answer_of a) ≡ with_event fed (Start i role a)
-fed_start fed asked i role (told.Started m) e = ap (λ (q : Next). fed_after fed q (answer.Started m)) e
-fed_start fed asked i role (told.Refused c) e = ap (λ (q : Next). fed_after fed q (answer.Refused c)) e
 
 module _ {L S : Type 0} (l : launcher.Ghosts L) (s : sink.Ghosts S) (plan : List Job) (n : ℕ) (old : L) (before : S) where
   pub loop_first : (sched : SchedState) (totals : Totals) → Stands plan n nothing_fed sched → sched.asked ≡ next.Done → IsIdle (l.running old) (l.pending old)
@@ -68,9 +58,6 @@ module _ {L S : Type 0} {l : launcher.Ghosts L} {s : sink.Ghosts S} {plan : List
   pub fits : Each (FitsAt plan) T
   fits = each_of T (λ U e y. y.fits) k.going.rules
 
-  moved_to : {q r : Next} {later : SchedState} (ans : Answer) → q ≡ r → Stands plan n (fed_after fed q ans) later → Stands plan n (fed_after fed r ans) later
-  moved_to {later = later} ans e = subst (λ (y : Next). Stands plan n (fed_after fed y ans) later) e
-
   pub owes : {o : Option ℕ} → owed plan T ≡ o → (j : ℕ) → l.pending mid j ≡ is_owed o j
   owes e j = k.going.owes j ∙ ap (λ (o : Option ℕ). is_owed o j) e
 
@@ -97,9 +84,9 @@ module _ {L S : Type 0} {l : launcher.Ghosts L} {s : sink.Ghosts S} {plan : List
     due = x.0;
   }
 
-  module _ (i : ℕ) (role : Role) (x : Says sched (λ plan n fed. IsNext plan n fed (next.Start i role)))
-      (f : Says sched (λ plan n fed. Follows plan n fed (next.Start i role)))
-      (b : SchedState) (y : Says sched (λ plan n fed. Stands plan n fed b)) (job : Job) (g : Says b (λ plan n fed. slice_get plan i ≡ Some job)) where
+  module _ (i : ℕ) (role : Role) (x : Implies sched (λ plan n fed. IsNext plan n fed (next.Start i role)))
+      (f : Implies sched (λ plan n fed. Follows plan n fed (next.Start i role)))
+      (b : SchedState) (y : Implies sched (λ plan n fed. Stands plan n fed b)) (job : Job) (g : Implies b (λ plan n fed. slice_get plan i ≡ Some job)) where
     place : slice_get plan i ≡ Some job
     place = g plan n fed (y plan n fed k.stands)
 
@@ -109,15 +96,13 @@ module _ {L S : Type 0} {l : launcher.Ghosts L} {s : sink.Ghosts S} {plan : List
     pub loop_may_start : (j : ℕ) → job.position ≡ j → MayStart (l.running mid) (l.pending mid) j role
     loop_may_start j e = subst (λ j. MayStart (l.running mid) (l.pending mid) j role) (sym (p.placed i job place) ∙ e) t.may
 
-    pub loop_start : (a : StartAnswer) (new : L) (later : SchedState) (ans : Answer) → l.starts mid job role a new → HasMoment a
+    pub loop_start : (a : StartAnswer) (new : L) (later : SchedState) → l.starts mid job role a new → HasMoment a
         → ((k : ℕ) (r : Role) → l.running new k r ≡ running_after_start (l.running mid) job role a k r)
-        → ((k : ℕ) → l.pending new k ≡ pending_after_start (l.pending mid) job.position role k) → b.asked ≡ next.Start i role → ans ≡ answer_of a
-        → Says b (λ plan n fed. Stands plan n (fed_after fed b.asked ans) later) → later.asked ≡ next.Done
+        → ((k : ℕ) → l.pending new k ≡ pending_after_start (l.pending mid) job.position role k) → Takes b (Start i role a) later
         → Loop l s plan n old before later new after totals fault
-    loop_start a new later ans w m u v q e z d = record {
+    loop_start a new later w m u v z = record {
       fed = with_event fed (Start i role a);
-      stands = subst (λ (w : Fed). Stands plan n w later) (ap (fed_after fed b.asked) e ∙ fed_start fed b.asked i role a q)
-          (z plan n fed (y plan n fed k.stands));
+      stands = z.stands plan n fed (y plan n fed k.stands);
       going = record {
         leads = (mid, job, k.going.leads, place, w);
         runs = λ j r. u j r ∙ start_runs plan T (l.running mid) k.going.runs i job role r place (p.placed i job place) t.history_is a j (cases_eq j i);
@@ -127,34 +112,33 @@ module _ {L S : Type 0} {l : launcher.Ghosts L} {s : sink.Ghosts S} {plan : List
       until = until_more plan n fed.stopped T (Start i role a) k.until (λ z. tt) (t.quiet a);
       gained = gained_event k.gained (Start i role a) p k.stands.puts.stored t.due
           (λ y g. ap (λ (y : Job). is_whole y (history i T)) (same_Some y t.now.job (sym g ∙ t.now.place)) ∙ t.now.unfinished);
-      asked = d;
+      asked = z.asked;
     }
 
   -- a wait
 
-  pub loop_may_wait : Says sched (λ plan n fed. Follows plan n fed next.Wait) → (i : ℕ) × (role : Role) × (child : Child) × (l.running mid i role ≡ Some child)
+  pub loop_may_wait : Implies sched (λ plan n fed. Follows plan n fed next.Wait) → (i : ℕ) × (role : Role) × (child : Child) × (l.running mid i role ≡ Some child)
   loop_may_wait f =
       let w = f plan n fed k.stands in
       let shown = ap (λ (b : Bool). if b then child_at plan w.0 else None) w.3 ∙ ap (option_map child_of) w.4 in
       (w.0, w.1, child_of w.2, k.going.runs w.0 w.1 ∙ shown)
 
   module _ (e : Ended) (w : (child : Child) × (l.running mid e.position e.role ≡ Some child) × IsEvidence child.interface e.role e.evidence) (b : SchedState)
-      (q : b.asked ≡ next.Wait) (y : Says sched (λ plan n fed. Stands plan n fed b)) where
+      (y : Implies sched (λ plan n fed. Stands plan n fed b)) where
     -- the child that ended is one of the plan
     one : (runs e.position e.role T ≡ true) × ((job : Job) × (slice_get plan e.position ≡ Some job) × (w.0 ≡ child_of job))
     one = runs_true plan T e.position e.role w.0 (sym (k.going.runs e.position e.role) ∙ w.1)
 
-    pub loop_answer : IsAnswer b (answer.Ended e)
-    loop_answer = (plan, n, fed, y plan n fed k.stands, subst (λ (y : Next). IsAnswerTo T y (answer.Ended e)) (sym q) one.0)
+    pub loop_runs : (c : Case) × (slice_get b.cases e.position ≡ Some c) × (stage_runs e.role c.stage ≡ true)
+    loop_runs = runs_stage (y plan n fed k.stands) e.position e.role one.0
 
-    pub loop_end : (new : L) (later : SchedState) → Says sched (λ plan n fed. IsNext plan n fed next.Wait) → l.waits mid e new → IsMoment e.moment
+    pub loop_end : (new : L) (later : SchedState) → Implies sched (λ plan n fed. IsNext plan n fed next.Wait) → l.waits mid e new → IsMoment e.moment
         → ((k : ℕ) (r : Role) → l.running new k r ≡ running_after_end (l.running mid) e k r)
         → ((k : ℕ) → l.pending new k ≡ pending_after_end (l.running mid) (l.pending mid) e k)
-        → Says b (λ plan n fed. Stands plan n (fed_after fed b.asked (answer.Ended e)) later) → later.asked ≡ next.Done
-        → Loop l s plan n old before later new after totals fault
-    loop_end new later wait v m u o z d = let ran = while_runs e.role (history e.position T) one.0 in let x = wait plan n fed k.stands in record {
+        → Takes b (End e) later → Loop l s plan n old before later new after totals fault
+    loop_end new later wait v m u o z = let ran = while_runs e.role (history e.position T) one.0 in let x = wait plan n fed k.stands in record {
       fed = with_event fed (End e);
-      stands = moved_to _ q (z plan n fed (y plan n fed k.stands));
+      stands = z.stands plan n fed (y plan n fed k.stands);
       going = record {
         leads = (mid, k.going.leads, v);
         runs = λ j r. u j r ∙ end_runs plan T (l.running mid) k.going.runs e j ran r (cases_eq j e.position);
@@ -166,12 +150,12 @@ module _ {L S : Type 0} {l : launcher.Ghosts L} {s : sink.Ghosts S} {plan : List
       until = until_more plan n fed.stopped T (End e) k.until x.2 (λ y. refl);
       gained = gained_event k.gained (End e) p k.stands.puts.stored x.0
           (λ job g. false_from_ne_true _ (λ y. cc (whole_quiet job e.role (history e.position T) y, one.0)));
-      asked = d;
+      asked = z.asked;
     }
 
   -- a put of an entry that was taken
 
-  module _ (i : ℕ) (put_next : Says sched (λ plan n fed. IsNext plan n fed (next.Put i))) where
+  module _ (i : ℕ) (put_next : Implies sched (λ plan n fed. IsNext plan n fed (next.Put i))) where
     x : IsNext plan n fed (next.Put i)
     x = put_next plan n fed k.stands
 
@@ -182,24 +166,24 @@ module _ {L S : Type 0} {l : launcher.Ghosts L} {s : sink.Ghosts S} {plan : List
       bad = omega (arith, g.counts.total, g.counts.bad, count_by-le-length (λ (e : Entry). not (is_good e.verdict.kind)) g.gained);
     }
 
-    module _ (b : SchedState) (y : Says sched (λ plan n fed. Stands plan n fed b)) (e : Entry) (v : Says b (λ plan n fed. IsEntryOf plan fed.trace i e)) where
+    module _ (b : SchedState) (y : Implies sched (λ plan n fed. Stands plan n fed b)) (e : Entry) (v : Implies b (λ plan n fed. IsEntryOf plan fed.trace i e)) where
       w : IsEntryOf plan T i e
       w = v plan n fed (y plan n fed k.stands)
 
       pub loop_storable : IsStorable e
       loop_storable = storable_entry plan T i e fits w
 
-      module _ (c later : SchedState) (q : c.asked ≡ next.Put i) (taken : Says b (λ plan n fed. Stands plan n fed c)) (d : later.asked ≡ next.Done)
+      module _ (c later : SchedState) (taken : Implies b (λ plan n fed. Stands plan n fed c)) (d : later.asked ≡ next.Done)
           (new : S) where
         now : Stands plan n fed c
         now = taken plan n fed (y plan n fed k.stands)
 
         pub loop_put : (more : Totals) → more ≡ counted totals e.verdict.kind → s.puts after e (Ok tt) new
             → ((put : List Entry) → s.entries after put → s.entries new (put ++ e ∷ []))
-            → Says c (λ plan n fed. Stands plan n (fed_after fed c.asked answer.Stored) later) → Loop l s plan n old before later mid new more fault
+            → Implies c (λ plan n fed. Stands plan n (after_put fed false) later) → Loop l s plan n old before later mid new more fault
         loop_put more m u o z = let g = k.gained in record {
-          fed = record fed { stored = fed.stored + 1 };
-          stands = moved_to _ q (z plan n fed now);
+          fed = after_put fed false;
+          stands = z plan n fed now;
           going = k.going;
           until = k.until;
           gained = record {
@@ -222,11 +206,11 @@ module _ {L S : Type 0} {l : launcher.Ghosts L} {s : sink.Ghosts S} {plan : List
 
         -- one that failed
         pub loop_failed : (cause : SinkFault) → s.puts after e (Err cause) new → ((put : List Entry) → s.entries after put → s.entries new put)
-            → Says c (λ plan n fed. Stands plan n (fed_after fed c.asked answer.StoreFailed) later)
+            → Implies c (λ plan n fed. Stands plan n (after_put fed true) later)
             → Loop l s plan n old before later mid new totals (Some cause)
         loop_failed cause u o z = let g = k.gained in record {
-          fed = record fed { stopped = Some (event_count T) };
-          stands = moved_to _ q (z plan n fed now);
+          fed = after_put fed true;
+          stands = z plan n fed now;
           going = k.going;
           until = until_now plan n fed.stopped T x.0 k.until;
           gained = record {

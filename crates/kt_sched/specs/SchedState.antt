@@ -249,6 +249,10 @@ pub record Stands (plan : List Job) (n : ℕ) (fed : Fed) (b : SchedState) : Typ
   pub told : (i : ℕ) → b.ready ≡ Some i → b.asked ≡ next.Done → HasRecord b.cases i
   pub asked : IsAsked b b.asked
 
+-- what holds of each plan, width and answers that the state stands for
+abbrev pub Implies : SchedState → (List Job → ℕ → Fed → Type 0) → Type 0
+Implies b P = (plan : List Job) (n : ℕ) (fed : Fed) → Stands plan n fed b → P plan n fed
+
 -- the state after an event: these cases, this turn, so many active, what is owed and what is ready
 abbrev pub after_event : SchedState → List Case → ℕ → ℕ → Option ℕ → Option ℕ → SchedState
 after_event b cases turn active pending ready = record b { cases = cases; turn = turn; active = active; pending = pending; ready = ready; asked = next.Done }
@@ -263,6 +267,6 @@ IsAnswer b answer = (plan : List Job) × (n : ℕ) × (fed : Fed) × Stands plan
 
 -- an event leads the scheduler from the first state to the second: it stands for one event more, and has less work left
 pub record Takes (old : SchedState) (e : Event) (new : SchedState) : Type 0 where
-  pub stands : (plan : List Job) (n : ℕ) (fed : Fed) → Stands plan n fed old → Stands plan n (record fed { trace = Then fed.trace e }) new
+  pub stands : Implies old (λ plan n fed. Stands plan n (record fed { trace = Then fed.trace e }) new)
   pub less : work_left new < work_left old
   pub asked : new.asked ≡ next.Done

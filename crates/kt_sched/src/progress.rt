@@ -15,21 +15,16 @@ pub fn after_start(alloc: Global, was: Stage, role: Role, told: StartAnswer) -> 
     requires { can_start role was ≡ true }
     ensures { (i : ℕ) (cleanup : Bool) → IsAfter cleanup was (Start i role told) result }
 {
-    match role {
-        Role::Body => match was {
-            Stage::Waiting => match told {
-                StartAnswer::Started(moment) => Stage::Running(moment),
-                StartAnswer::Refused(cause) => Stage::Finished(refused_record(alloc, cause)),
-            },
-            _ => unreachable!(),
+    match (role, was) {
+        (Role::Body, Stage::Waiting) => match told {
+            StartAnswer::Started(moment) => Stage::Running(moment),
+            StartAnswer::Refused(cause) => Stage::Finished(refused_record(alloc, cause)),
         },
-        Role::Cleanup => match was {
-            Stage::Owing(body) => match told {
-                StartAnswer::Started(_) => Stage::Cleaning(body),
-                StartAnswer::Refused(_) => Stage::Finished(uncleaned_record(alloc, body)),
-            },
-            _ => unreachable!(),
+        (Role::Cleanup, Stage::Owing(body)) => match told {
+            StartAnswer::Started(_) => Stage::Cleaning(body),
+            StartAnswer::Refused(_) => Stage::Finished(uncleaned_record(alloc, body)),
         },
+        _ => unreachable!(),
     }
 }
 

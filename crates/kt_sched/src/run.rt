@@ -1,8 +1,8 @@
 ghost use Rattle.std.specs.Prelude.{◌≡◌};
-ghost use Rattle.kt_sched.specs.Common.{IsIdle, IsPlan, IsWidth, answer_of, Ran};
+ghost use Rattle.kt_sched.specs.Common.{IsIdle, IsPlan, IsWidth, Ran};
 
 use crate::count::counted;
-use crate::{Answer, Job, Launcher, Next, RunFault, Sched, Sink, SinkFault, StartAnswer, Totals};
+use crate::{Job, Launcher, Next, RunFault, Sched, Sink, SinkFault, Totals};
 use kt_base::Items;
 use std::alloc::Global;
 
@@ -30,22 +30,22 @@ pub fn run_cases<L: Launcher, S: Sink>(
         match sched.next() {
             Next::Start(i, role) => {
                 let told = launcher.start(sched.job(i), role);
-                sched.feed(answer_of(told));
+                sched.started(i, role, told);
             }
             Next::Wait => {
                 let ended = launcher.wait();
-                sched.feed(Answer::Ended(ended));
+                sched.ended(ended);
             }
             Next::Put(i) => {
                 let entry = sched.take(i);
                 let more = counted(totals, entry.verdict.kind());
                 match sink.put(entry) {
                     Ok(()) => {
-                        sched.feed(Answer::Stored);
+                        sched.put(i, false);
                         totals = more;
                     }
                     Err(cause) => {
-                        sched.feed(Answer::StoreFailed);
+                        sched.put(i, true);
                         fault = Some(cause);
                     }
                 }
@@ -57,15 +57,5 @@ pub fn run_cases<L: Launcher, S: Sink>(
                 };
             }
         }
-    }
-}
-
-/// What the core is told of a start.
-fn answer_of(told: StartAnswer) -> Answer
-    ensures { result ≡ answer_of told }
-{
-    match told {
-        StartAnswer::Started(moment) => Answer::Started(moment),
-        StartAnswer::Refused(cause) => Answer::Refused(cause),
     }
 }

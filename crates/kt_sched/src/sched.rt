@@ -57,8 +57,8 @@ impl Model for Sched {
 }
 
 impl Sched {
-    ghost use Rattle.std.specs.Prelude.{◌≡◌, ℕ, List, length, ◌^◌, Some, slice_get, IfOk, ◌<◌, ◌+◌, true, false};
-    ghost use Rattle.kt_sched.specs.Common.{Job, Next, Start, End, Case, Role, IsPlan, IsWidth, Fed, after_put, fed_after, nothing_fed, IsNext, Follows, IsEntryOf, IsChosen, IsTurn, stage_runs, SchedState, Stands, IsAnswer, IsSettled, HasRecord, CanLend, HoldsEntry, Takes, work_left, Works};
+    ghost use Rattle.std.specs.Prelude.{◌≡◌, ℕ, length, ◌^◌, Some, slice_get, IfOk, ◌<◌, ◌+◌, true, false};
+    ghost use Rattle.kt_sched.specs.Common.{Next, Start, End, Case, Role, IsPlan, IsWidth, after_put, fed_after, nothing_fed, IsNext, Follows, IsEntryOf, IsChosen, IsTurn, stage_runs, Implies, SchedState, Stands, IsAnswer, IsSettled, HasRecord, CanLend, HoldsEntry, Takes, work_left, Works};
 
     /// The core before its first answer.
     pub fn new(alloc: Global, plan: Items<Job>, width: u32) -> Result<Sched, NoMemory>
@@ -88,8 +88,7 @@ impl Sched {
     /// The plan's job at a position, until its entry is taken.
     pub fn job(&self, position: u32) -> &Job
         requires { CanLend self.now position }
-        ensures { (plan : List Job) (n : ℕ) (fed : Fed) → Stands plan n fed self.now
-            → slice_get plan position ≡ Some result.now }
+        ensures { Implies self.now (λ plan _ _. slice_get plan position ≡ Some result.now) }
     {
         &self.cases[position as usize].job
     }
@@ -100,10 +99,8 @@ impl Sched {
         requires told { HoldsEntry self.old position }
         ensures less { work_left self.new < work_left self.old }
         ensures asked { self.new.asked ≡ Next.Put position }
-        ensures stands { (plan : List Job) (n : ℕ) (fed : Fed) → Stands plan n fed self.old
-            → Stands plan n fed self.new }
-        ensures entry { (plan : List Job) (n : ℕ) (fed : Fed) → Stands plan n fed self.old
-            → IsEntryOf plan fed.trace position result }
+        ensures stands { Implies self.old (λ plan n fed. Stands plan n fed self.new) }
+        ensures entry { Implies self.old (λ plan _ fed. IsEntryOf plan fed.trace position result) }
     {
         let taken = take_entry(self.alloc, &mut self.cases, position);
         taken
@@ -114,30 +111,25 @@ impl Sched {
         requires { IsAnswer self.old answer }
         ensures works { Works self.old.asked (work_left self.old) (work_left self.new) }
         ensures asked { self.new.asked ≡ Next.Done }
-        ensures stands { (plan : List Job) (n : ℕ) (fed : Fed) → Stands plan n fed self.old
-            → Stands plan n (fed_after fed self.old.asked answer) self.new }
+        ensures stands { Implies self.old
+            (λ plan n fed. Stands plan n (fed_after fed self.old.asked answer) self.new) }
     {
-        match self.asked {
-            Next::Start(i, role) => match answer {
-                Answer::Started(moment) => self.started(i, role, StartAnswer::Started(moment)),
-                Answer::Refused(cause) => self.started(i, role, StartAnswer::Refused(cause)),
-                _ => unreachable!(),
-            },
-            Next::Wait => match answer {
-                Answer::Ended(ended) => self.ended(ended),
-                _ => unreachable!(),
-            },
-            Next::Put(i) => match answer {
-                Answer::Stored => self.put(i, false),
-                Answer::StoreFailed => self.put(i, true),
-                _ => unreachable!(),
-            },
-            Next::Done => unreachable!(),
+        match (self.asked, answer) {
+            (Next::Start(i, role), Answer::Started(moment)) => {
+                self.started(i, role, StartAnswer::Started(moment));
+            }
+            (Next::Start(i, role), Answer::Refused(cause)) => {
+                self.started(i, role, StartAnswer::Refused(cause));
+            }
+            (Next::Wait, Answer::Ended(ended)) => self.ended(ended),
+            (Next::Put(i), Answer::Stored) => self.put(i, false),
+            (Next::Put(i), Answer::StoreFailed) => self.put(i, true),
+            _ => unreachable!(),
         }
     }
 
     /// A start that was asked for was answered.
-    fn started(&mut self, i: u32, role: Role, told: StartAnswer)
+    pub(crate) fn started(&mut self, i: u32, role: Role, told: StartAnswer)
         requires { self.old.asked ≡ Next.Start i role }
         ensures { Takes self.old (Start i role told) self.new }
     {
@@ -153,7 +145,7 @@ impl Sched {
     }
 
     /// A child ended.
-    fn ended(&mut self, ended: Ended)
+    pub(crate) fn ended(&mut self, ended: Ended)
         requires asked { self.old.asked ≡ Next.Wait }
         requires runs { (c : Case) × (slice_get self.old.cases ended.position ≡ Some c)
             × (stage_runs ended.role c.stage ≡ true) }
@@ -172,14 +164,11 @@ impl Sched {
 
     /// What is to be done next.
     pub fn next(&mut self) -> Next
-        ensures next { (plan : List Job) (n : ℕ) (fed : Fed) → Stands plan n fed self.old
-            → IsNext plan n fed result }
-        ensures only { (plan : List Job) (n : ℕ) (fed : Fed) → Stands plan n fed self.old
-            → (other : Next) → IsNext plan n fed other → other ≡ result }
-        ensures follows { (plan : List Job) (n : ℕ) (fed : Fed) → Stands plan n fed self.old
-            → Follows plan n fed result }
-        ensures stands { (plan : List Job) (n : ℕ) (fed : Fed) → Stands plan n fed self.old
-            → Stands plan n fed self.new }
+        ensures next { Implies self.old (λ plan n fed. IsNext plan n fed result) }
+        ensures only { Implies self.old
+            (λ plan n fed. (other : Next) → IsNext plan n fed other → other ≡ result) }
+        ensures follows { Implies self.old (λ plan n fed. Follows plan n fed result) }
+        ensures stands { Implies self.old (λ plan n fed. Stands plan n fed self.new) }
         ensures same { work_left self.new ≡ work_left self.old }
         ensures asked { self.new.asked ≡ result }
         ensures lends { (i : ℕ) (role : Role) → result ≡ Next.Start i role → CanLend self.new i }
@@ -194,8 +183,7 @@ impl Sched {
 
     /// Readies a decided case for its put, if it has its turn.
     fn open_decided(&mut self)
-        ensures stands { (plan : List Job) (n : ℕ) (fed : Fed) → Stands plan n fed self.old
-            → Stands plan n fed self.new }
+        ensures stands { Implies self.old (λ plan n fed. Stands plan n fed self.new) }
         ensures same { self.new.cases ≡ self.old.cases }
         ensures settled { IsSettled self.new }
         ensures told { self.old.asked ≡ Next.Done → (i : ℕ) → self.new.ready ≡ Some i
@@ -251,12 +239,12 @@ impl Sched {
     }
 
     /// A put was answered. After one that failed nothing more is put, and no further body is started.
-    fn put(&mut self, i: u32, failed: bool)
+    pub(crate) fn put(&mut self, i: u32, failed: bool)
         requires { self.old.asked ≡ Next.Put i }
         ensures same { self.new.cases ≡ self.old.cases }
         ensures asked { self.new.asked ≡ Next.Done }
-        ensures stands { (plan : List Job) (n : ℕ) (fed : Fed) → Stands plan n fed self.old
-            → Stands plan n (after_put fed failed) self.new }
+        ensures stands { Implies self.old
+            (λ plan n fed. Stands plan n (after_put fed failed) self.new) }
     {
         self.ready = None;
         self.failed = failed;

@@ -26,8 +26,8 @@ pub fn first_cases(alloc: Global, plan: Vec<Job>) -> Result<Vec<Case>, NoMemory>
 }
 
 /// The positions of a plan's cases in turn order: ordinary ones, then exclusive ones.
-pub fn turn_order(alloc: Global, plan: &Vec<Job>) -> Result<Vec<u32>, NoMemory>
-    ensures { IfOk result (λ order. order.items ≡ positions (turns plan.now.items)) }
+pub fn turn_order(alloc: Global, plan: &[Job]) -> Result<Vec<u32>, NoMemory>
+    ensures { IfOk result (λ order. order.items ≡ positions (turns plan.now)) }
 {
     let mut order: Vec<u32> = Vec::new(alloc);
     add_positions(plan, false, &mut order)?;
@@ -36,9 +36,9 @@ pub fn turn_order(alloc: Global, plan: &Vec<Job>) -> Result<Vec<u32>, NoMemory>
 }
 
 /// Adds the positions of the cases that are exclusive, or of those that are not.
-fn add_positions(plan: &Vec<Job>, exclusive: bool, order: &mut Vec<u32>) -> Result<(), NoMemory>
+fn add_positions(plan: &[Job], exclusive: bool, order: &mut Vec<u32>) -> Result<(), NoMemory>
     ensures { OnOk result (order.new.items ≡ order.old.items
-        ++ positions_where exclusive plan.now.items) }
+        ++ positions_where exclusive plan.now) }
 {
     for job in plan {
         if job.exclusive == exclusive {

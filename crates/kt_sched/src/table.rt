@@ -17,25 +17,25 @@ pub fn replace_stage(cases: &mut Vec<Case>, i: u32, stage: Stage) -> Stage
 }
 
 /// Whether a case declares a cleanup.
-pub fn declares_cleanup(cases: &Vec<Case>, i: u32) -> bool
-    requires { i < length cases.now.items }
-    ensures { Declares cases.now.items i result }
+pub fn declares_cleanup(cases: &[Case], i: u32) -> bool
+    requires { i < length cases.now }
+    ensures { Declares cases.now i result }
 {
     cases[i as usize].job.cleanup
 }
 
 /// Whether a case is exclusive.
-pub fn is_exclusive(cases: &Vec<Case>, i: u32) -> bool
-    requires { i < length cases.now.items }
-    ensures { HasExclusive cases.now.items i result }
+pub fn is_exclusive(cases: &[Case], i: u32) -> bool
+    requires { i < length cases.now }
+    ensures { HasExclusive cases.now i result }
 {
     cases[i as usize].job.exclusive
 }
 
 /// Whether a case waits for its turn to be put with its decided verdict.
-pub fn is_decided(cases: &Vec<Case>, i: u32) -> bool
-    requires { i < length cases.now.items }
-    ensures { HasDecided cases.now.items i result }
+pub fn is_decided(cases: &[Case], i: u32) -> bool
+    requires { i < length cases.now }
+    ensures { HasDecided cases.now i result }
 {
     matches!(&cases[i as usize].stage, Stage::Decided)
 }

@@ -1,83 +1,46 @@
--- A statement includes a file, or the next statement follows.
-use Rattle.std.proofs.Common.{Bool, true, false, nat_le, bytes_eq, if◌then◌else◌, Option, Some, None, Result, Ok, Err, ◌≡◌, ◌<◌, ◌+◌, ◌-◌, ℕ, List, [], ◌∷◌, ◌++◌, length, arith, length-append, refl, sym, subst, ap}
-use Rattle.kt_suite.proofs.Common.{nat_tests, list_any, IncludeLoop, TooDeep, append_assoc, append-nil, Stmt, SuiteFault, Meaning, Registry, Step, Next, Enter, Chain, Asked, meaning_of, Site, Mark, File, Part, Includes, said, suite_after, entry_fault, Unfolds, end, entered, file_limit, questions_in, Counted, Walked, through, stops, short, FileGives, MeaningGives, Stepped, goes, enters, fails}
-use Rattle.kt_suite.proofs.Counting.{same_reading, next-append}
+-- What the step of a statement gives, with the file that it includes.
+use Rattle.std.proofs.Common.{Bool, true, false, nat_le, bytes_eq, if◌then◌else◌, Some, None, Result, Ok, Err, ◌≡◌, ◌<◌, ◌+◌, ℕ, List, [], ◌∷◌, ◌++◌, length, arith, refl, sym, subst, ap}
+use Rattle.kt_suite.proofs.Common.{nat_tests, list_any, IncludeLoop, TooDeep, append-nil, SuiteFault, Meaning, Registry, Step, Next, Enter, Asked, Site, Mark, File, Part, Includes, said, entry_fault, Unfolds, end, entered, file_limit, Walked, through, FileGives, MeaningGives, Stepped, goes, enters, fails}
+use Rattle.kt_suite.proofs.Walking.{walked-then}
 use Rattle.kt_suite.proofs.Unfolding.{unfolds_to}
-use Rattle.kt_suite.proofs.Reading.{begun, Reading, reading_next, reading_stops}
 
--- what an included file gives, its include gives
-pub walk_include : {T : Type 0} (asks : T → Asked → T → Type 0) (old new : T) (r : Registry) (at : Site) (m : Meaning) (path : List ℕ) (result : Result Registry SuiteFault) → said at true m ≡ Includes at path ∷ [] → entry_fault r.reading path ≡ None → r.files < file_limit
-    → Walked asks old new (FileGives r.reading path) (record r { files = r.files + 1 }) result → Walked asks old new (MeaningGives r.reading at m) r result
-walk_include asks old new r at m path _ p e n (through marks after g c k) =
-    through (File at ∷ (marks ++ [])) after
-    (record { there = true; unfolds = subst (λ (ps : List Part). Unfolds r.reading ps (File at ∷ (marks ++ []))) (sym p) (entered r.reading at path g.parts marks [] [] e g.says g.unfolds (end r.reading)) })
-    (subst (λ (ms : List Mark). Chain asks old (questions_in ms) new) (sym (append-nil marks)) c)
-    (n, subst (λ (ms : List Mark). Counted (record r { files = r.files + 1 }) ms after) (sym (append-nil marks)) k)
-walk_include asks old new r at m path _ p e n (stops front back mark last fault g c k d) =
-    stops (File at ∷ front) (back ++ []) mark last fault
-    (record {
-      there = true;
-      unfolds = subst (λ (ps : List Part). Unfolds r.reading ps (File at ∷ (front ++ mark ∷ (back ++ [])))) (sym p)
-          (unfolds_to r.reading (Includes at path ∷ []) (File at ∷ (front ++ mark ∷ back ++ [])) (File at ∷ (front ++ mark ∷ (back ++ []))) (ap (λ (ms : List Mark). File at ∷ ms) (append_assoc front (mark ∷ back) []))
-          (entered r.reading at path g.parts (front ++ mark ∷ back) [] [] e g.says g.unfolds (end r.reading)));
-    })
-    c (n, k) d
-walk_include asks old new r at m path _ p e n (short front back more last fault g l c k s) =
-    short (File at ∷ front) (back ++ []) more last fault
-    (record {
-      there = true;
-      unfolds = subst (λ (ps : List Part). Unfolds r.reading ps (File at ∷ (front ++ (back ++ [])))) (sym p)
-          (unfolds_to r.reading (Includes at path ∷ []) (File at ∷ (front ++ back ++ [])) (File at ∷ (front ++ (back ++ []))) (ap (λ (ms : List Mark). File at ∷ ms) (append_assoc front back []))
-          (entered r.reading at path g.parts (front ++ back) [] [] e g.says g.unfolds (end r.reading)));
-    })
-    (next-append back [] more l) c (n, k) s
+module _ {T : Type 0} {asks : T → Asked → T → Type 0} where
+  -- what an included file gives, its include gives
+  walk_include : {old new : T} {r : Registry} {at : Site} {m : Meaning} {path : List ℕ} {result : Result Registry SuiteFault}
+      → said at true m ≡ Includes at path ∷ [] → entry_fault r.reading path ≡ None → r.files < file_limit
+      → Walked asks old new (FileGives r.reading path) (record r { files = r.files + 1 }) result → Walked asks old new (MeaningGives r.reading at m) r result
+  walk_include {old = old} {r = r} {at = at} {m = m} {path = path} p e n w =
+      let one : Walked asks old old (λ (ms : List Mark). ms ≡ File at ∷ []) r (Ok (record r { files = r.files + 1 })) = through (File at ∷ []) _ refl refl (n, refl) in
+      walked-then one w (λ a marks q g. subst (λ (ms : List Mark). MeaningGives r.reading at m (ms ++ marks)) (sym q)
+      (record {
+        there = true;
+        unfolds = subst (λ (ps : List Part). Unfolds r.reading ps (File at ∷ marks)) (sym p)
+            (unfolds_to r.reading (Includes at path ∷ []) (File at ∷ (marks ++ [])) (File at ∷ marks) (ap (λ (ms : List Mark). File at ∷ ms) (append-nil marks))
+            (entered r.reading at path g.parts marks [] [] e g.says g.unfolds (end r.reading)));
+      }))
 
--- the four ways on behind a step
-pub step_stops : {T : Type 0} (asks : T → Asked → T → Type 0) (old mid new : T) (start : Registry) (file : List ℕ) (r : Registry) (suite : Option (List ℕ)) (stmt : Stmt) (rest left : List Stmt) (fault : SuiteFault) → left ≡ stmt ∷ rest
-    → Reading asks old mid start file r suite left
-    → Stepped asks mid new r (record { file = file; line = stmt.line }) (meaning_of suite stmt.action) (Err fault)
-    → Walked asks old new (FileGives start.reading file) start (Err fault)
-step_stops asks old mid new start file r suite stmt rest left _ e f (fails fault w) = reading_stops asks old mid new start file r suite stmt rest left fault e f w
+  -- a step that failed
+  pub step_stops : {old new : T} {r : Registry} {at : Site} {m : Meaning} {fault : SuiteFault} → Stepped asks old new r at m (Err fault)
+      → Walked asks old new (MeaningGives r.reading at m) r (Err fault)
+  step_stops (fails fault w) = w
 
-next_step : {T : Type 0} (asks : T → Asked → T → Type 0) (old mid new : T) (start : Registry) (file : List ℕ) (r after : Registry) (suite : Option (List ℕ)) (stmt : Stmt) (rest left : List Stmt) → left ≡ stmt ∷ rest
-    → Reading asks old mid start file r suite left
-    → Stepped asks mid new r (record { file = file; line = stmt.line }) (meaning_of suite stmt.action) (Ok (Next after))
-    → Reading asks old new start file after (suite_after suite (meaning_of suite stmt.action)) rest
-next_step asks old mid new start file r _ suite stmt rest left e f (goes after w) = reading_next asks old mid new start file r after suite stmt rest left e f w
+  -- one that went on to the next statement
+  pub step_next : {old new : T} {r after : Registry} {at : Site} {m : Meaning} {step : Step} → step ≡ Next after → Stepped asks old new r at m (Ok step)
+      → Walked asks old new (MeaningGives r.reading at m) r (Ok after)
+  step_next {old = old} {new = new} {r = r} {after = after} {at = at} {m = m} is s = gone_on (subst (λ (x : Step). Stepped asks old new r at m (Ok x)) is s)
+    where
+      gone_on : Stepped asks old new r at m (Ok (Next after)) → Walked asks old new (MeaningGives r.reading at m) r (Ok after)
+      gone_on (goes _ w) = w
 
-pub step_next : {T : Type 0} (asks : T → Asked → T → Type 0) (old mid new : T) (start : Registry) (file : List ℕ) (r after : Registry) (suite named : Option (List ℕ)) (step : Step) (stmt : Stmt) (rest left : List Stmt) → left ≡ stmt ∷ rest → step ≡ Next after
-    → Reading asks old mid start file r suite left
-    → Stepped asks mid new r (record { file = file; line = stmt.line }) (meaning_of suite stmt.action) (Ok step) → named ≡ suite_after suite (meaning_of suite stmt.action)
-    → Reading asks old new start file after named rest
-step_next asks old mid new start file r after suite named step stmt rest left e is f s n =
-    subst (λ (x : Option (List ℕ)). Reading asks old new start file after x rest) (sym n)
-    (next_step asks old mid new start file r after suite stmt rest left e f (subst (λ (x : Step). Stepped asks mid new r (record { file = file; line = stmt.line }) (meaning_of suite stmt.action) (Ok x)) is s))
-
-inner_walk : {T : Type 0} (asks : T → Asked → T → Type 0) (mid sub new : T) (r next : Registry) (at : Site) (m : Meaning) (path : List ℕ) (result : Result Registry SuiteFault)
-    → Stepped asks mid sub r at m (Ok (Enter next path)) → Walked asks sub new (FileGives next.reading path) next result → Walked asks mid new (MeaningGives r.reading at m) r result
-inner_walk asks mid sub new r _ at m _ result (enters path p e n s) w =
-    walk_include asks mid new r at m path result p e n (subst (λ t. Walked asks t new (FileGives r.reading path) (record r { files = r.files + 1 }) result) s w)
-
-inner : {T : Type 0} (asks : T → Asked → T → Type 0) (mid sub new : T) (r next : Registry) (at : Site) (m : Meaning) (path : List ℕ) (step : Step) (result : Result Registry SuiteFault) → step ≡ Enter next path
-    → Stepped asks mid sub r at m (Ok step) → Walked asks sub new (FileGives next.reading path) next result → Walked asks mid new (MeaningGives r.reading at m) r result
-inner asks mid sub new r next at m path step result is s w = inner_walk asks mid sub new r next at m path result (subst (λ (x : Step). Stepped asks mid sub r at m (Ok x)) is s) w
-
-pub step_inner : {T : Type 0} (asks : T → Asked → T → Type 0) (old mid sub new : T) (start : Registry) (file : List ℕ) (r next after : Registry) (suite named : Option (List ℕ)) (path : List ℕ) (step : Step) (stmt : Stmt) (rest left : List Stmt) → left ≡ stmt ∷ rest → step ≡ Enter next path
-    → Reading asks old mid start file r suite left
-    → Stepped asks mid sub r (record { file = file; line = stmt.line }) (meaning_of suite stmt.action) (Ok step) → named ≡ suite_after suite (meaning_of suite stmt.action)
-    → Walked asks sub new (FileGives next.reading path) next (Ok after)
-    → Reading asks old new start file after named rest
-step_inner asks old mid sub new start file r next after suite named path step stmt rest left e is f s n w =
-    subst (λ (x : Option (List ℕ)). Reading asks old new start file after x rest) (sym n)
-    (reading_next asks old mid new start file r after suite stmt rest left e f (inner asks mid sub new r next (record { file = file; line = stmt.line }) (meaning_of suite stmt.action) path step (Ok after) is s w))
-
-pub step_inner_stops : {T : Type 0} (asks : T → Asked → T → Type 0) (old mid sub new : T) (start : Registry) (file : List ℕ) (r next : Registry) (suite : Option (List ℕ)) (path : List ℕ) (step : Step) (stmt : Stmt) (rest left : List Stmt) (fault : SuiteFault) → left ≡ stmt ∷ rest → step ≡ Enter next path
-    → Reading asks old mid start file r suite left
-    → Stepped asks mid sub r (record { file = file; line = stmt.line }) (meaning_of suite stmt.action) (Ok step)
-    → Walked asks sub new (FileGives next.reading path) next (Err fault)
-    → Walked asks old new (FileGives start.reading file) start (Err fault)
-step_inner_stops asks old mid sub new start file r next suite path step stmt rest left fault e is f s w =
-    reading_stops asks old mid new start file r suite stmt rest left fault e f (inner asks mid sub new r next (record { file = file; line = stmt.line }) (meaning_of suite stmt.action) path step (Err fault) is s w)
+  -- one that entered a file, which was read
+  pub step_inner : {mid sub new : T} {r next : Registry} {at : Site} {m : Meaning} {path : List ℕ} {step : Step} {result : Result Registry SuiteFault} → step ≡ Enter next path
+      → Stepped asks mid sub r at m (Ok step) → Walked asks sub new (FileGives next.reading path) next result → Walked asks mid new (MeaningGives r.reading at m) r result
+  step_inner {mid = mid} {sub = sub} {new = new} {r = r} {at = at} {m = m} {result = result} is s w = gone_in (subst (λ (x : Step). Stepped asks mid sub r at m (Ok x)) is s) w
+    where
+      gone_in : {next : Registry} {path : List ℕ} → Stepped asks mid sub r at m (Ok (Enter next path)) → Walked asks sub new (FileGives next.reading path) next result
+          → Walked asks mid new (MeaningGives r.reading at m) r result
+      gone_in (enters path p e n same) v =
+          walk_include p e n (subst (λ t. Walked asks t new (FileGives r.reading path) (record r { files = r.files + 1 }) result) same v)
 
 not_le : (n : ℕ) (b : Bool) → nat_le 32 n ≡ b → (if b then Some TooDeep else None) ≡ None → n < 32
 not_le n true h e = absurd (cc)
@@ -87,17 +50,5 @@ below : (loop : Bool) (n : ℕ) → (if loop then Some IncludeLoop else if nat_l
 below true n e = absurd (cc)
 below false n e = not_le n (nat_le 32 n) refl e
 
-entered_below : (files : List (List ℕ)) (path : List ℕ) → entry_fault files path ≡ None → length files < 32
+pub entered_below : (files : List (List ℕ)) (path : List ℕ) → entry_fault files path ≡ None → length files < 32
 entered_below files path e = below (list_any (bytes_eq path) files) (length files) e
-
--- a file is entered with fewer files open than the most
-deep : {T : Type 0} (asks : T → Asked → T → Type 0) (old mid sub : T) (start : Registry) (file : List ℕ) (r next : Registry) (suite : Option (List ℕ)) (m : Meaning) (at : Site) (path : List ℕ) (left : List Stmt)
-    → Reading asks old mid start file r suite left → Stepped asks mid sub r at m (Ok (Enter next path)) → 32 - length next.reading < 32 - length start.reading
-deep asks old mid sub start file r _ suite m at _ left f (enters path p e n s) =
-    let same = ap (λ (xs : List (List ℕ)). length xs) (same_reading (begun start file) r f.front f.counted) in
-    let room = entered_below r.reading path e in
-    omega (arith, same, room, length-append start.reading (file ∷ []))
-
-pub deeper : {T : Type 0} (asks : T → Asked → T → Type 0) (old mid sub : T) (start : Registry) (file : List ℕ) (r next : Registry) (suite : Option (List ℕ)) (m : Meaning) (at : Site) (path : List ℕ) (step : Step) (left : List Stmt) → step ≡ Enter next path
-    → Reading asks old mid start file r suite left → Stepped asks mid sub r at m (Ok step) → 32 - length next.reading < 32 - length start.reading
-deeper asks old mid sub start file r next suite m at path step left is f s = deep asks old mid sub start file r next suite m at path left f (subst (λ (x : Step). Stepped asks mid sub r at m (Ok x)) is s)

@@ -4,11 +4,12 @@ pub mod Tables
 pub mod TableLoops
 pub mod Counting
 pub mod Unfolding
+pub mod Walking
 pub mod Openings
 pub mod OneStep
 pub mod OpenedFiles
-pub mod Reading
 pub mod Inclusions
+pub mod Reading
 pub mod Registering
 pub mod Agreement
 pub mod SteadyTrees

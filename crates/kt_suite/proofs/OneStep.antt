@@ -5,46 +5,48 @@ use Rattle.kt_base.specs.declared.child.Interface.{Interface}
 use Rattle.kt_suite.specs.Inner.Walks.{counts}
 use Rattle.kt_suite.specs.declared.statement.Meaning.TheVariants as meaning
 use Rattle.kt_suite.proofs.Unfolding.{some_file, some_marks}
+use Rattle.kt_suite.proofs.Walking.{walked-as}
 
 -- what holds of an out-of-memory fault and of another one
 pub blamed : (P : SuiteFault → Type 0) (other fault : SuiteFault) → (IsNoMemory fault → P fault) → P other → IsNoMemory fault ⊎ (fault ≡ other) → P fault
 blamed P other fault p q (inl n) = p n
 blamed P other fault p q (inr e) = subst P (sym e) q
 
--- the program isn't there
-pub adds_missing : {S : Type 0} (leads : S → Asked → S → Type 0) (old new : S) (at : Site) (r : Registry) (p : Program) (there : Bool) (fault : SuiteFault) → leads old (Exists p.path there) new → there ≡ false
-    → IsNoMemory fault ⊎ (fault ≡ site_fault at MissingProgram) → Adds leads old new at r p (Err fault)
-adds_missing leads old new at r p there fault h e b =
-    let asked = subst (λ (x : Bool). leads old (Exists p.path x) new) e h in
-    blamed (λ f. Adds leads old new at r p (Err f)) (site_fault at MissingProgram) fault
-    (short (Asks (Exists p.path false) ∷ []) (Fault (site_fault at MissingProgram) ∷ []) [] r fault (false, refl) (no_question _) (new, asked, refl) refl)
-    (stops (Asks (Exists p.path false) ∷ []) [] (Fault (site_fault at MissingProgram)) r (site_fault at MissingProgram) (false, refl) (new, asked, refl) refl (is_fault (site_fault at MissingProgram))) b
+module _ {S : Type 0} (leads : S → Asked → S → Type 0) where
+  -- the program isn't there
+  pub adds_missing : (old new : S) (at : Site) (r : Registry) (p : Program) (there : Bool) (fault : SuiteFault) → leads old (Exists p.path there) new → there ≡ false
+      → IsNoMemory fault ⊎ (fault ≡ site_fault at MissingProgram) → Adds leads old new at r p (Err fault)
+  adds_missing old new at r p there fault h e b =
+      let asked = subst (λ (x : Bool). leads old (Exists p.path x) new) e h in
+      blamed (λ f. Adds leads old new at r p (Err f)) (site_fault at MissingProgram) fault
+      (short (Asks (Exists p.path false) ∷ []) (Fault (site_fault at MissingProgram) ∷ []) [] r fault (false, refl) (no_question _) (new, asked, refl) refl)
+      (stops (Asks (Exists p.path false) ∷ []) [] (Fault (site_fault at MissingProgram)) r (site_fault at MissingProgram) (false, refl) (new, asked, refl) refl (is_fault (site_fault at MissingProgram))) b
 
--- it is one too many
-pub adds_too_many : {S : Type 0} (leads : S → Asked → S → Type 0) (old new : S) (at : Site) (r : Registry) (p : Program) (there : Bool) (fault : SuiteFault) → leads old (Exists p.path there) new → there ≡ true → program_limit ≤ length r.programs
-    → IsNoMemory fault ⊎ (fault ≡ site_fault at TooMany) → Adds leads old new at r p (Err fault)
-adds_too_many leads old new at r p there fault h e n b =
-    let asked = subst (λ (x : Bool). leads old (Exists p.path x) new) e h in
-    blamed (λ f. Adds leads old new at r p (Err f)) (site_fault at TooMany) fault
-    (short (Asks (Exists p.path true) ∷ []) (Listed at p ∷ []) [] r fault (true, refl) (no_question _) (new, asked, refl) refl)
-    (stops (Asks (Exists p.path true) ∷ []) [] (Listed at p) r (site_fault at TooMany) (true, refl) (new, asked, refl) refl (program_too_many at p n)) b
+  -- it is one too many
+  pub adds_too_many : (old new : S) (at : Site) (r : Registry) (p : Program) (there : Bool) (fault : SuiteFault) → leads old (Exists p.path there) new → there ≡ true → program_limit ≤ length r.programs
+      → IsNoMemory fault ⊎ (fault ≡ site_fault at TooMany) → Adds leads old new at r p (Err fault)
+  adds_too_many old new at r p there fault h e n b =
+      let asked = subst (λ (x : Bool). leads old (Exists p.path x) new) e h in
+      blamed (λ f. Adds leads old new at r p (Err f)) (site_fault at TooMany) fault
+      (short (Asks (Exists p.path true) ∷ []) (Listed at p ∷ []) [] r fault (true, refl) (no_question _) (new, asked, refl) refl)
+      (stops (Asks (Exists p.path true) ∷ []) [] (Listed at p) r (site_fault at TooMany) (true, refl) (new, asked, refl) refl (program_too_many at p n)) b
 
-pub adds_short : {S : Type 0} (leads : S → Asked → S → Type 0) (old new : S) (at : Site) (r : Registry) (p : Program) (there : Bool) (fault : SuiteFault) → leads old (Exists p.path there) new → IsNoMemory fault → Adds leads old new at r p (Err fault)
-adds_short leads old new at r p there fault h n = short (Asks (Exists p.path there) ∷ []) (looked_up at p there ∷ []) [] r fault (there, refl) (no_question _) (new, h, refl) refl n
+  pub adds_short : (old new : S) (at : Site) (r : Registry) (p : Program) (there : Bool) (fault : SuiteFault) → leads old (Exists p.path there) new → IsNoMemory fault → Adds leads old new at r p (Err fault)
+  adds_short old new at r p there fault h n = short (Asks (Exists p.path there) ∷ []) (looked_up at p there ∷ []) [] r fault (there, refl) (no_question _) (new, h, refl) refl n
 
-pub adds_one : {S : Type 0} (leads : S → Asked → S → Type 0) (old new : S) (at : Site) (r after : Registry) (p : Program) (there : Bool) → leads old (Exists p.path there) new → there ≡ true → length r.programs < program_limit
-    → after ≡ (record r { programs = r.programs ++ p ∷ [] }) → Adds leads old new at r p (Ok after)
-adds_one leads old new at r after p there h e n a =
-    through (Asks (Exists p.path true) ∷ Listed at p ∷ []) after (true, refl) (new, subst (λ (x : Bool). leads old (Exists p.path x) new) e h, refl) (n, a)
+  pub adds_one : (old new : S) (at : Site) (r after : Registry) (p : Program) (there : Bool) → leads old (Exists p.path there) new → there ≡ true → length r.programs < program_limit
+      → after ≡ (record r { programs = r.programs ++ p ∷ [] }) → Adds leads old new at r p (Ok after)
+  adds_one old new at r after p there h e n a =
+      through (Asks (Exists p.path true) ∷ Listed at p ∷ []) after (true, refl) (new, subst (λ (x : Bool). leads old (Exists p.path x) new) e h, refl) (n, a)
 
--- memory ran out before the program was asked for
-pub adds_unasked : {S : Type 0} (leads : S → Asked → S → Type 0) (old : S) (at : Site) (r : Registry) (p : Program) (fault : SuiteFault) → IsNoMemory fault → Adds leads old old at r p (Err fault)
-adds_unasked leads old at r p fault n = short [] (Asks (Exists p.path true) ∷ Listed at p ∷ []) [] r fault (true, refl) (no_question _) refl refl n
+  -- memory ran out before the program was asked for
+  pub adds_unasked : (old : S) (at : Site) (r : Registry) (p : Program) (fault : SuiteFault) → IsNoMemory fault → Adds leads old old at r p (Err fault)
+  adds_unasked old at r p fault n = short [] (Asks (Exists p.path true) ∷ Listed at p ∷ []) [] r fault (true, refl) (no_question _) refl refl n
 
--- a program by the path that its name leads to
-pub adds_beside : {S : Type 0} (leads : S → Asked → S → Type 0) (old new : S) (at : Site) (r : Registry) (p : Program) (path there : List ℕ) (result : Result Registry SuiteFault) → path ≡ there
-    → Adds leads old new at r (record p { path = path }) result → Adds leads old new at r (record p { path = there }) result
-adds_beside leads old new at r p path there result e a = subst (λ (x : List ℕ). Adds leads old new at r (record p { path = x }) result) e a
+  -- a program by the path that its name leads to
+  pub adds_beside : (old new : S) (at : Site) (r : Registry) (p : Program) (path there : List ℕ) (result : Result Registry SuiteFault) → path ≡ there
+      → Adds leads old new at r (record p { path = path }) result → Adds leads old new at r (record p { path = there }) result
+  adds_beside old new at r p path there result e a = subst (λ (x : List ℕ). Adds leads old new at r (record p { path = x }) result) e a
 
 -- an include
 pub enters_refused : (at : Site) (r : Registry) (path : List ℕ) (cause : SuiteCause) (fault : SuiteFault) → Some cause ≡ entry_fault r.reading path → IsNoMemory fault ⊎ (fault ≡ site_fault at cause) → Enters at r path (Err fault)
@@ -56,62 +58,60 @@ enters_too_many at r path fault e n b = blamed (λ f. Enters at r path (Err f)) 
 pub enters_well : (at : Site) (r after : Registry) (path : List ℕ) → None ≡ entry_fault r.reading path → r.files < file_limit → after ≡ (record r { files = r.files + 1 }) → Enters at r path (Ok after)
 enters_well at r after path e n a = subst (λ (x : Registry). Enters at r path (Ok x)) (sym a) (counts (sym e) n)
 
--- statements
-at_once : {S : Type 0} (leads : S → Asked → S → Type 0) (old : S) (r : Registry) (at : Site) (m : Meaning) (fault : SuiteFault) → IsNoMemory fault → Walked leads old old (MeaningGives r.reading at m) r (Err fault)
-at_once leads old r at m fault n = let some = some_marks r.reading (said at true m) in short [] some.0 [] r fault (record { there = true; unfolds = some.1 }) (no_question _) refl refl n
+module _ {S : Type 0} (leads : S → Asked → S → Type 0) where
+  -- statements
+  at_once : (old : S) (r : Registry) (at : Site) (m : Meaning) (fault : SuiteFault) → IsNoMemory fault → Walked leads old old (MeaningGives r.reading at m) r (Err fault)
+  at_once old r at m fault n = let some = some_marks r.reading (said at true m) in short [] some.0 [] r fault (record { there = true; unfolds = some.1 }) (no_question _) refl refl n
 
-pub step_short : {S : Type 0} (leads : S → Asked → S → Type 0) (old : S) (r : Registry) (at : Site) (m : Meaning) (fault : SuiteFault) → IsNoMemory fault → Stepped leads old old r at m (Err fault)
-step_short leads old r at m fault n = fails fault (at_once leads old r at m fault n)
+  pub step_short : (old : S) (r : Registry) (at : Site) (m : Meaning) (fault : SuiteFault) → IsNoMemory fault → Stepped leads old old r at m (Err fault)
+  step_short old r at m fault n = fails fault (at_once old r at m fault n)
 
-pub step_wrong : {S : Type 0} (leads : S → Asked → S → Type 0) (old : S) (r : Registry) (at : Site) (m : Meaning) (cause : SuiteCause) (fault : SuiteFault) → meaning.Wrong cause ≡ m
-    → IsNoMemory fault ⊎ (fault ≡ site_fault at cause) → Stepped leads old old r at m (Err fault)
-step_wrong leads old r at m cause fault e b =
-    subst (λ (x : Meaning). Stepped leads old old r at x (Err fault)) e
-    (blamed (λ f. Stepped leads old old r at (meaning.Wrong cause) (Err f)) (site_fault at cause) fault
-    (λ n. fails fault (at_once leads old r at (meaning.Wrong cause) fault n))
-    (fails (site_fault at cause) (stops [] [] (Fault (site_fault at cause)) r (site_fault at cause) (record { there = true; unfolds = says _ _ _ _ (end _) }) refl refl (is_fault (site_fault at cause)))) b)
+  pub step_wrong : (old : S) (r : Registry) (at : Site) (m : Meaning) (cause : SuiteCause) (fault : SuiteFault) → meaning.Wrong cause ≡ m
+      → IsNoMemory fault ⊎ (fault ≡ site_fault at cause) → Stepped leads old old r at m (Err fault)
+  step_wrong old r at m cause fault e b =
+      subst (λ (x : Meaning). Stepped leads old old r at x (Err fault)) e
+      (blamed (λ f. Stepped leads old old r at (meaning.Wrong cause) (Err f)) (site_fault at cause) fault
+      (λ n. fails fault (at_once old r at (meaning.Wrong cause) fault n))
+      (fails (site_fault at cause) (stops [] [] (Fault (site_fault at cause)) r (site_fault at cause) (record { there = true; unfolds = says _ _ _ _ (end _) }) refl refl (is_fault (site_fault at cause)))) b)
 
-pub step_suite : {S : Type 0} (leads : S → Asked → S → Type 0) (old : S) (r : Registry) (at : Site) (m : Meaning) (name : List ℕ) → meaning.Suite name ≡ m → Stepped leads old old r at m (Ok (Next r))
-step_suite leads old r at m name e =
-    subst (λ (x : Meaning). Stepped leads old old r at x (Ok (Next r))) e
-    (goes r (through [] r (record { there = true; unfolds = end _ }) refl refl))
+  pub step_suite : (old : S) (r : Registry) (at : Site) (m : Meaning) (name : List ℕ) → meaning.Suite name ≡ m → Stepped leads old old r at m (Ok (Next r))
+  step_suite old r at m name e =
+      subst (λ (x : Meaning). Stepped leads old old r at x (Ok (Next r))) e
+      (goes r (through [] r (record { there = true; unfolds = end _ }) refl refl))
 
-step_enter_at : {S : Type 0} (leads : S → Asked → S → Type 0) (old : S) (r : Registry) (at : Site) (name : List ℕ) (result : Result Registry SuiteFault) → Enters at r (beside at.file name) result
-    → Stepped leads old old r at (meaning.Include name) (elim result as (λ _. Result Step SuiteFault) [ Ok next ↦ Ok (Enter next (beside at.file name)) | Err fault ↦ Err fault ])
-step_enter_at leads old r at name _ (refuses cause e) =
-    fails (site_fault at cause) (stops [] [] (Fault (site_fault at cause)) r (site_fault at cause) (record { there = true; unfolds = refused _ _ _ _ _ _ e (end _) }) refl refl (is_fault (site_fault at cause)))
-step_enter_at leads old r at name _ (exceeds e n) =
-    fails (site_fault at TooMany) (stops [] _ (File at) r (site_fault at TooMany) (record { there = true; unfolds = entered _ _ _ _ _ _ _ e (unread Missing) (some_file _ _) (end _) }) refl refl (file_too_many at n))
-step_enter_at leads old r at name _ (counts e n) = enters (beside at.file name) refl e n refl
-step_enter_at leads old r at name _ (scant fault n) = fails fault (at_once leads old r at (meaning.Include name) fault n)
+  step_enter_at : (old : S) (r : Registry) (at : Site) (name : List ℕ) (result : Result Registry SuiteFault) → Enters at r (beside at.file name) result
+      → Stepped leads old old r at (meaning.Include name) (elim result as (λ _. Result Step SuiteFault) [ Ok next ↦ Ok (Enter next (beside at.file name)) | Err fault ↦ Err fault ])
+  step_enter_at old r at name _ (refuses cause e) =
+      fails (site_fault at cause) (stops [] [] (Fault (site_fault at cause)) r (site_fault at cause) (record { there = true; unfolds = refused _ _ _ _ _ _ e (end _) }) refl refl (is_fault (site_fault at cause)))
+  step_enter_at old r at name _ (exceeds e n) =
+      fails (site_fault at TooMany) (stops [] _ (File at) r (site_fault at TooMany) (record { there = true; unfolds = entered _ _ _ _ _ _ _ e (unread Missing) (some_file _ _) (end _) }) refl refl (file_too_many at n))
+  step_enter_at old r at name _ (counts e n) = enters (beside at.file name) refl e n refl
+  step_enter_at old r at name _ (scant fault n) = fails fault (at_once old r at (meaning.Include name) fault n)
 
-pub step_included : {S : Type 0} (leads : S → Asked → S → Type 0) (old : S) (r : Registry) (at : Site) (m : Meaning) (name : List ℕ) (result : Result Step SuiteFault) → meaning.Include name ≡ m
-    → IfOk result (λ step. Entered at r (beside at.file name) step) → IfErr result (λ fault. Enters at r (beside at.file name) (Err fault)) → Stepped leads old old r at m result
-step_included leads old r at m name (Ok step) e ok err =
-    subst (λ (x : Meaning). Stepped leads old old r at x (Ok step)) e
-    (subst (λ (x : Step). Stepped leads old old r at (meaning.Include name) (Ok x)) (sym ok.2) (step_enter_at leads old r at name (Ok ok.0) ok.1))
-step_included leads old r at m name (Err fault) e ok err =
-    subst (λ (x : Meaning). Stepped leads old old r at x (Err fault)) e (step_enter_at leads old r at name (Err fault) err)
+  pub step_included : (old : S) (r : Registry) (at : Site) (m : Meaning) (name : List ℕ) (result : Result Step SuiteFault) → meaning.Include name ≡ m
+      → IfOk result (λ step. Entered at r (beside at.file name) step) → IfErr result (λ fault. Enters at r (beside at.file name) (Err fault)) → Stepped leads old old r at m result
+  step_included old r at m name (Ok step) e ok err =
+      subst (λ (x : Meaning). Stepped leads old old r at x (Ok step)) e
+      (subst (λ (x : Step). Stepped leads old old r at (meaning.Include name) (Ok x)) (sym ok.2) (step_enter_at old r at name (Ok ok.0) ok.1))
+  step_included old r at m name (Err fault) e ok err =
+      subst (λ (x : Meaning). Stepped leads old old r at x (Err fault)) e (step_enter_at old r at name (Err fault) err)
 
--- what a program's marks are, its statement gives
-walk_program : {S : Type 0} (leads : S → Asked → S → Type 0) (old new : S) (r : Registry) (at : Site) (interface : Interface) (name own : List ℕ) (props : List Variable) (result : Result Registry SuiteFault)
-    → Adds leads old new at r (record { interface = interface; path = beside at.file name; suite = own; props = props }) result
-    → Walked leads old new (MeaningGives r.reading at (meaning.Program interface name own props)) r result
-walk_program leads old new r at interface name own props _ (through marks after g c k) =
-    through marks after (record { there = g.0; unfolds = subst (λ (ms : List Mark). Unfolds r.reading (said at g.0 (meaning.Program interface name own props)) ms) (sym g.1) (says _ _ _ _ (says _ _ _ _ (end _))) }) c k
-walk_program leads old new r at interface name own props _ (stops front back mark mid fault g c k d) =
-    stops front back mark mid fault (record { there = g.0; unfolds = subst (λ (ms : List Mark). Unfolds r.reading (said at g.0 (meaning.Program interface name own props)) ms) (sym g.1) (says _ _ _ _ (says _ _ _ _ (end _))) }) c k d
-walk_program leads old new r at interface name own props _ (short front back more mid fault g l c k n) =
-    short front back more mid fault (record { there = g.0; unfolds = subst (λ (ms : List Mark). Unfolds r.reading (said at g.0 (meaning.Program interface name own props)) ms) (sym g.1) (says _ _ _ _ (says _ _ _ _ (end _))) }) l c k n
+  -- what a program's marks are, its statement gives
+  walk_program : (old new : S) (r : Registry) (at : Site) (interface : Interface) (name own : List ℕ) (props : List Variable) (result : Result Registry SuiteFault)
+      → Adds leads old new at r (record { interface = interface; path = beside at.file name; suite = own; props = props }) result
+      → Walked leads old new (MeaningGives r.reading at (meaning.Program interface name own props)) r result
+  walk_program old new r at interface name own props result w =
+      let m = meaning.Program interface name own props in
+      walked-as w (λ marks g. record { there = g.0; unfolds = subst (λ (ms : List Mark). Unfolds r.reading (said at g.0 m) ms) (sym g.1) (says _ _ _ _ (says _ _ _ _ (end _))) })
 
-pub step_added : {S : Type 0} (leads : S → Asked → S → Type 0) (old new : S) (r next : Registry) (at : Site) (m : Meaning) (interface : Interface) (name own : List ℕ) (props : List Variable)
-    → meaning.Program interface name own props ≡ m → Adds leads old new at r (record { interface = interface; path = beside at.file name; suite = own; props = props }) (Ok next)
-    → Stepped leads old new r at m (Ok (Next next))
-step_added leads old new r next at m interface name own props e a =
-    subst (λ (x : Meaning). Stepped leads old new r at x (Ok (Next next))) e (goes next (walk_program leads old new r at interface name own props (Ok next) a))
+  pub step_added : (old new : S) (r next : Registry) (at : Site) (m : Meaning) (interface : Interface) (name own : List ℕ) (props : List Variable)
+      → meaning.Program interface name own props ≡ m → Adds leads old new at r (record { interface = interface; path = beside at.file name; suite = own; props = props }) (Ok next)
+      → Stepped leads old new r at m (Ok (Next next))
+  step_added old new r next at m interface name own props e a =
+      subst (λ (x : Meaning). Stepped leads old new r at x (Ok (Next next))) e (goes next (walk_program old new r at interface name own props (Ok next) a))
 
-pub step_not_added : {S : Type 0} (leads : S → Asked → S → Type 0) (old new : S) (r : Registry) (at : Site) (m : Meaning) (interface : Interface) (name own : List ℕ) (props : List Variable) (fault : SuiteFault)
-    → meaning.Program interface name own props ≡ m → Adds leads old new at r (record { interface = interface; path = beside at.file name; suite = own; props = props }) (Err fault)
-    → Stepped leads old new r at m (Err fault)
-step_not_added leads old new r at m interface name own props fault e a =
-    subst (λ (x : Meaning). Stepped leads old new r at x (Err fault)) e (fails fault (walk_program leads old new r at interface name own props (Err fault) a))
+  pub step_not_added : (old new : S) (r : Registry) (at : Site) (m : Meaning) (interface : Interface) (name own : List ℕ) (props : List Variable) (fault : SuiteFault)
+      → meaning.Program interface name own props ≡ m → Adds leads old new at r (record { interface = interface; path = beside at.file name; suite = own; props = props }) (Err fault)
+      → Stepped leads old new r at m (Err fault)
+  step_not_added old new r at m interface name own props fault e a =
+      subst (λ (x : Meaning). Stepped leads old new r at x (Err fault)) e (fails fault (walk_program old new r at interface name own props (Err fault) a))

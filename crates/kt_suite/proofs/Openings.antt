@@ -18,10 +18,11 @@ well_wrong file stmts first rest cause fault e w (inr f) = subst (λ (f : SuiteF
 pub well_right : (file : List ℕ) (stmts : List Stmt) (first : Stmt) (rest : List Stmt) → stmts ≡ first ∷ rest → None ≡ opening_fault first.action → WellOpened file stmts (Ok stmts)
 well_right file stmts first rest e w = well first rest e (sym w)
 
-pub opens_unread : {S : Type 0} (leads : S → Asked → S → Type 0) (old new : S) (file : List ℕ) (why : ReadFault) (fault : SuiteFault) → leads old (Read file (Err why)) new
-    → IsNoMemory fault ⊎ (fault ≡ read_fault file why) → Opened leads old new file (Err fault)
-opens_unread leads old new file why fault h (inl n) = lacks (Err why) fault h n
-opens_unread leads old new file why fault h (inr e) = subst (λ (f : SuiteFault). Opened leads old new file (Err f)) (sym e) (declines (Err why) (read_fault file why) h (unread why))
+module _ {S : Type 0} (leads : S → Asked → S → Type 0) where
+  pub opens_unread : (old new : S) (file : List ℕ) (why : ReadFault) (fault : SuiteFault) → leads old (Read file (Err why)) new
+      → IsNoMemory fault ⊎ (fault ≡ read_fault file why) → Opened leads old new file (Err fault)
+  opens_unread old new file why fault h (inl n) = lacks (Err why) fault h n
+  opens_unread old new file why fault h (inr e) = subst (λ (f : SuiteFault). Opened leads old new file (Err f)) (sym e) (declines (Err why) (read_fault file why) h (unread why))
 
 is_due : (text : List ℕ) (why : ScriptFault) → IsText why → IfFault {T = List Stmt} (Err why) (λ f. IsDue text f) → IsDue text why
 is_due text (script.NoMemory refusal) n i = absurd n
@@ -31,22 +32,23 @@ is_due text (script.NotLiteral line) n i = i
 is_due text (script.Unclosed line) n i = i
 is_due text script.TooLong n i = i
 
-pub opens_no_script : {S : Type 0} (leads : S → Asked → S → Type 0) (old new : S) (file text : List ℕ) (answer : Result (List ℕ) ReadFault) (why : ScriptFault) (fault : SuiteFault) → leads old (Read file answer) new → answer ≡ Ok text
-    → IfFault {T = List Stmt} (Err why) (λ f. IsDue text f) → IsNoMemory fault ⊎ (IsText why × (fault ≡ fault_at file (script_line why) (Script why))) → Opened leads old new file (Err fault)
-opens_no_script leads old new file text answer why fault h a i (inl n) = lacks answer fault h n
-opens_no_script leads old new file text answer why fault h a i (inr e) =
-    subst (λ (f : SuiteFault). Opened leads old new file (Err f)) (sym e.1)
-    (declines (Ok text) (fault_at file (script_line why) (Script why)) (subst (λ (x : Result (List ℕ) ReadFault). leads old (Read file x) new) a h) (no_script text why (is_due text why e.0 i)))
+module _ {S : Type 0} (leads : S → Asked → S → Type 0) where
+  pub opens_no_script : (old new : S) (file text : List ℕ) (answer : Result (List ℕ) ReadFault) (why : ScriptFault) (fault : SuiteFault) → leads old (Read file answer) new → answer ≡ Ok text
+      → IfFault {T = List Stmt} (Err why) (λ f. IsDue text f) → IsNoMemory fault ⊎ (IsText why × (fault ≡ fault_at file (script_line why) (Script why))) → Opened leads old new file (Err fault)
+  opens_no_script old new file text answer why fault h a i (inl n) = lacks answer fault h n
+  opens_no_script old new file text answer why fault h a i (inr e) =
+      subst (λ (f : SuiteFault). Opened leads old new file (Err f)) (sym e.1)
+      (declines (Ok text) (fault_at file (script_line why) (Script why)) (subst (λ (x : Result (List ℕ) ReadFault). leads old (Read file x) new) a h) (no_script text why (is_due text why e.0 i)))
 
-opens_by : {S : Type 0} (leads : S → Asked → S → Type 0) (old new : S) (file text : List ℕ) (stmts : List Stmt) (result : Result (List Stmt) SuiteFault) → leads old (Read file (Ok text)) new → Spells text stmts
-    → WellOpened file stmts result → Opened leads old new file result
-opens_by leads old new file text stmts _ h s (well first rest e w) =
-    subst (λ (xs : List Stmt). Opened leads old new file (Ok xs)) (sym e) (opens text first rest h (subst (λ (xs : List Stmt). Spells text xs) e s) w)
-opens_by leads old new file text stmts _ h s (empty e) = declines (Ok text) (fault_at file 1 NoSyntax) h (no_statement text (subst (λ (xs : List Stmt). Spells text xs) e s))
-opens_by leads old new file text stmts _ h s (badly first rest cause e w) =
-    declines (Ok text) (fault_at file first.line cause) h (unopened text first rest cause (subst (λ (xs : List Stmt). Spells text xs) e s) w)
-opens_by leads old new file text stmts _ h s (unclear fault n) = lacks (Ok text) fault h n
+  opens_by : (old new : S) (file text : List ℕ) (stmts : List Stmt) (result : Result (List Stmt) SuiteFault) → leads old (Read file (Ok text)) new → Spells text stmts
+      → WellOpened file stmts result → Opened leads old new file result
+  opens_by old new file text stmts _ h s (well first rest e w) =
+      subst (λ (xs : List Stmt). Opened leads old new file (Ok xs)) (sym e) (opens text first rest h (subst (λ (xs : List Stmt). Spells text xs) e s) w)
+  opens_by old new file text stmts _ h s (empty e) = declines (Ok text) (fault_at file 1 NoSyntax) h (no_statement text (subst (λ (xs : List Stmt). Spells text xs) e s))
+  opens_by old new file text stmts _ h s (badly first rest cause e w) =
+      declines (Ok text) (fault_at file first.line cause) h (unopened text first rest cause (subst (λ (xs : List Stmt). Spells text xs) e s) w)
+  opens_by old new file text stmts _ h s (unclear fault n) = lacks (Ok text) fault h n
 
-pub opens_script : {S : Type 0} (leads : S → Asked → S → Type 0) (old new : S) (file text : List ℕ) (answer : Result (List ℕ) ReadFault) (stmts : List Stmt) (result : Result (List Stmt) SuiteFault) → leads old (Read file answer) new → answer ≡ Ok text
-    → Spells text stmts → WellOpened file stmts result → Opened leads old new file result
-opens_script leads old new file text answer stmts result h a s w = opens_by leads old new file text stmts result (subst (λ (x : Result (List ℕ) ReadFault). leads old (Read file x) new) a h) s w
+  pub opens_script : (old new : S) (file text : List ℕ) (answer : Result (List ℕ) ReadFault) (stmts : List Stmt) (result : Result (List Stmt) SuiteFault) → leads old (Read file answer) new → answer ≡ Ok text
+      → Spells text stmts → WellOpened file stmts result → Opened leads old new file result
+  opens_script old new file text answer stmts result h a s w = opens_by old new file text stmts result (subst (λ (x : Result (List ℕ) ReadFault). leads old (Read file x) new) a h) s w

@@ -31,36 +31,37 @@ abbrev pub answered : Result Registry SuiteFault → Outcome
 answered (Ok r) = Ok r.programs
 answered (Err fault) = Err fault
 
-registered_root : {T : Type 0} (asks : T → Asked → T → Type 0) (old new : T) (root : List ℕ) (result : Result Registry SuiteFault) → Walked asks old new (FileGives [] root) root_counted result
-    → Answered asks old new (λ asked. Registered asked root (answered result) ⊎ Unfinished asked root (answered result))
-registered_root asks old new root _ (through marks after g c k) =
-    let whole : TreeGives root (File (root_site root) ∷ marks) = unfolds_to [] (Includes (root_site root) root ∷ []) (File (root_site root) ∷ (marks ++ [])) (File (root_site root) ∷ marks) (ap (λ (ms : List Mark). File (root_site root) ∷ ms) (append-nil marks)) (tree_gives root marks g) in
-    let r : Registered (questions_in marks) root (Ok (programs_in marks)) = all (File (root_site root) ∷ marks) whole (undecided root after marks k) refl in
-    record {
-      asked = questions_in marks;
-      chain = c;
-      holds = inl (subst (λ (ps : List Program). Registered (questions_in marks) root (Ok ps)) (sym (counted_programs root_counted after marks k)) r);
-    }
-registered_root asks old new root _ (stops front back mark mid fault g c k d) =
-    let whole : TreeGives root (File (root_site root) ∷ (front ++ mark ∷ (back ++ []))) = unfolds_to [] (Includes (root_site root) root ∷ []) (File (root_site root) ∷ (front ++ mark ∷ back ++ [])) (File (root_site root) ∷ (front ++ mark ∷ (back ++ [])))
-    (ap (λ (ms : List Mark). File (root_site root) ∷ ms) (append_assoc front (mark ∷ back) [])) (tree_gives root (front ++ mark ∷ back) g) in
-    let f : mid.files ≡ 1 + files_in front = counted_files root_counted mid front k in
-    let p : length mid.programs ≡ length (programs_in front) = ap (λ (ps : List Program). length ps) (counted_programs root_counted mid front k) in
-    record {
-      asked = questions_in front;
-      chain = c;
-      holds = inl (stopped (File (root_site root) ∷ front) (back ++ []) mark fault whole (undecided root mid front k)
-          (subst (λ (n : ℕ). Decides (1 + files_in front) n mark fault) p (subst (λ (n : ℕ). Decides n (length mid.programs) mark fault) f d)) refl);
-    }
-registered_root asks old new root _ (short front back more mid fault g l c k n) =
-    let whole : TreeGives root (File (root_site root) ∷ (front ++ (back ++ []))) = unfolds_to [] (Includes (root_site root) root ∷ []) (File (root_site root) ∷ (front ++ back ++ [])) (File (root_site root) ∷ (front ++ (back ++ [])))
-    (ap (λ (ms : List Mark). File (root_site root) ∷ ms) (append_assoc front back [])) (tree_gives root (front ++ back) g) in
-    let begins : Unfinished (questions_in front ++ more) root (Err fault) = record { fault = fault; no_memory = n; refused = refl; front = File (root_site root) ∷ front; back = back ++ []; more = more; gives = whole; undecided = undecided root mid front k; next = next-append back [] more l; is = refl } in
-    record { asked = questions_in front ++ more; chain = c; holds = inr begins }
+module _ {T : Type 0} (asks : T → Asked → T → Type 0) where
+  registered_root : (old new : T) (root : List ℕ) (result : Result Registry SuiteFault) → Walked asks old new (FileGives [] root) root_counted result
+      → Answered asks old new (λ asked. Registered asked root (answered result) ⊎ Unfinished asked root (answered result))
+  registered_root old new root _ (through marks after g c k) =
+      let whole : TreeGives root (File (root_site root) ∷ marks) = unfolds_to [] (Includes (root_site root) root ∷ []) (File (root_site root) ∷ (marks ++ [])) (File (root_site root) ∷ marks) (ap (λ (ms : List Mark). File (root_site root) ∷ ms) (append-nil marks)) (tree_gives root marks g) in
+      let r : Registered (questions_in marks) root (Ok (programs_in marks)) = all (File (root_site root) ∷ marks) whole (undecided root after marks k) refl in
+      record {
+        asked = questions_in marks;
+        chain = c;
+        holds = inl (subst (λ (ps : List Program). Registered (questions_in marks) root (Ok ps)) (sym (counted_programs root_counted after marks k)) r);
+      }
+  registered_root old new root _ (stops front back mark mid fault g c k d) =
+      let whole : TreeGives root (File (root_site root) ∷ (front ++ mark ∷ (back ++ []))) = unfolds_to [] (Includes (root_site root) root ∷ []) (File (root_site root) ∷ (front ++ mark ∷ back ++ [])) (File (root_site root) ∷ (front ++ mark ∷ (back ++ [])))
+      (ap (λ (ms : List Mark). File (root_site root) ∷ ms) (append_assoc front (mark ∷ back) [])) (tree_gives root (front ++ mark ∷ back) g) in
+      let f : mid.files ≡ 1 + files_in front = counted_files root_counted mid front k in
+      let p : length mid.programs ≡ length (programs_in front) = ap (λ (ps : List Program). length ps) (counted_programs root_counted mid front k) in
+      record {
+        asked = questions_in front;
+        chain = c;
+        holds = inl (stopped (File (root_site root) ∷ front) (back ++ []) mark fault whole (undecided root mid front k)
+            (subst (λ (n : ℕ). Decides (1 + files_in front) n mark fault) p (subst (λ (n : ℕ). Decides n (length mid.programs) mark fault) f d)) refl);
+      }
+  registered_root old new root _ (short front back more mid fault g l c k n) =
+      let whole : TreeGives root (File (root_site root) ∷ (front ++ (back ++ []))) = unfolds_to [] (Includes (root_site root) root ∷ []) (File (root_site root) ∷ (front ++ back ++ [])) (File (root_site root) ∷ (front ++ (back ++ [])))
+      (ap (λ (ms : List Mark). File (root_site root) ∷ ms) (append_assoc front back [])) (tree_gives root (front ++ back) g) in
+      let begins : Unfinished (questions_in front ++ more) root (Err fault) = record { fault = fault; no_memory = n; refused = refl; front = File (root_site root) ∷ front; back = back ++ []; more = more; gives = whole; undecided = undecided root mid front k; next = next-append back [] more l; is = refl } in
+      record { asked = questions_in front ++ more; chain = c; holds = inr begins }
 
-pub registered : {T : Type 0} (asks : T → Asked → T → Type 0) (old new : T) (root : List ℕ) (start : Registry) (result : Result Registry SuiteFault) → start ≡ root_counted → Walked asks old new (FileGives start.reading root) start result
-    → Answered asks old new (λ asked. Registered asked root (answered result) ⊎ Unfinished asked root (answered result))
-registered asks old new root start result e w = registered_root asks old new root result (subst (λ (s : Registry). Walked asks old new (FileGives s.reading root) s result) e w)
+  pub registered : (old new : T) (root : List ℕ) (start : Registry) (result : Result Registry SuiteFault) → start ≡ root_counted → Walked asks old new (FileGives start.reading root) start result
+      → Answered asks old new (λ asked. Registered asked root (answered result) ⊎ Unfinished asked root (answered result))
+  registered old new root start result e w = registered_root old new root result (subst (λ (s : Registry). Walked asks old new (FileGives s.reading root) s result) e w)
 
-pub few_counted : {T : Type 0} (asks : T → Asked → T → Type 0) (old new : T) (root : List ℕ) (start : Registry) (r : Registry) → start ≡ root_counted → Walked asks old new (FileGives start.reading root) start (Ok r) → length r.programs ≤ program_limit
-few_counted asks old new root start r e (through marks _ g c k) = let p = ap (λ (s : Registry). length s.programs) e in counted_few_programs start r marks k (omega (arith, p))
+  pub few_counted : (old new : T) (root : List ℕ) (start : Registry) (r : Registry) → start ≡ root_counted → Walked asks old new (FileGives start.reading root) start (Ok r) → length r.programs ≤ program_limit
+  few_counted old new root start r e (through marks _ g c k) = let p = ap (λ (s : Registry). length s.programs) e in counted_few_programs start r marks k (omega (arith, p))

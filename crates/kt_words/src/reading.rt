@@ -1,6 +1,5 @@
-ghost use Rattle.std.specs.Prelude.{◌≡◌, ◌≤◌, drop, map, chars, codes, option_map, Ok, IfOk, IfErr, IfSome, IsErrAnd};
+ghost use Rattle.std.specs.Prelude.{◌≡◌, ◌≤◌, drop, map, chars, codes, option_map, IfOk, IfErr, IfSome, IsErrAnd};
 ghost use Rattle.kt_words.specs.Common.{string_bytes, into_iter_items, all_of, first_of, found_of, rows_of, subcommand_rows_of, error_kind, OutOfMemory, last_run, HasRunNumber, Reads, RefusesWords, command_in, command_named, is_true, junit_in, kinds_of, options_in, report_in, report_options, results_in, run_of, text_given, text_or, texts_given, Answers, ReadsRun, ReadsShown};
-ghost use Rattle.kt_words.specs.declared.command.Command.TheVariants as command;
 
 use crate::arguments::{KYUAFILE, RESULTS, WORK, all_words};
 use crate::filter::{default_kinds, kinds_in};
@@ -153,47 +152,6 @@ fn results_of<'a>(alloc: Global, own: &ArgMatches<'a>) -> Result<Text, NoMemory>
     text_or(alloc, own, "results", RESULTS)
 }
 
-fn read_list<'a>(
-    alloc: Global,
-    before: &ArgMatches<'a>,
-    own: &ArgMatches<'a>,
-) -> Result<Command, CommandFault>
-    ensures value { Answers (Ok (command.List
-        (options_in (rows_of (found_of before.now)) (rows_of (found_of own.now))))) result }
-    ensures range { IfOk result HasRunNumber }
-{
-    let options = case_options(alloc, before, own)?;
-    Ok(Command::List(options))
-}
-
-fn read_test<'a>(
-    alloc: Global,
-    before: &ArgMatches<'a>,
-    own: &ArgMatches<'a>,
-) -> Result<Command, CommandFault>
-    ensures value { Answers (Ok (command.Test
-        (options_in (rows_of (found_of before.now)) (rows_of (found_of own.now)))
-        (results_in (rows_of (found_of own.now))))) result }
-    ensures range { IfOk result HasRunNumber }
-{
-    let options = case_options(alloc, before, own)?;
-    let results = results_of(alloc, own)?;
-    Ok(Command::Test { options, results })
-}
-
-fn read_debug<'a>(
-    alloc: Global,
-    before: &ArgMatches<'a>,
-    own: &ArgMatches<'a>,
-) -> Result<Command, CommandFault>
-    ensures value { Answers (Ok (command.Debug
-        (options_in (rows_of (found_of before.now)) (rows_of (found_of own.now))))) result }
-    ensures range { IfOk result HasRunNumber }
-{
-    let options = case_options(alloc, before, own)?;
-    Ok(Command::Debug(options))
-}
-
 /// The options of a command that shows a run: those before the command, its own, and the run.
 fn report_options<'a>(
     alloc: Global,
@@ -260,13 +218,17 @@ fn read_named<'a>(
     ensures range { IfOk result HasRunNumber }
 {
     if name == "list" {
-        return read_list(alloc, before, own);
+        let options = case_options(alloc, before, own)?;
+        return Ok(Command::List(options));
     }
     if name == "test" {
-        return read_test(alloc, before, own);
+        let options = case_options(alloc, before, own)?;
+        let results = results_of(alloc, own)?;
+        return Ok(Command::Test { options, results });
     }
     if name == "debug" {
-        return read_debug(alloc, before, own);
+        let options = case_options(alloc, before, own)?;
+        return Ok(Command::Debug(options));
     }
     if name == "report" {
         return read_report(alloc, before, own);

@@ -71,9 +71,11 @@ abbrev pub whole_slice : ℕ → ℕ → ℕ
 whole_slice children since =
     max (max (min (50 + since / 16) 350) (14 * (min children 512 - 8))) (since * (min children 512 + 4) / 384)
 
--- and of those, as many as are left of the 10,000 of a pause; so many pauses went by before
+-- The microseconds of the next slice: those for eight children at the most, but at least 3 for each child past the eighth, and of
+-- them as many as are left of the 10,000 of a pause; so many pauses went by before.
 abbrev pub next_slice : ℕ → ℕ → ℕ → ℕ
-next_slice children pauses micros = min (whole_slice children (10000 * pauses + micros)) (10000 - micros)
+next_slice children pauses micros =
+    min (max (whole_slice (min children 8) (10000 * pauses + micros)) (3 * (min children 512 - 8))) (10000 - micros)
 
 -- a child that is reported as running has a process, of which no end was seen unless some child was late
 abbrev pub RunsIn : Bool → Stand → Type 0

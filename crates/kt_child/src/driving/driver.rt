@@ -86,7 +86,7 @@ impl<O: Os + Drop> Launcher for Driver<O> {
 
 impl<O: Os + Drop> Driver<O> {
     ghost use Rattle.std.specs.Prelude.{◌≡◌, Bool, ℕ, List, MatchResult, Ok, Err};
-    ghost use Rattle.kt_child.specs.Common.{Chain, Call, RemoveTree, FindsRoot, idle_state, MayStart, pending_after_start, running_after_start, HasMoment, IsFit, count_in, Begun, case_of, limit_of, spawned, state_after_start, is_among, shown_in, spawning_of, StartsBy};
+    ghost use Rattle.kt_child.specs.Common.{Chain, Call, RemoveTree, FindsRoot, idle_state, MayStart, running_after_start, HasMoment, IsFit, count_in, Begun, case_of, limit_of, spawned, state_after_start, is_among, shown_in, spawning_of, IsStart};
     ghost use Rattle.kt_base.specs.declared.child.Role.{Role as Part};
 
     /// Makes a root directory in `base`. `source` is the absolute directory of the root Kyuafile. Errors return `os`.
@@ -167,13 +167,7 @@ impl<O: Os + Drop> Driver<O> {
         requires fit { IsFit job.now }
         requires may { MayStart (shown_in self.old.running)
             (is_among self.old.running.pending) job.now.position Role.Body }
-        ensures starts { StartsBy O.leads self.old job.now Role.Body result self.new }
-        ensures source { self.new.source ≡ self.old.source }
-        ensures root { self.new.root ≡ self.old.root }
-        ensures moment { HasMoment result }
-        ensures running { (k : ℕ) (r : Part) → shown_in self.new.running k r
-            ≡ running_after_start (shown_in self.old.running) job.now Role.Body result k r }
-        ensures pending { self.new.running.pending ≡ self.old.running.pending }
+        ensures { IsStart O.leads self.old job.now Role.Body result self.new }
     {
         let Some(attempt) = take_number(&mut self.next) else {
             return StartAnswer::Refused(Refused::Directory);
@@ -189,14 +183,7 @@ impl<O: Os + Drop> Driver<O> {
         requires fit { IsFit job.now }
         requires may { MayStart (shown_in self.old.running)
             (is_among self.old.running.pending) job.now.position Role.Cleanup }
-        ensures starts { StartsBy O.leads self.old job.now Role.Cleanup result self.new }
-        ensures source { self.new.source ≡ self.old.source }
-        ensures root { self.new.root ≡ self.old.root }
-        ensures moment { HasMoment result }
-        ensures running { (k : ℕ) (r : Part) → shown_in self.new.running k r
-            ≡ running_after_start (shown_in self.old.running) job.now Role.Cleanup result k r }
-        ensures pending { (k : ℕ) → is_among self.new.running.pending k
-            ≡ pending_after_start (is_among self.old.running.pending) job.now.position Role.Cleanup k }
+        ensures { IsStart O.leads self.old job.now Role.Cleanup result self.new }
     {
         let owed = self.running.take_owed(job.position);
         self.begin(job, Role::Cleanup, owed.attempt, owed.paths)

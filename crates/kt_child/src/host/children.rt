@@ -5,7 +5,7 @@ ghost use Rattle.kt_child.specs.Common.{AllProceed, AllStay, IsAnyLate, OthersSt
 
 use crate::host::command::Asked;
 use crate::host::host_child::HostChild;
-use crate::host::pace::{PAUSE, slice_after};
+use crate::host::pace::{NEWEST, PAUSE, is_due, slice_after};
 use crate::{Child, OsFault};
 use indexmap::IndexMap;
 use kt_base::NoMemory;
@@ -140,11 +140,11 @@ pub(crate) fn kill<P: OpenProcess + Drop, C: Clock>(
     }
 }
 
-/// Whether a child has ended since the last pause looked.
-fn has_new_end<P: OpenProcess + Drop>(children: &mut Children<P>) -> bool
+/// Whether a child has ended since the last pause looked, of those from a place on.
+fn has_new_end<P: OpenProcess + Drop>(children: &mut Children<P>, from: usize) -> bool
     ensures { AllProceed (stand_in children.old.entries) (stand_in children.new.entries) }
 {
-    for place in 0..children.len() {
+    for place in from..children.len() {
         let held = &mut children[place];
         if held.has_new_end() {
             return true;
@@ -154,7 +154,8 @@ fn has_new_end<P: OpenProcess + Drop>(children: &mut Children<P>) -> bool
 }
 
 /// Rests until a child has ended, at the latest after a pause, and returns whether one was seen; at its end it doesn't look,
-/// since each child is polled then. So many pauses went by since an end.
+/// since each child is polled then. Between its slices it looks at the newest children, and now and then at all. So many pauses
+/// went by since an end.
 pub(crate) fn await_end<P: OpenProcess + Drop, R: Files + Clock + AllocGlobal>(
     children: &mut Children<P>,
     removals: &mut Option<Removals>,
@@ -163,12 +164,24 @@ pub(crate) fn await_end<P: OpenProcess + Drop, R: Files + Clock + AllocGlobal>(
 ) -> bool
     ensures { AllProceed (stand_in children.old.entries) (stand_in children.new.entries) }
 {
+    let newest = children.len().saturating_sub(NEWEST);
+    let mut looked = 0;
     let mut rested = 0;
     while rested < PAUSE {
         let slice = slice_after(children.len(), pauses, rested);
         rest(removals, rt, slice);
         rested += slice;
-        if rested < PAUSE && has_new_end(children) {
+        let due = is_due(
+            children.len(),
+            pauses,
+            rested,
+            rested.saturating_sub(looked),
+        );
+        if due {
+            looked = rested;
+        }
+        let from = if due { 0 } else { newest };
+        if rested < PAUSE && has_new_end(children, from) {
             return true;
         }
     }

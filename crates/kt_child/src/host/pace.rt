@@ -23,6 +23,9 @@ fn whole_slice(children: usize, since: u64) -> u64
     short.max(many).max(since * (children + 4) / 384)
 }
 
+/// The children that each slice looks at: those that began last, of which an end is likelier than of the others.
+pub(crate) const NEWEST: usize = 8;
+
 /// The microseconds of the next slice of a pause, after this many of it, and so many pauses without an end.
 pub(crate) fn slice_after(children: usize, pauses: u32, micros: u64) -> u64
     requires { micros ≤ 10000 }
@@ -31,7 +34,19 @@ pub(crate) fn slice_after(children: usize, pauses: u32, micros: u64) -> u64
     ensures fits { micros + result ≤ 10000 }
 {
     let since = PAUSE * u64::from(pauses) + micros;
-    whole_slice(children, since).min(PAUSE - micros)
+    let many = 3 * (children.min(512) as u64).saturating_sub(8);
+    whole_slice(children.min(NEWEST), since)
+        .max(many)
+        .min(PAUSE - micros)
+}
+
+/// Whether all children are looked at, after this many microseconds of a pause, of which so many passed since the last look at
+/// all.
+pub(crate) fn is_due(children: usize, pauses: u32, micros: u64, unlooked: u64) -> bool
+    requires { micros ≤ 10000 }
+    ensures { IsTrue result ↔ (whole_slice children (10000 * pauses + micros) ≤ unlooked) }
+{
+    unlooked >= whole_slice(children, PAUSE * u64::from(pauses) + micros)
 }
 
 /// The milliseconds for each answer of the second half, which is spread over the limit.
@@ -111,12 +126,15 @@ impl Pace {
         }
     }
 
-    /// Whether one more answer `running` would come too early.
+    /// Whether one more answer `running` would come too early. One of the first half never does, and needs no clock.
     pub(crate) fn is_early<C: Clock>(&self, clock: &C) -> bool
         ensures { IsTrue result → (now : Moment) × IsSomeAnd self.now.started (λ start.
             IsEarly self.now.limit self.now.told
             ((instant_nanos now - instant_nanos start) / 1000000)) }
     {
+        if self.is_free() {
+            return false;
+        }
         match Instant::now(clock) {
             Ok(now) => self.is_early_at(now),
             Err(_) => false,

@@ -2,10 +2,6 @@
 use Rattle.std.specs.Prelude.{ℕ, Bool, true, false, Some, not, cond, ◌+◌, ◌≤◌}
 use Rattle.kt_base.specs.declared.verdict.Kind.{Kind}
 use Rattle.kt_base.specs.Kinds.{good as is_good}
-use Rattle.kt_sched.specs.declared.job.StartAnswer.{StartAnswer}
-use Rattle.kt_sched.specs.declared.job.StartAnswer.TheVariants as told
-use Rattle.kt_sched.specs.declared.next.Answer.{Answer}
-use Rattle.kt_sched.specs.declared.next.Answer.TheVariants as answer
 use Rattle.kt_sched.specs.declared.totals.Totals.{Totals}
 use Rattle.kt_sched.specs.Trace.{Event, Then, event_count}
 use Rattle.kt_sched.specs.Fed.{Fed}
@@ -18,11 +14,6 @@ with_event fed e = record fed { trace = Then fed.trace e }
 abbrev pub after_put : Fed → Bool → Fed
 after_put fed true = record fed { stopped = Some (event_count fed.trace) }
 after_put fed false = record fed { stored = fed.stored + 1 }
-
--- the answer of a launcher to a start, as the core takes it
-abbrev pub answer_of : StartAnswer → Answer
-answer_of (told.Started moment) = answer.Started moment
-answer_of (told.Refused cause) = answer.Refused cause
 
 -- the totals with one more entry
 abbrev pub counted : Totals → Kind → Totals

@@ -1,6 +1,6 @@
 use Rattle.kt_sched.proofs.Common.{sym, ◌∙◌, ap, subst, Result, err_from_is_err_and, Totals, counted, Ran}
 use Rattle.kt_sched.specs.declared.run_fault.RunFault.{RunFault}
-use Rattle.kt_sched.proofs.Loop.{loop_answer, loop_can_count, loop_end, loop_failed, loop_first, loop_may_start, loop_may_wait, loop_put, loop_start, loop_storable}
+use Rattle.kt_sched.proofs.Loop.{loop_can_count, loop_end, loop_failed, loop_first, loop_may_start, loop_may_wait, loop_put, loop_runs, loop_start, loop_storable}
 use Rattle.kt_sched.proofs.Exits.{loop_idle, ran_not, ran_short, ran_well}
 use Rattle.kt_sched.proofs.run.run_cases.Goals as goal
 use Rattle.kt_sched.proofs.run.run_cases.Goals.{in-None, in-Some}
@@ -26,22 +26,21 @@ loop-i-preserved-in-Start g c =
     let e = c.in-Start.ensures in
     let s = c.start-told.ensures in
     loop_start c.requires.plan c.loop-i.invariant c.in-Start.i c.in-Start.role e.next e.follows _ e.stands c.job.result.now c.job.ensures
-    c.start-told.result c.start-told.new.self _ _ s.leads s.moment s.running s.pending e.asked c.answer_of.ensures c.feed.ensures.stands c.feed.ensures.asked
+    c.start-told.result c.start-told.new.self _ s.leads s.moment s.running s.pending c.started.ensures
 
 pub wait-ended-requires : goal.wait-ended-requires
 wait-ended-requires g c = loop_may_wait c.requires.plan c.loop-i.invariant c.in-Wait.ensures.follows
 
-pub feed-requires-in-Wait : goal.feed-requires-in-Wait
-feed-requires-in-Wait g c =
-    let e = c.in-Wait.ensures in
-    loop_answer c.requires.plan c.loop-i.invariant c.wait-ended.result c.wait-ended.ensures.one_that_ran _ e.asked e.stands
+pub ended-requires-clause-runs : goal.ended-requires-clause-runs
+ended-requires-clause-runs g c =
+    loop_runs c.requires.plan c.loop-i.invariant c.wait-ended.result c.wait-ended.ensures.one_that_ran _ c.in-Wait.ensures.stands
 
 pub loop-i-preserved-in-Wait : goal.loop-i-preserved-in-Wait
 loop-i-preserved-in-Wait g c =
     let e = c.in-Wait.ensures in
     let w = c.wait-ended.ensures in
-    loop_end c.requires.plan c.loop-i.invariant c.wait-ended.result w.one_that_ran _ e.asked e.stands c.wait-ended.new.self _ e.next
-    w.leads w.moment w.running w.pending c.feed-in-Wait.ensures.stands c.feed-in-Wait.ensures.asked
+    loop_end c.requires.plan c.loop-i.invariant c.wait-ended.result w.one_that_ran _ e.stands c.wait-ended.new.self _ e.next w.leads
+    w.moment w.running w.pending c.ended.ensures
 
 pub counted-more-requires : goal.counted-more-requires
 counted-more-requires g c = loop_can_count c.requires.plan c.loop-i.invariant c.in-Put.i c.in-Put.ensures.next c.in_ok-sched.ensures.room
@@ -55,16 +54,16 @@ pub loop-i-preserved-in-Ok : goal.loop-i-preserved-in-Ok
 loop-i-preserved-in-Ok g c =
     let e = c.in-Put.ensures in
     let y = c.take-entry.ensures in
-    let f = c.feed-in-Ok.ensures in
-    loop_put c.requires.plan c.loop-i.invariant c.in-Put.i e.next _ e.stands c.take-entry.result y.entry _ _ y.asked y.stands f.asked c.put.new.self
+    let f = c.put-in-Ok.ensures in
+    loop_put c.requires.plan c.loop-i.invariant c.in-Put.i e.next _ e.stands c.take-entry.result y.entry _ _ y.stands f.asked c.put.new.self
     _ (c.counted-more.ensures ∙ ap (counted c.loop-i.totals) c.kind.ensures) c.in-Ok.ensures.leads c.in-Ok.ensures.ok f.stands
 
 pub loop-i-preserved : goal.loop-i-preserved
 loop-i-preserved g c =
     let e = c.in-Put.ensures in
     let y = c.take-entry.ensures in
-    let f = c.feed-in-Err.ensures in
-    loop_failed c.requires.plan c.loop-i.invariant c.in-Put.i e.next _ e.stands c.take-entry.result y.entry _ _ y.asked y.stands f.asked c.put.new.self
+    let f = c.put-in-Err.ensures in
+    loop_failed c.requires.plan c.loop-i.invariant c.in-Put.i e.next _ e.stands c.take-entry.result y.entry _ _ y.stands f.asked c.put.new.self
     c.in-Err.cause c.in-Err.ensures.leads c.in-Err.ensures.err f.stands
 
 pub returns-in-Done-clause-ran : goal.returns-in-Done-clause-ran

@@ -1,8 +1,8 @@
 use Rattle.std.proofs.Common.{List, drop, rules, ◌≡◌, ◌<◌, ◌-◌, length, ◌∷◌, refl, ap, ◌∙◌}
 use Rattle.kt_suite.proofs.Common.{take_rest, Stmt}
-use Rattle.kt_suite.proofs.Inclusions.{step_stops, step_next, step_inner, step_inner_stops, deeper}
+use Rattle.kt_suite.proofs.Inclusions.{step_inner, step_next, step_stops}
 use Rattle.kt_suite.proofs.OpenedFiles.{unopened_file, opened_short}
-use Rattle.kt_suite.proofs.Reading.{reading_first, reading_all}
+use Rattle.kt_suite.proofs.Reading.{deeper, reading_all, reading_first, reading_next, reading_stops}
 use Rattle.kt_suite.proofs.loader.+read_file.Goals as goal
 
 pub returns-in-Err : goal.returns-in-Err
@@ -17,22 +17,23 @@ loop-stmt-init g n c = reading_first g.T.Tree.asks _ _ c.args.registry _ _ _ _ _
 pub returns-in-Err-step : goal.returns-in-Err-step
 returns-in-Err-step g n c =
     let e : c.loop-stmt.rest.now ≡ c.in-Some.stmt.now ∷ c.in-Some.after.now = search rules in
-    step_stops g.T.Tree.asks _ _ _ c.args.registry _ _ _ _ _ _ _ e c.loop-stmt.invariant c.in-Err-step.ensures.step
+    reading_stops g.T.Tree.asks _ _ _ c.args.registry _ _ _ _ _ _ e c.loop-stmt.invariant _ (step_stops c.in-Err-step.ensures.step)
 
 pub returns-in-Err-read_file : goal.returns-in-Err-read_file
 returns-in-Err-read_file g n c =
     let e : c.loop-stmt.rest.now ≡ c.in-Some.stmt.now ∷ c.in-Some.after.now = search rules in
-    step_inner_stops g.T.Tree.asks _ _ _ _ c.args.registry _ _ _ _ _ _ _ _ _ _ e c.in-Enter.is c.loop-stmt.invariant c.in-Ok-step.ensures.step c.in-Err-read_file.ensures
+    reading_stops g.T.Tree.asks _ _ _ c.args.registry _ _ _ _ _ _ e c.loop-stmt.invariant _ (step_inner c.in-Enter.is c.in-Ok-step.ensures.step c.in-Err-read_file.ensures)
 
 pub loop-stmt-preserved-in-Next : goal.loop-stmt-preserved-in-Next
 loop-stmt-preserved-in-Next g n c =
     let e : c.loop-stmt.rest.now ≡ c.in-Some.stmt.now ∷ c.in-Some.after.now = search rules in
-    step_next g.T.Tree.asks _ _ _ c.args.registry _ _ _ _ _ _ _ _ _ e c.in-Next.is c.loop-stmt.invariant c.in-Ok-step.ensures.step c.in-Ok-step.ensures.suite
+    reading_next g.T.Tree.asks _ _ _ c.args.registry _ _ _ _ _ _ e c.loop-stmt.invariant _ _ c.in-Ok-step.ensures.suite (step_next c.in-Next.is c.in-Ok-step.ensures.step)
 
 pub loop-stmt-preserved : goal.loop-stmt-preserved
 loop-stmt-preserved g n c =
     let e : c.loop-stmt.rest.now ≡ c.in-Some.stmt.now ∷ c.in-Some.after.now = search rules in
-    step_inner g.T.Tree.asks _ _ _ _ c.args.registry _ _ _ _ _ _ _ _ _ _ _ e c.in-Enter.is c.loop-stmt.invariant c.in-Ok-step.ensures.step c.in-Ok-step.ensures.suite c.in-Ok-read_file.ensures
+    reading_next g.T.Tree.asks _ _ _ c.args.registry _ _ _ _ _ _ e c.loop-stmt.invariant _ _ c.in-Ok-step.ensures.suite
+    (step_inner c.in-Enter.is c.in-Ok-step.ensures.step c.in-Ok-read_file.ensures)
 
 pub returns : goal.returns
 returns g n c = reading_all g.T.Tree.asks _ _ c.args.registry _ _ _ _ _ c.in_default.ensures.cases c.loop-stmt.invariant c.end.ensures

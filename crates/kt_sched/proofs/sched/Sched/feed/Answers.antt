@@ -6,8 +6,8 @@ use Rattle.kt_sched.proofs.sched.Sched.feed.Goals as goal
 pub ended-requires-clause-runs : goal.ended-requires-clause-runs
 ended-requires-clause-runs c =
     let v = c.requires in
-    let e = c.in-Ended.ended in
-    let q = sym (ap (λ (b : SchedState). b.asked) c.self.view_is) ∙ c.in-Wait.is in
+    let e = c.in-Wait-Ended.ended in
+    let q = sym (ap (λ (b : SchedState). b.asked) c.self.view_is) ∙ c.in-Wait-Ended.is-0 in
     let P : Next → Type 0 = λ x. IsAnswerTo v.2.trace x c.args.answer in
     let Q : Answer → Type 0 = λ x. IsAnswerTo v.2.trace next.Wait x in
-    runs_stage v.3 e.position e.role (subst Q c.in-Ended.is (subst P q v.4))
+    runs_stage v.3 e.position e.role (subst Q c.in-Wait-Ended.is-1 (subst P q v.4))

@@ -1,4 +1,4 @@
-use Rattle.kt_sched.proofs.Common.{sym, subst, SchedState, Stands, HasDecided, HasRecord, HasTurn}
+use Rattle.kt_sched.proofs.Common.{◌<◌, List, length, true, sym, subst, Case, SchedState, Stands, HasDecided, HasRecord, HasTurn}
 use Rattle.kt_sched.proofs.Located.{start_within}
 use Rattle.kt_sched.proofs.Opened.{stands_opened, told_now}
 use Rattle.kt_sched.proofs.sched.Sched.open_decided.Goals as goal
@@ -7,12 +7,14 @@ use Rattle.std.proofs.lemmas.Option.{same_Some}
 pub is_decided-requires : goal.is_decided-requires
 is_decided-requires c =
     let t = subst (λ (b : SchedState). HasTurn b c.in-Some.i) (sym c.self.view_is) c.in-Some.ensures in
-    start_within c.self.invariant.3 c.self.inside.turn c.in-Some.i t.1
+    subst (λ (cs : List Case). c.in-Some.i < length cs) (sym c.deref.ensures.value)
+    (start_within c.self.invariant.3 c.self.inside.turn c.in-Some.i t.1)
 
 pub returns-then-is_decided-clause-stands : goal.returns-then-is_decided-clause-stands
 returns-then-is_decided-clause-stands c = λ plan n fed h.
     let t = subst (λ (b : SchedState). HasTurn b c.in-Some.i) (sym c.self.view_is) c.in-Some.ensures in
-    let d = subst (HasDecided c.self.inside.cases.items c.in-Some.i) c.if-is_decided.true c.is_decided.ensures in
+    let x = subst (HasDecided c.deref.result.now c.in-Some.i) c.if-is_decided.true c.is_decided.ensures in
+    let d = subst (λ (cs : List Case). HasDecided cs c.in-Some.i true) c.deref.ensures.value x in
     stands_opened (subst (Stands plan n fed) (sym c.self.view_is) h) t d c.in-None.is
 
 pub invariant_of-self : goal.invariant_of-self
@@ -22,5 +24,6 @@ invariant_of-self c =
 pub returns-then-is_decided-clause-told : goal.returns-then-is_decided-clause-told
 returns-then-is_decided-clause-told c = λ q k e.
     let t = subst (λ (b : SchedState). HasTurn b c.in-Some.i) (sym c.self.view_is) c.in-Some.ensures in
-    let d = subst (HasDecided c.self.inside.cases.items c.in-Some.i) c.if-is_decided.true c.is_decided.ensures in
+    let x = subst (HasDecided c.deref.result.now c.in-Some.i) c.if-is_decided.true c.is_decided.ensures in
+    let d = subst (λ (cs : List Case). HasDecided cs c.in-Some.i true) c.deref.ensures.value x in
     subst (HasRecord c.self.inside.cases.items) (same_Some c.in-Some.i k e) (told_now c.self.invariant.3 t d)
