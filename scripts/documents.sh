@@ -1,9 +1,9 @@
 #!/usr/bin/env bash
-# Looks at the pages, which are all files *.md: each link leads to a file that is there, and to a heading that it has; ARCHITECTURE.md
-# names each page of docs/, and no other; no paragraph, item or row has more than 700 bytes, and no row of ARCHITECTURE.md more than 40
-# words; and each path, function and definition in backticks, or in a row of ARCHITECTURE.md, stands in the tree. What looks like a path
-# ends like a file of this tree or begins with a directory of it; what looks like a name has an underscore, or begins with a capital and
-# goes on in small letters. For each rule there are wrong texts that it must find.
+# Looks at the pages, which are all files *.md. Each link leads to a file that is there, and to a heading that it has. ARCHITECTURE.md
+# names each page of docs/, and no other. No paragraph, item or row has more than 700 bytes, and no row or item of ARCHITECTURE.md more
+# than 40 words. Each path, function and definition in backticks, or in a row or an item of ARCHITECTURE.md, stands in the tree. What
+# looks like a path ends like a file of this tree or begins with a directory of it; what looks like a name has an underscore, or begins
+# with a capital and goes on in small letters. For each rule there are wrong texts that it must find.
 # Prints each place that breaks a rule, and each wrong text that is not found. The last line is 'N passed, M failed', over the rules and
 # these texts.
 set -eu -o pipefail
@@ -99,7 +99,7 @@ read_pages() {
       if (!length_so_far) began = FILENAME ":" FNR
       length_so_far += length($0) + (length_so_far > 0)
     }
-    /^\|/ && FILENAME ~ /ARCHITECTURE\.md$/ {
+    /^(\||- )/ && FILENAME ~ /ARCHITECTURE\.md$/ {
       row = $0
       gsub(/\|/, " ", row)
       n = split(row, words, " ")
@@ -184,6 +184,7 @@ wrong name x.md <<< 'By `Result.NeverNamed` that is so.'
 wrong link ARCHITECTURE.md <<< '[gates.md](gates.md)'
 wrong row ARCHITECTURE.md < <(printf '| a %.0s' $(seq 41); echo)
 wrong name ARCHITECTURE.md <<< '| a rule | src/gone.rt |'
+wrong name ARCHITECTURE.md <<< '- a room: gone.rt, mod.rt'
 echo 'page	docs/ARCHITECTURE.md does not name docs/gate.md' >> "$room/due"
 look "$room" docs/x.md docs/ARCHITECTURE.md > "$room/found"
 while IFS= read -r due; do
