@@ -1,8 +1,8 @@
 #!/usr/bin/env bash
 # Tests this repository from scratch: every proof, the edits that must be refused, the rows of data and the program by `rt ci`,
-# the searches for faults that are made by hand and for definitions that no caller needs, rows in a process of their own, then the
-# runner's own suite with the program that was proved, and then the program in dist/, if there is one. It says how far it is, and
-# at its end what failed once more. The last line is 'N passed, M failed', over all.
+# the searches for faults that are made by hand, for definitions that no caller needs and for what pages name that isn't there, rows
+# in a process of their own, then the runner's own suite with the program that was proved, and then the program in dist/, if there is
+# one. It says how far it is, and at its end what failed once more. The last line is 'N passed, M failed', over all.
 # rt is taken from PATH, else from the kit that RATTLE_KIT names. Without a C compiler it fails at once.
 set -u -o pipefail
 top=$(cd "$(dirname "$0")" && pwd)
@@ -67,6 +67,7 @@ memory=$(sed -n 's/^MemAvailable: *\([0-9]*\) kB$/\1/p' /proc/meminfo)
 part 'proofs, edits and rows' "'rt check' in the crate's directory, 'rt must-fail NAME', scripts/rows.sh" rt ci
 part 'faults made by hand' scripts/faults.sh scripts/faults.sh
 part 'definitions' scripts/definitions.sh scripts/definitions.sh
+part 'pages' scripts/documents.sh scripts/documents.sh
 part 'rows alone' scripts/rows_alone.sh scripts/rows_alone.sh
 # rt ci leaves the program that it proved. If a proof failed there is none, and the suite fails too.
 part 'the suite' tests/run.sh env KYUA="$PWD/crates/kyua/out/kyua" SUITE_STEP=1 tests/run.sh

@@ -1,5 +1,7 @@
-# What the programs begin with that try the scripts of examples/scripts, after tap.sh. These call the runner that is tested as kyua.
-scripts=$(realpath "$suite/../examples/scripts")
+# What the programs begin with that try the scripts of examples/scripts, after lib.sh. These call the runner that is tested as kyua.
+# RECIPES_SHELL and RECIPES_AWK are a shell and an awk for all scripts; without them the scripts take the system's.
+originals=$(realpath "$suite/../examples/scripts")
+scripts=$originals
 here=$PWD
 mkdir bin work
 # What a runner that is killed leaves must lie here.
@@ -13,6 +15,27 @@ exec "$(realpath "$kyua")" "\$@"
 P
 PATH=$here/bin:$PATH
 export PATH
+
+# pairs: a line SHELL:AWK for each pair that is tried and installed.
+pairs() {
+    for pair in dash:mawk bash:gawk dash:'gawk --posix' 'busybox sh:busybox awk' dash:original-awk mksh:mawk yash:mawk; do
+        awk=${pair#*:}
+        [ -z "$(command -v "${pair%%[ :]*}")" ] || [ -z "$(command -v "${awk%% *}")" ] || printf '%s\n' "$pair"
+    done
+}
+# with_tools SHELL AWK: scripts names a copy of the scripts, which this shell runs, as it runs what they write, with this awk.
+with_tools() {
+    rm -rf "$here/tools"
+    mkdir "$here/tools"
+    cp -R "$originals" "$here/tools/scripts"
+    scripts=$here/tools/scripts
+    arguments=${1#"${1%% *}"}
+    sed -i "s|^#!/bin/sh\$|#!$(command -v "${1%% *}")$arguments|" "$scripts"/*
+    printf 'exec %s "$@"\n' "$1" | program "$here/tools/sh"
+    printf 'exec %s "$@"\n' "$2" | program "$here/tools/awk"
+    PATH=$here/tools:$PATH
+}
+[ -z "${RECIPES_SHELL-}" ] || with_tools "$RECIPES_SHELL" "${RECIPES_AWK:-mawk}"
 
 # afresh: goes on in an empty directory.
 afresh() {
@@ -81,22 +104,11 @@ plays_many() {
     tree "atf_test_program{name='lists'}"
     ! kyua -v parallelism=8 test > log || fail 'no case is bad'
 }
-# each_tool COMMAND [WORD]..: this command goes through with a copy of the scripts, in the directory that scripts names, for each sh that
-# there is, and with each awk.
-each_tool() {
-    rm -rf "$here/copies"
-    cp -R "$scripts" "$here/copies"
-    scripts=$here/copies
-    for tool in 'busybox sh' mksh yash bash dash; do
-        path=$(command -v "${tool%% *}") || continue
-        # All but the stylesheet are scripts of sh.
-        for script in "$scripts"/*[!l]; do sed -i "1s|^#!.*|#!$path${tool#"${tool%% *}"}|" "$script"; done
-        "$@" || fail "another result by $tool"
-    done
-    mkdir -p "$here/tools"
-    for tool in mawk gawk 'gawk --posix' original-awk 'busybox awk'; do
-        command -v "${tool%% *}" > /dev/null || continue
-        printf 'exec %s "$@"\n' "$tool" | program "$here/tools/awk"
-        (PATH=$here/tools:$PATH; "$@") || fail "another result by $tool"
-    done
+# each_pair COMMAND [WORD]..: this command goes through with each pair of a shell and an awk.
+each_pair() {
+    [ -z "${RECIPES_SHELL-}" ] || { "$@"; return; }
+    pairs > "$here/pairs"
+    while IFS=: read -r shell awk; do
+        (with_tools "$shell" "$awk"; "$@") < /dev/null || fail "another result by $shell and $awk"
+    done < "$here/pairs"
 }
