@@ -288,6 +288,8 @@ kt_child/src/host/outputs.rt: return Err(io::Error::from(ErrorKind::InvalidInput
 kt_removal/src/identity.rt: return Err(io::Error::from(ErrorKind::NotADirectory));
 kt_cli/src/host/host_machine.rt: return Err(ReadFault::Failed);
 kt_cli/src/host/host_world.rt: None => Err(ReadFault::Failed),
+# What stands where a new file of results is made may be one that was left.
+kt_store/src/new_file.rt: Err(error) if error.kind() == ErrorKind::AlreadyExists => {
 # A child that was not made, or not started.
 kt_child/src/host/children.rt: None => Err(OsFault::Failed),
 kt_child/src/host/children.rt: None => Err(OsFault::Failed),
@@ -364,8 +366,7 @@ kt_child/src/host/outputs.rt: let _ = fs::remove_dir(rt, path);
 kt_child/src/host/outputs.rt: let _ = fs::remove_dir(rt, root.as_str());
 # The first name of a new file of results, once it has its own.
 kt_store/src/new_file.rt: let is_named = is_whole && fs::hard_link(rt, new.as_str(), file.as_str()).is_ok();
-kt_store/src/new_file.rt: let _ = fs::remove_file(rt, new.as_str());
-kt_store/src/new_file.rt: let _ = fs::remove_file(rt, new.as_str());
+kt_store/src/new_file.rt: let _ = fs::remove_file(rt, name.as_str());
 PLACES
 body kt_store/src/new_file.rt 'if found.nlink() > 1 {' <<'BODY'
 if found.len() > 268_435_456 { let _ = fs::remove_file(rt, file.as_str()); }

@@ -1,11 +1,12 @@
-ghost use Rattle.std.specs.Prelude.{◌≡◌, ℕ, List};
+ghost use Rattle.std.specs.Prelude.{◌≡◌, ◌++◌, ℕ, List, IfOk};
 ghost use Rattle.sqlite_pool.specs.Header.{first_page};
 ghost use Rattle.sqlite_wal.specs.Recovery.{IsIgnored};
-ghost use Rattle.kt_store.specs.Inner.NewFiles.{HoldsEmpty};
+ghost use Rattle.kt_store.specs.Inner.NewFiles.{HoldsEmpty, IsNewName};
+ghost use Rattle.std.specs.Str.{chars};
 
-use kt_base::{NoMemory, Text};
-use std::fs::{Metadata, OpenFile, OpenOptions, Permissions};
-use std::io::{ErrorKind, Write};
+use kt_base::{NoMemory, Text, emit};
+use std::fs::{File, Metadata, OpenFile, OpenOptions, Permissions};
+use std::io::{ErrorKind, Read};
 use std::os::unix::fs::{MetadataExt, PermissionsExt};
 use std::rt::Files;
 use std::{fs, io};
@@ -49,6 +50,7 @@ fn first_page() -> [u8; PAGE_SIZE]
 /// Makes an empty file, with the rights that the umask leaves, and always those of its owner to read and write it.
 fn make_file<R: Files>(rt: &R, path: &str) -> io::Result<R::File> {
     let made = OpenOptions::new()
+        .read(true)
         .write(true)
         .create_new(true)
         .open(rt, path)?;
@@ -63,10 +65,19 @@ fn make_file<R: Files>(rt: &R, path: &str) -> io::Result<R::File> {
 }
 
 /// The name of a file that lies beside another.
-fn beside(file: &Text, ending: &str) -> Result<Text, NoMemory> {
+fn beside(file: &Text, ending: &str) -> Result<Text, NoMemory>
+    ensures { IfOk result (λ name. name ≡ file.now ++ chars ending.now) }
+{
     let mut name = file.copy()?;
     name.push_str(ending)?;
     Ok(name)
+}
+
+/// The name that a new file has until it is whole.
+fn new_name(file: &Text) -> Result<Text, NoMemory>
+    ensures { IfOk result IsNewName }
+{
+    beside(file, "-new")
 }
 
 /// Whether the log of a file may have a frame. That of a file that was removed would be read as the log of a new one.
@@ -78,42 +89,104 @@ pub(crate) fn may_have_frames<R: Files>(rt: &R, file: &Text) -> Result<bool, NoM
     })
 }
 
-/// Makes a file with an empty database, and returns whether all of it is on the disk; none if the file can't be made.
-fn write_page<R: Files>(rt: &R, path: &str) -> Option<bool> {
-    let mut made = make_file(rt, path).ok()?;
-    Some(made.write_all(&first_page()).is_ok() && made.sync_all().is_ok())
+/// Removes the first name of a new file. Nothing else is removed here.
+fn remove_new<R: Files>(rt: &R, name: &Text)
+    requires { IsNewName name.now }
+{
+    let _ = fs::remove_file(rt, name.as_str());
+}
+
+/// Opens the file that gets the first page: a new one, or one that a killed maker left; none if something else stands there.
+fn open_new<R: Files<File = File>>(rt: &R, name: &str) -> Option<File> {
+    match make_file(rt, name) {
+        Ok(made) => Some(made),
+        Err(error) if error.kind() == ErrorKind::AlreadyExists => {
+            let found = fs::symlink_metadata(rt, name).ok()?;
+            if !found.is_file() {
+                return None;
+            }
+            OpenOptions::new()
+                .read(true)
+                .write(true)
+                .open(rt, name)
+                .ok()
+        }
+        Err(_fault) => None,
+    }
+}
+
+/// Writes the rest of the first page behind what a file has of it, and returns whether all of it is on the disk. None if
+/// another process writes the file, or it has something else.
+fn fill(made: &mut File) -> Option<bool> {
+    made.try_lock().ok()?;
+    let mut there = [0; PAGE_SIZE + 1];
+    let length = made.read(&mut there).ok()?;
+    let page = first_page();
+    let rest = page.strip_prefix(&there[..length])?;
+    Some(emit(rest, made).is_ok() && made.sync_all().is_ok())
 }
 
 /// Makes an empty database, and returns whether it did. The file gets its name once it is whole and on the disk, by a
 /// link, since a rename would replace a file that another process made meanwhile.
-fn make_database<R: Files>(rt: &R, file: &Text) -> Result<bool, NoMemory> {
+fn make_database<R: Files<File = File>>(rt: &R, file: &Text) -> Result<bool, NoMemory> {
     if may_have_frames(rt, file)? {
         return Ok(false);
     }
-    let new = beside(file, "-new")?;
-    let Some(is_whole) = write_page(rt, new.as_str()) else {
+    let new = new_name(file)?;
+    let Some(mut made) = open_new(rt, new.as_str()) else {
+        return Ok(false);
+    };
+    let Some(is_whole) = fill(&mut made) else {
         return Ok(false);
     };
     let is_named = is_whole && fs::hard_link(rt, new.as_str(), file.as_str()).is_ok();
-    let _ = fs::remove_file(rt, new.as_str());
+    remove_new(rt, &new);
     Ok(is_named)
 }
 
-/// Removes the first name of a file whose maker was killed before it did so: a file with two names can't be opened.
-fn remove_first_name<R: Files>(rt: &R, file: &Text, found: &Metadata) -> Result<(), NoMemory> {
-    let new = beside(file, "-new")?;
-    if let Ok(same) = fs::symlink_metadata(rt, new.as_str()) {
-        if same.dev() == found.dev() && same.ino() == found.ino() {
-            let _ = fs::remove_file(rt, new.as_str());
+/// Whether a path is that of this file.
+fn is_same<R: Files>(rt: &R, path: &str, found: &Metadata) -> bool {
+    match fs::symlink_metadata(rt, path) {
+        Ok(same) => same.dev() == found.dev() && same.ino() == found.ino(),
+        Err(_missing) => false,
+    }
+}
+
+/// The directory of a file.
+fn folder(file: &str) -> &str {
+    match file.rsplit_once('/') {
+        Some(("", _)) => "/",
+        Some((front, _)) => front,
+        None => ".",
+    }
+}
+
+/// Removes the first name of a file whose maker was killed before it did so, also where the file was renamed since: a file
+/// with two names can't be opened.
+fn remove_first_name<R: Files + AllocGlobal + Clone + Drop>(
+    rt: &R,
+    file: &Text,
+    found: &Metadata,
+) -> Option<()> {
+    for entry in fs::read_dir(rt, folder(file.as_str())).ok()? {
+        let entry = entry.ok()?;
+        let path = entry.path();
+        let Some(front) = path.to_string_lossy().strip_suffix("-new") else {
+            continue;
+        };
+        let file = Text::from_str(rt.alloc(), front).ok()?;
+        let name = new_name(&file).ok()?;
+        if is_same(rt, name.as_str(), found) {
+            remove_new(rt, &name);
         }
     }
-    Ok(())
+    Some(())
 }
 
 /// Makes a file if there is none: an empty database, or if that can't be made (the file system has no links, or the log of
 /// an older file is there), an empty file, which becomes a database with larger pages. A file that is there stays as it
 /// is. Why none can be made is reported when it is opened; then its log is made too, with the rights of the file.
-pub(crate) fn prepare<R: Files>(rt: &R, file: &Text) {
+pub(crate) fn prepare<R: Files<File = File> + AllocGlobal + Clone + Drop>(rt: &R, file: &Text) {
     match fs::symlink_metadata(rt, file.as_str()) {
         Ok(found) => {
             if found.nlink() > 1 {

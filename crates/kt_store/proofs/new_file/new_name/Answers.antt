@@ -1,0 +1,8 @@
+use Rattle.std.proofs.lemmas.Result.{IfOk-weaker}
+unfoldable use Rattle.std.specs.Str.{chars}
+use Rattle.kt_store.specs.Inner.NewFiles.{IsNewName}
+use Rattle.kt_store.proofs.new_file.new_name.Goals as goal
+
+pub returns : goal.returns
+unfolding chars
+returns c = IfOk-weaker c.beside.result _ IsNewName (λ name is. (c.args.file.now, is)) c.beside.ensures
