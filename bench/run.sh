@@ -60,10 +60,11 @@ tests() {
   floor_tests "$@" floor.db
 }
 # The original makes a file for each run, and takes none that has results.
-tests_beside_older() {
+#   tests_beside FILE
+tests_beside() {
   rm -f {ours,floor}.db*
-  cp many.ours ours.db
-  cp many.ours floor.db
+  cp "$1" ours.db
+  cp "$1" floor.db
   ours_tests hundred 4 ours.db
   floor_tests plain 0 100 4 floor.db
 }
@@ -76,6 +77,20 @@ lists() {
 reports() {
   ours "$1" -r "$2.ours"
   [ ! -e "$2.theirs" ] || theirs "$1" -r "$scratch/$2.theirs"
+}
+
+# Makes the file `older`, with the 10,000 results of the first run so many times, and for each result so many bytes of output and,
+# if these are any, its pairs.
+#   older TIMES BYTES
+older() {
+  cp many.ours older
+  sqlite3 -batch -bail older "
+    CREATE TEMP TABLE copies AS WITH RECURSIVE c(n) AS (SELECT 2 UNION ALL SELECT n + 1 FROM c WHERE n < $1) SELECT n FROM c;
+    INSERT INTO runs SELECT n, started, total, finished FROM runs, copies;
+    INSERT INTO entries SELECT n, position, program, case_name, kind, reason, started, millis, randomblob($2), body_err, clean_out,
+      clean_err FROM copies, entries WHERE run = 1 ORDER BY n, position;
+    INSERT INTO props SELECT n, position, place, name, value FROM copies, props WHERE run = 1 AND $2 > 0 ORDER BY n, position, place;
+    PRAGMA wal_checkpoint(truncate)" > log
 }
 
 # Prints the median of a column of a runner's figures, which are divided by a number, or a dash if there are none.
@@ -191,7 +206,18 @@ for width in 1 4 8; do row "test of 500 TAP programs, $width at once" 500 '  -> 
 for width in 1 4 8; do row "test of 50 ATF programs with 4 cases, $width at once" 200 '  ->  passed' tests atf 50 200 $width; done
 row 'test of 200 programs that print 10 KiB, 4 at once' 200 '  ->  passed' tests brief 0 200 4
 row 'test of 100 programs that print 1 MiB, 4 at once' 100 '  ->  passed' tests loud 0 100 4
-row 'test of 100 programs, beside 10,000 results, 4 at once' 100 '  ->  passed' tests_beside_older
+row 'test of 100 programs, beside 10,000 results, 4 at once' 100 '  ->  passed' tests_beside many.ours
+if type -P sqlite3 > /dev/null; then
+  older 20 0
+  row 'test of 100 programs, beside 200,000 results' 100 '  ->  passed' tests_beside older
+  older 20 300
+  row 'the same, with 300 bytes of output and pairs each' 100 '  ->  passed' tests_beside older
+  older 100 0
+  row 'test of 100 programs, beside 1,000,000 results' 100 '  ->  passed' tests_beside older
+  mv ours.db older.ours
+  row 'report of 100 cases, beside 1,000,000 results' 1 '^Test cases: 100 total' reports report older
+  rm older older.ours
+fi
 row 'list of 1,000 plain programs in 100 Kyuafiles' 1000 :main lists tree
 row 'list of 100 ATF programs with 4 cases' 400 atf: lists lists
 row 'report of 10,000 cases' 1 '^Test cases: 10000 total' reports report many

@@ -1,16 +1,12 @@
 -- What the program has around its commands.
-use Rattle.std.specs.Prelude.{ℕ, ◌⊎◌, ◌≡◌, List, Result, Ok, Err, ⊤}
+use Rattle.std.specs.Prelude.{ℕ, ◌⊎◌, ◌≡◌, List, Result, Ok, Err}
 use Rattle.sqlite_disk.specs.declared.Disk as disk
 use Rattle.sqlite_store.specs.declared.store.FileStore.{FileStore}
 use Rattle.sqlite_wal.specs.Recovery.{Image}
 use Rattle.kt_child.specs.declared.driving.driver.DriverFault.{DriverFault}
 use Rattle.kt_store.specs.Ask.{IsStoreFault}
-use Rattle.kt_store.specs.Files.{AreOver, IsClosed}
-use Rattle.kt_store.specs.Seeks.{ReadsRuns}
+use Rattle.kt_store.specs.Files.{Ends, Finds}
 use Rattle.kt_store.specs.declared.access.Access.{Access}
-use Rattle.kt_store.specs.declared.access.Access.TheVariants.{Record, Read}
-use Rattle.kt_store.specs.declared.file_results.FileResults.{FileResults}
-use Rattle.kt_store.specs.declared.file_results.FileResults.TheVariants.{Whole, Alone}
 use Rattle.kt_store.specs.declared.store_fault.StoreFault.{StoreFault}
 use Rattle.kt_store.specs.declared.store_fault.StoreFault.TheVariants.{UnknownSchema}
 use Rattle.kt_cli.specs.Around.{IsFound}
@@ -22,14 +18,11 @@ pub data Provided (S : Type 0) : Type 0 where
   Closed : (results : S) (answer : Result (Unit {0}) StoreFault) → Provided S
   Found : (answer : Result Surroundings DriverFault) → Provided S
 
--- what a platform does whose results are in files, one of which held this: the results that are opened of that file are those of its database,
--- as `attach` takes them, or, if they are only to be shown, may be read alone and are those that the file held; closed ones that were not read alone are in the database file alone
-abbrev pub InFiles : {D : Type 0} {g : disk.Ghosts D} → List ℕ → Image → Provided (FileResults (FileStore D g)) → Type 0
-InFiles path image (Opened file access (Ok (Whole results))) = file ≡ path → AreOver image results
-InFiles path image (Opened file Read (Ok (Alone results alloc))) = file ≡ path → ReadsRuns image results
-InFiles path image (Opened file Record (Ok (Alone results alloc))) = ⊥
+-- what a platform does whose results are in files, one of which held this: the results that are opened of that file are those that it held, and
+-- closed ones are in the database file alone
+abbrev pub InFiles : {D : Type 0} {g : disk.Ghosts D} → List ℕ → Image → Provided (FileStore D g) → Type 0
+InFiles path image (Opened file access (Ok results)) = file ≡ path → Finds image results
 InFiles path image (Opened file access (Err fault)) = IsStoreFault fault ⊎ (fault ≡ UnknownSchema)
-InFiles path image (Closed (Whole results) (Ok done)) = IsClosed results
-InFiles path image (Closed (Alone results alloc) (Ok done)) = ⊤
+InFiles path image (Closed results (Ok done)) = Ends results
 InFiles path image (Closed results (Err fault)) = IsStoreFault fault
 InFiles path image (Found answer) = IsFound answer

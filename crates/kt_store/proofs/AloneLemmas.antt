@@ -6,9 +6,9 @@ use Rattle.kt_store.proofs.Common.{entries_of, entry_at, outlined, run_at, seen_
 use Rattle.sqlite_trees.specs.View.{View, IsClean, KeepsSchema}
 use Rattle.kt_store.specs.declared.result_store.CaseOutputs.{CaseOutputs}
 use Rattle.kt_store.specs.declared.result_store.RunHead.{RunHead}
-use Rattle.kt_store.specs.Known.{readings}
+use Rattle.kt_store.specs.Inner.Known.{readings}
 use Rattle.kt_store.specs.Inner.Cursors.{HoldsCommit, Looks}
-use Rattle.kt_store.specs.Seeks.{HasRuns}
+use Rattle.kt_store.specs.Inner.Known.{HasRuns}
 use Rattle.kt_store.proofs.SeenLemmas.{still_has}
 
 -- an answer agrees with the runs if what was read is theirs, and a fault one of the store
@@ -67,17 +67,3 @@ module _ {S : Type 0} (g : Ghosts S) where
 
     pub outputs_looked : (number position : ℕ) (answer : Result CaseOutputs StoreFault) → ((runs : List Run) → HasRuns (g.view old) runs → IsClean (g.view new) → Agrees runs (Outputs number position answer)) → Serves (readings g) (Outputs number position answer) old new
     outputs_looked number position answer why = record { asked = tt; stands = stays; earlier = λ runs h clean. looks.clean clean; agrees = λ runs h clean. why runs h.0 clean; crash = λ runs may h. leaves may }
-
-  -- a call that writes is refused
-  module _ (s : S) (fault : StoreFault) (failed : IsStoreFault fault) where
-    wider : (runs change : List Run) (may : List (List Run)) → (readings g).leaves s (runs ∷ may) → (readings g).leaves s (runs ∷ change ∷ may)
-    wider runs change may h clean trees found = elim (h clean trees found) [ inl one ↦ inl one | inr more ↦ inr (inr more) ]
-
-    pub begin_never : (total moment : ℕ) → Serves (readings g) (Began total moment (Err fault)) s s
-    begin_never total moment = record { asked = tt; stands = λ runs h. h; earlier = λ runs h clean. clean; agrees = λ runs h clean. inl failed; crash = λ runs may h. wider runs (runs ++ new_run runs total moment ∷ []) may }
-
-    pub put_never : (number : ℕ) (e : Entry) → Serves (readings g) (Put number e (Err fault)) s s
-    put_never number e = record { asked = tt; stands = λ runs h. h; earlier = λ runs h clean. clean; agrees = λ runs h clean. inl failed; crash = λ runs may h. wider runs (with_entry number e runs) may }
-
-    pub finish_never : (number : ℕ) → Serves (readings g) (Finished number (Err fault)) s s
-    finish_never number = record { asked = tt; stands = λ runs h. h; earlier = λ runs h clean. clean; agrees = λ runs h clean. inl failed; crash = λ runs may h. wider runs (finish number runs) may }

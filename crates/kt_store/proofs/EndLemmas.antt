@@ -7,8 +7,8 @@ use Rattle.sqlite_catalog.specs.Listing.{IsSound}
 use Rattle.kt_store.specs.Inner.Cursors.{Looks, HoldsCommit}
 use Rattle.kt_store.specs.Inner.Edits.{IsSettledStore, Wrote}
 use Rattle.kt_store.specs.Inner.Places.{StandAt, places_2}
-use Rattle.kt_store.specs.Known.{readings, runs_file}
-use Rattle.kt_store.specs.Seeks.{HasCommitted, HasRuns}
+use Rattle.kt_store.specs.Inner.Known.{HasRuns, readings, runs_file}
+use Rattle.kt_store.specs.Seeks.{HasCommitted}
 use Rattle.kt_store.specs.declared.places.Places.{Places}
 use Rattle.kt_store.proofs.EditLemmas.{schema_is}
 use Rattle.kt_store.proofs.Numbered.{numbers_changed, ordered_changed}

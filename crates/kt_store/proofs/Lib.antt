@@ -47,7 +47,7 @@ pub mod CursorLemmas
 pub mod BehindLemmas
 pub mod SeenLemmas
 pub mod AloneLemmas
-pub mod FileLemmas
+pub mod FoundLemmas
 pub mod OpeningLemmas
 pub mod TurnLemmas
 pub mod CommitLemmas

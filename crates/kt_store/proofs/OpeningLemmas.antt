@@ -31,7 +31,7 @@ use Rattle.sqlite_trees.proofs.Doubt.{clean_of}
 use Rattle.sqlite.specs.Files.{over_files}
 use Rattle.kt_store.specs.Inner.Cursors.{Looks}
 use Rattle.kt_store.specs.Inner.Opening.{OpensOver}
-use Rattle.kt_store.specs.Seeks.{OpensRuns, ReadsRuns}
+use Rattle.kt_store.specs.Seeks.{OpensRuns}
 use Rattle.kt_store.proofs.EndLemmas.{clean_of_open}
 use Rattle.sqlite_store.specs.Laws.{shut_if_dirty_at}
 
@@ -120,24 +120,9 @@ pub without_sums : (size : ℕ) (image : Image) (db : Trees) → size % 16 ≢ 8
 without_sums size image db plain held =
     record { pages = held.pages; wanted = held.wanted; schema = held.schema; found = plain_adopts size image held.pages plain held.found; ours = held.ours; reads = held.reads; sound = held.sound }
 
-ordered_of : (runs : List Run) → AllByRecursion IsRun runs → AreOrdered runs
+pub ordered_of : (runs : List Run) → AllByRecursion IsRun runs → AreOrdered runs
 ordered_of [] each = tt
 ordered_of (r ∷ runs) each = (each.0.ordered, ordered_of runs each.1)
-
--- what is open over a file reads its runs
-pub reads_runs : {D : Type 0} {g : Ghosts D} (image : Image) (store : FileStore D g) → (IsTrue (view store).is_clean → OpensOver image store) → ReadsRuns image store
-reads_runs image store opens = record {
-  stands = λ runs h. (λ clean sound. (opens (clean_of _ clean)).holds runs h sound, h.2.3.valid.numbered, λ clean. ordered_of runs h.2.3.valid.each);
-  leaves = λ runs h clean trees found. (opens (clean_of _ clean)).leaves runs h trees found;
-}
-
--- and so it does once it was looked at
-pub still_over : {D : Type 0} {g : Ghosts D} (image : Image) (old new : FileStore D g) → Looks over_files old new → IsClean (view new) → OpensOver image old → OpensOver image new
-still_over image old new looks clean opens = record {
-  holds = λ runs h sound. let same = looks.same clean sound in
-      subst (Keeps runs) (ap (λ (v : View). v.trees) (sym same)) (opens.holds runs h (ap (λ (v : View). v.is_broken) (sym same) ∙ sound));
-  leaves = λ runs h trees found. opens.leaves runs h trees (looks.outcomes trees found);
-}
 
 -- a store that was opened over a file, and then looked at, stands for its runs
 pub opens_runs : {D : Type 0} {g : Ghosts D} (image : Image) (old new : FileStore D g) → Looks over_files old new → (view old).trees ≡ (view old).committed → (IsClean (view old) → (view old).is_broken ≡ false) → (IsClean (view old) → OpensOver image old) → OpensRuns image new

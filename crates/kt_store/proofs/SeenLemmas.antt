@@ -6,7 +6,7 @@ use Rattle.kt_store.proofs.EntryLemmas.{back}
 use Rattle.kt_store.proofs.FindLemmas.{found_run}
 use Rattle.kt_store.specs.Inner.Cursors.{Looks, Shows, in_columns}
 use Rattle.kt_store.specs.Inner.Places.{StandAt, places_2}
-use Rattle.kt_store.specs.Seeks.{HasRuns}
+use Rattle.kt_store.specs.Inner.Known.{HasRuns}
 use Rattle.kt_store.specs.declared.places.Places.{Places}
 
 -- columns that leave the rowid out

@@ -3,7 +3,7 @@ use Rattle.std.proofs.Common.{Result, Ok, Err, IfOk, IfErr, OnOk, OnErr, Bool, â
 use Rattle.kt_store.proofs.Common.{Trees, Ghosts, Held, state, State, HasCleanDisk, Survives, survives_then, survives_weaker, last_run, Entry, Run, IsStoreFault, KeepsRuns, OnlyReads, Changes, MayChange, Keeps, KeepsOne, new_run, with_entry, put_refusal, finish, finish_refusal, Serves, Agrees, Outlasts, changed_by, StandsFor, Leaves, StoreCall, Began, Put, Finished, Heads, Outline, Outputs, StoreFault}
 use Rattle.kt_store.specs.declared.result_store.CaseOutputs.{CaseOutputs}
 use Rattle.kt_store.specs.declared.result_store.RunHead.{RunHead}
-use Rattle.kt_store.specs.Known.{results}
+use Rattle.kt_store.specs.Inner.Known.{results}
 use Rattle.kt_store.proofs.Crashing.{survived, untouched}
 use Rattle.kt_store.proofs.Numbered.{numbers_changed, ordered_changed}
 

@@ -1,17 +1,25 @@
 -- Results in a file, as they are opened and closed.
-use Rattle.std.specs.Prelude.{◌≡◌}
+use Rattle.std.specs.Prelude.{◌≡◌, ◌⊎◌, pos, List, IsTrue}
 use Rattle.sqlite_disk.specs.declared.Disk as disk
 use Rattle.sqlite_disk.specs.declared.Files.{Files}
+use Rattle.sqlite_wal.specs.Files.{outcomes}
 use Rattle.sqlite_wal.specs.Reads.{AreClean}
 use Rattle.sqlite_wal.specs.Recovery.{Image}
 use Rattle.sqlite_store.specs.declared.store.FileStore.{FileStore}
-use Rattle.sqlite_store.specs.FileStore.{files as files_in}
+use Rattle.sqlite_store.specs.FileStore.{files as files_in, view, faults, recovers, is_shielded}
+use Rattle.sqlite_trees.specs.Tree.{Trees}
+use Rattle.sqlite_trees.specs.View.{IsClean, IsQuiet}
 use Rattle.sqlite.specs.State.{HasCleanDisk}
 use Rattle.sqlite.specs.Held.{Held}
 use Rattle.sqlite.specs.Start.{FindsIn}
-use Rattle.sqlite.specs.Files.{file_state, IsOpened, IsClosed as IsEnded}
-use Rattle.sqlite.specs.Closing.{IsCopied}
+use Rattle.sqlite.specs.Files.{file_state, IsOpened}
+use Rattle.kt_base.specs.declared.entry.Run.{Run}
 use Rattle.kt_store.specs.Attaching.{Was, IsOf, Takes}
+use Rattle.kt_store.specs.Closing.{HasAlone}
+use Rattle.kt_store.specs.Runs.{SaysIn}
+use Rattle.kt_store.specs.Seeks.{HasCommitted, OpensRuns}
+use Rattle.kt_store.specs.Stands.{StandsFor}
+use Rattle.kt_store.specs.Supposed.{ListsTables}
 
 module _ {D : Type 0} {g : disk.Ghosts D} where
   -- a connection has the database that the file held
@@ -22,10 +30,26 @@ module _ {D : Type 0} {g : disk.Ghosts D} where
   abbrev pub AreOver : Image → Held (FileStore D g) → Type 0
   AreOver image results = (conn : Held (FileStore D g)) × IsOver image conn × ((was : Was) → IsOf was (file_state conn) → Takes was (file_state conn) (file_state results))
 
-  -- the store ended with these two files of its own, of which the database file alone has the last commit, also after a crash
-  pub record IsClosed (conn : Held (FileStore D g)) : Type 0 where
+  -- a store has the last commit of such results, and a crash leaves what it left of them
+  pub record Follows (results : Held (FileStore D g)) (store : FileStore D g) : Type 0 where
+    pub stands : (runs : List Run) → StandsFor (file_state results) runs → HasCommitted (view store) runs
+    pub earlier : IsClean (view store) → HasCleanDisk (file_state results)
+    pub crash : (trees : Trees) → recovers store trees → (file_state results).may_leave trees
+
+  -- a file lists the tables of schema 2, and the store says this number
+  pub record Lists (image : Image) (store : FileStore D g) : Type 0 where
+    pub lists : IsClean (view store) → ListsTables image
+    pub says : IsTrue (view store).is_open → SaysIn (pos 2) (view store).committed
+
+  -- a store has the runs that a file held, which lists the tables of schema 2, or has those of results that were taken of it
+  pub record Finds (image : Image) (store : FileStore D g) : Type 0 where
+    pub held : OpensRuns image store
+    pub whose : Lists image store ⊎ ((results : Held (FileStore D g)) × AreOver image results × Follows results store)
+
+  -- a store ended with these two files of its own, of which the database file alone has the last commit, also after a crash
+  pub record Ends (store : FileStore D g) : Type 0 where
     pub last : FileStore D g
-    pub ended : IsEnded conn last
+    pub quiet : IsQuiet view faults recovers is_shielded store last
     pub files : Files D
     pub own : files_in last ≡ (files.log, files.db)
-    pub copied : AreClean g files.log files.db → IsCopied conn files
+    pub alone : AreClean g files.log files.db → (image : Image) → outcomes g files.log files.db image → HasAlone (view store).is_numbered (view store).committed image

@@ -7,6 +7,7 @@ pub mod Edits
 pub mod Fault
 pub mod Heads
 pub mod Kept
+pub mod Known
 pub mod NewFiles
 pub mod Opening
 pub mod Places

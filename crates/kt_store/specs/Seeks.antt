@@ -1,5 +1,5 @@
 -- When a store whose trees are read stands for a list of runs.
-use Rattle.std.specs.Prelude.{◌≡◌, false, List, IsTrue}
+use Rattle.std.specs.Prelude.{List, IsTrue}
 use Rattle.sqlite_disk.specs.declared.Disk as disk
 use Rattle.sqlite_wal.specs.Recovery.{Image}
 use Rattle.sqlite_trees.specs.Tree.{Trees}
@@ -9,10 +9,6 @@ use Rattle.sqlite_store.specs.FileStore.{view, recovers}
 use Rattle.sqlite.specs.Files.{HoldsDatabase}
 use Rattle.kt_base.specs.declared.entry.Run.{Run}
 use Rattle.kt_store.specs.Runs.{AreNumbered, AreOrdered, Keeps}
-
--- while the disk returns what was written and the store is not broken, its trees are those of a database with these runs
-abbrev pub HasRuns : View → List Run → Type 0
-HasRuns v runs = IsClean v → v.is_broken ≡ false → Keeps runs v.trees
 
 -- while the store is open, its last commit is a database with these runs
 abbrev pub HasCommitted : View → List Run → Type 0
@@ -24,11 +20,6 @@ HoldsRuns image runs = (db : Trees) × HoldsDatabase image db × Keeps runs db
 
 module _ {D : Type 0} {g : disk.Ghosts D} where
   -- a store that was opened over a file stands for the runs that the file held, and a crash leaves them
-  pub record ReadsRuns (image : Image) (store : FileStore D g) : Type 0 where
-    pub stands : (runs : List Run) → HoldsRuns image runs → HasRuns (view store) runs × AreNumbered 1 runs × (IsClean (view store) → AreOrdered runs)
-    pub leaves : (runs : List Run) → HoldsRuns image runs → IsClean (view store) → (trees : Trees) → recovers store trees → Keeps runs trees
-
-  -- the same of one that is also written
   pub record OpensRuns (image : Image) (store : FileStore D g) : Type 0 where
     pub stands : (runs : List Run) → HoldsRuns image runs → HasCommitted (view store) runs × AreNumbered 1 runs × (IsClean (view store) → AreOrdered runs)
     pub leaves : (runs : List Run) → HoldsRuns image runs → IsClean (view store) → (trees : Trees) → recovers store trees → Keeps runs trees

@@ -32,6 +32,10 @@ objects_2 =
 abbrev pub ListsObjects : ℕ → PageMap → Type 0
 ListsObjects size pages = map unrooted (rows_at size (in_use size pages) Table 1) ≡ objects_2
 
+-- files recover to such pages
+abbrev pub ListsTables : Image → Type 0
+ListsTables image = (size : ℕ) × (pages : PageMap) × Recovers size image pages × ListsObjects size pages
+
 -- files that list them hold runs; of any other files nothing is said
 abbrev pub IsOfRuns : Image → Type 0
 IsOfRuns image = (size : ℕ) (pages : PageMap) → Recovers size image pages → ListsObjects size pages → (runs : List Run) × HoldsRuns image runs

@@ -6,3 +6,14 @@ pub enum Access {
     /// Runs are shown, and nothing is added.
     Read,
 }
+
+impl Access {
+    /// How many pages of the file are kept in memory: somewhat more than an output of 1 MiB takes where one is written, and
+    /// few where most are read once.
+    pub(crate) fn pages(self) -> usize {
+        match self {
+            Access::Record => 1_100,
+            Access::Read => 64,
+        }
+    }
+}

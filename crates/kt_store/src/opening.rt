@@ -1,12 +1,10 @@
-ghost use Rattle.std.specs.Prelude.{◌≡◌, [], ◌∷◌, pos, codes, map, drop, true, false, Some, IfOk, IfErr, IfSome, IsTrue};
-ghost use Rattle.kt_store.specs.Common.{HasAlone, Int, IsStoreFault, Looks, ListsRuns, OpensRuns, ReadsRuns, image_at};
-ghost use Rattle.kt_store.specs.Supposed.{IsOfRuns, key_object, objects_2, table_object};
+ghost use Rattle.std.specs.Prelude.{◌≡◌, [], ◌∷◌, pos, codes, map, drop, true, false, Some, OnOk, IfErr, IfSome, IsTrue};
+ghost use Rattle.kt_store.specs.Common.{Ends, Int, IsStoreFault, Looks, ListsRuns, OpensRuns, image_at};
+ghost use Rattle.kt_store.specs.Supposed.{IsOfRuns, ListsTables, key_object, objects_2, table_object};
 ghost use Rattle.sqlite_trees.specs.Tree.{Trees};
 ghost use Rattle.sqlite_value.specs.Value.{owned};
 ghost use Rattle.sqlite_value.specs.declared.value.Value.TheVariants.{Text as Words};
 ghost use Rattle.sqlite_wal.specs.PageSize.{bytes_of};
-ghost use Rattle.sqlite_wal.specs.Files.{outcomes};
-ghost use Rattle.sqlite_wal.specs.Recovery.{Image};
 ghost use Rattle.sqlite_wal.specs.Reads.{AreClean, OnlyReads};
 ghost use Rattle.kt_store.specs.Common.{schema_2};
 ghost use Rattle.kt_store.specs.Inner.Opening.{OpensOver};
@@ -18,13 +16,13 @@ ghost use Rattle.sqlite_trees.specs.View.{IsClean};
 ghost use Rattle.sqlite_store.specs.Unopened.{AreUsable, HasFile, Opens, files_of, image, state_of, wanted_by};
 ghost use Rattle.sqlite.specs.Files.{HoldsDatabase, image_of};
 
-use crate::StoreFault;
 use crate::attach::{CREATE_ENTRIES, CREATE_META, CREATE_PROPS, CREATE_RUNS};
 use crate::new_file::may_have_frames;
 use crate::runs_file::{RunsFile, over};
 use crate::seeks::PLACES_2;
 use crate::store_fault::trees::all_shown;
 use crate::supposed::Supposed;
+use crate::{Access, StoreFault};
 use kt_base::Text;
 use sqlite::{FileFrom, Start};
 use sqlite_disk::{Disk, Files};
@@ -59,12 +57,6 @@ const LAYOUTS: [(Shape, u64); 7] = [TABLE, KEY, TABLE, TABLE, KEY, TABLE, KEY];
 /// Whether SQLite too takes this for the path of a file.
 pub(crate) fn is_path(path: &str) -> bool {
     path != ":memory:" && !path.starts_with("file:")
-}
-
-/// Whether this is a file that is not empty, and whose log has no frame.
-fn is_settled<R: FileSystem>(rt: &R, file: &Text) -> Option<bool> {
-    let found = fs::symlink_metadata(rt, file.as_str()).ok()?;
-    Some(found.is_file() && found.len() > 0 && !may_have_frames(rt, file).ok()?)
 }
 
 /// Options with a number of pages that are kept in memory; none if there is no random number.
@@ -186,23 +178,6 @@ fn is_schema_2(settings: &[Row]) -> bool
     is_of_schema_2(row)
 }
 
-/// Whether a row is of the run with this number, finished or not.
-fn is_run(row: &Row, number: i64) -> bool {
-    is_same(row.get(0), ValueRef::Int(number)) && matches!(row.get(4), ValueRef::Int(0 | 1))
-}
-
-/// Whether the runs are numbered from 1, each finished or not.
-fn are_numbered(runs: &[Row]) -> bool {
-    let mut number = 0i64;
-    for run in runs {
-        number = number.wrapping_add(1);
-        if !is_run(run, number) {
-            return false;
-        }
-    }
-    true
-}
-
 /// All rows of the table with this tree.
 fn rows_of<S: Store>(store: &mut S, alloc: Global, tree: u32) -> Option<Vec<Row>>
     ensures rows { IfSome result (λ rows. IsClean (S.Store.view store.new)
@@ -212,40 +187,11 @@ fn rows_of<S: Store>(store: &mut S, alloc: Global, tree: u32) -> Option<Vec<Row>
     all_rows(store, &mut Workspace::new(alloc), tree).ok()
 }
 
-/// Whether the tables say that they are those of schema 2, and the runs are numbered.
-fn is_ours<S: Store>(store: &mut S, alloc: Global) -> Option<bool>
-    ensures { Looks S.Store store.old store.new }
-{
-    let settings = rows_of(store, alloc, META)?;
-    let runs = rows_of(store, alloc, PLACES_2.runs.tree)?;
-    Some(is_schema_2(settings.as_slice()) && are_numbered(runs.as_slice()))
-}
-
 /// A value, if it was found to be one of ours.
 fn kept<T: Drop>(value: T, is_ours: Option<bool>) -> Option<T>
     ensures { IfSome result (λ it. (it ≡ value) × (is_ours ≡ Some true)) }
 {
     if is_ours? { Some(value) } else { None }
-}
-
-/// Opens files that plainly hold a database of schema 2, in pages that end in no sums. Their log is recovered.
-fn runs_over<D: Disk + Drop>(
-    alloc: Global,
-    mut files: Files<D>,
-    options: Option<Options>,
-) -> Option<FileStore<D>>
-    requires log { IsTrue (D.Disk.is_usable files.log) }
-    requires db { IsTrue (D.Disk.is_usable files.db) }
-    ensures { IfSome result (ReadsRuns (image_of D.Disk files)) }
-{
-    let options = options?;
-    let size = plain_size(alloc, &mut files)?;
-    let mut fresh = unopened(alloc, files, size, options)?;
-    let is_listed = list_schema(alloc, &mut fresh);
-    let mid = kept(fresh, is_listed)?;
-    let mut store = mid.open_numbered().ok()?;
-    let is_ours = is_ours(&mut store, alloc);
-    kept(store, is_ours)
 }
 
 /// Opens files that are sound. All their pages and trees are tested first if `is_tested` is set, and else only those that
@@ -284,6 +230,7 @@ fn known_over<D: Disk + Drop>(
         → OpensOver (image_of D.Disk files) s) }
     ensures settled { IfSome result (λ s. (view s).trees ≡ (view s).committed) }
     ensures unbroken { IfSome result (λ s. IsClean (view s) → (view s).is_broken ≡ false) }
+    ensures lists { IfSome result (λ s. IsClean (view s) → ListsTables (image_of D.Disk files)) }
     ensures sound { IfSome result (λ s. IsTrue (view s).is_open
         → IsSound schema_2 (view s).committed) }
     ensures tested { is_tested ≡ true → IfSome result (λ s. IsTrue (view s).is_numbered) }
@@ -308,6 +255,7 @@ fn known<D: Disk + Drop>(
     requires db { IsTrue (D.Disk.is_usable files.db) }
     requires held { IsOfRuns (image_of D.Disk files) }
     ensures opens { IfSome result (OpensRuns (image_of D.Disk files)) }
+    ensures lists { IfSome result (λ r. IsClean (view r) → ListsTables (image_of D.Disk files)) }
     ensures says { IfSome result (λ r. IsTrue (view r).is_open
         → SaysIn (pos 2) (view r).committed) }
     ensures tested { is_tested ≡ true → IfSome result (λ r. IsTrue (view r).is_numbered) }
@@ -318,15 +266,17 @@ fn known<D: Disk + Drop>(
     over(alloc, last).ok()
 }
 
-/// Copies the log into the database file, and gives the files back. What is not committed is lost.
-pub(crate) fn close_store<D: Disk + Drop>(mut store: FileStore<D>) -> Result<Files<D>, StoreFault>
-    ensures closed { IfOk result (λ files. AreClean D.Disk files.log files.db → (image : Image)
-        → outcomes D.Disk files.log files.db image → HasAlone (view store).committed image) }
+/// Copies the log into the database file, and closes both. What is not committed is lost.
+pub(crate) fn close_store<D: Disk + Drop>(mut store: FileStore<D>) -> Result<(), StoreFault>
+    ensures closed { OnOk result (Ends store) }
     ensures failed { IfErr result IsStoreFault }
 {
     store.rollback();
     match store.checkpoint() {
-        Ok(()) => Ok(store.close()),
+        Ok(()) => {
+            let _files = store.close();
+            Ok(())
+        }
         Err(error) => Err(StoreFault::from(error)),
     }
 }
@@ -342,14 +292,16 @@ fn says_2<S: Store>(store: &mut S, alloc: Global) -> Option<bool>
 }
 
 /// Whether all pages and trees of a file are tested before it is read: those of a file of at most 16 MiB, which takes some
-/// 60 ms, and of one whose log may have frames, since a runner was killed or the machine lost power. `None` of a file that
-/// is missing or empty, which an opening would make.
+/// 60 ms, of one whose log may have frames, since a runner was killed or the machine lost power, and of one that a link leads
+/// to. `None` of a file that is missing or empty, which an opening would make.
 fn is_tested<R: FileSystem>(rt: &R, file: &Text) -> Option<bool> {
-    let found = fs::symlink_metadata(rt, file.as_str()).ok()?;
+    let found = fs::metadata(rt, file.as_str()).ok()?;
     if !found.is_file() || found.len() == 0 {
         return None;
     }
-    Some(found.len() <= MOST_TESTED || may_have_frames(rt, file).ok()?)
+    // Beside a link lies no log.
+    let is_link = !fs::symlink_metadata(rt, file.as_str()).ok()?.is_file();
+    Some(is_link || found.len() <= MOST_TESTED || may_have_frames(rt, file).ok()?)
 }
 
 /// The results in a file that lists the tables of schema 2 and says their number. `S` stands for what the file held, which
@@ -357,9 +309,11 @@ fn is_tested<R: FileSystem>(rt: &R, file: &Text) -> Option<bool> {
 pub(crate) fn open_known<S: Supposed>(
     rt: &HostRuntime,
     file: &Text,
+    access: Access,
     start: S,
 ) -> Option<RunsFile<FileStore<FileFrom<S>>>>
     ensures opens { IfSome result (OpensRuns (image_at S.Start)) }
+    ensures lists { IfSome result (λ r. IsClean (view r) → ListsTables (image_at S.Start)) }
     ensures says { IfSome result (λ r. IsTrue (view r).is_open
         → SaysIn (pos 2) (view r).committed) }
 {
@@ -368,28 +322,8 @@ pub(crate) fn open_known<S: Supposed>(
     }
     let is_tested = is_tested(rt, file)?;
     let files = sqlite_std_file::open(rt, file.as_str(), start).ok()?;
-    known(rt.alloc(), files, options(rt, PAGES), is_tested)
+    known(rt.alloc(), files, options(rt, access.pages()), is_tested)
 }
 
 /// The largest file whose pages and trees are all tested, in bytes.
 const MOST_TESTED: u64 = 16 * 1_048_576;
-
-/// How many pages are kept in memory: most are read once.
-const PAGES: usize = 64;
-
-/// Opens the results in a file that plainly is a database of schema 2 and whose log has no frame, to be read alone.
-/// `S` stands for what the file held, which no code reads. `None` of any other file, and of one that can't be opened or
-/// is damaged: `Results::open` takes it, or tells why not.
-pub fn open_alone<S: Start>(
-    rt: &HostRuntime,
-    file: &Text,
-    start: S,
-) -> Option<FileStore<FileFrom<S>>>
-    ensures { IfSome result (ReadsRuns (image_at S.Start)) }
-{
-    if !is_path(file.as_str()) || !is_settled(rt, file)? {
-        return None;
-    }
-    let files = sqlite_std_file::open(rt, file.as_str(), start).ok()?;
-    runs_over(rt.alloc(), files, options(rt, PAGES))
-}

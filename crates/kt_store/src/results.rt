@@ -9,7 +9,7 @@ use crate::outlines::all_entries;
 use crate::outputs::find_outputs;
 use crate::put::{add_entry, check, reason_of};
 use crate::run_rows::{self, add_run, is_full, mark};
-use crate::store_fault::statements::{close_file, open_file};
+use crate::store_fault::statements::open_file;
 use crate::{CaseOutputs, Keeping, ResultStore, RunHead, StoreFault};
 use kt_base::{Entry, Text};
 use sqlite::{Alter, Connection, FileFrom, FileStore, Start};
@@ -138,26 +138,17 @@ fn attached<S: Alter + Drop>(alloc: Global, conn: Connection<S>) -> Result<Resul
 }
 
 impl<S: Start> Results<FileStore<FileFrom<S>>> {
-    ghost use Rattle.std.specs.Prelude.{◌≡◌, ◌⊎◌, IfOk, OnOk, IfErr};
-    ghost use Rattle.kt_store.specs.Common.{image_at, IsStoreFault, AreOver, IsClosed};
+    ghost use Rattle.std.specs.Prelude.{◌≡◌, ◌⊎◌, IfOk, IfErr};
+    ghost use Rattle.kt_store.specs.Common.{image_at, IsStoreFault, AreOver};
 
     /// Opens the results in a file, which is made where there is none. `S` stands for what the file
     /// held, which no code reads. `UnknownSchema` where the tables say a number other than 1 and 2.
-    pub fn open(rt: &HostRuntime, file: &Text, start: S) -> Result<Self, StoreFault>
+    pub(crate) fn open(rt: &HostRuntime, file: &Text, start: S) -> Result<Self, StoreFault>
         ensures opened { IfOk result (AreOver (image_at S.Start)) }
         ensures due { IfErr result (λ e. IsStoreFault e ⊎ (e ≡ StoreFault.UnknownSchema)) }
     {
         prepare(rt, file);
         let connection = open_file(rt, file, start)?;
         attached(rt.alloc(), connection)
-    }
-
-    /// Closes the results. Afterwards the file alone has them all; after an error they stand in it and in its log.
-    pub fn close(self) -> Result<(), StoreFault>
-        ensures closed { OnOk result (IsClosed self) }
-        ensures failed { IfErr result IsStoreFault }
-    {
-        let Results { conn, alloc: _ } = self;
-        close_file(conn)
     }
 }

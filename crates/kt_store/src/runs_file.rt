@@ -12,15 +12,17 @@ use crate::opening::{close_store, open_known};
 use crate::places::Places;
 use crate::seeks::{find_outputs, heads, outline};
 use crate::store_fault::trees::DAMAGED;
-use crate::supposed::Supposed;
-use crate::{CaseOutputs, Keeping, ResultStore, Results, RunHead, StoreFault};
+use crate::supposed::Contents;
+use crate::{Access, CaseOutputs, Keeping, ResultStore, Results, RunHead, StoreFault};
 use kt_base::{Entry, NoMemory, Text};
 use sqlite::{Alter, FileFrom, FileStore};
 use sqlite_catalog::load::load;
-use sqlite_disk::{Disk, Files};
+use sqlite_disk::Disk;
 use sqlite_schema::schema::Schema;
 use std::alloc::Global;
 use std::marker::Model;
+use std::thread;
+use std::time::Duration;
 
 /// The results in a file (docs/formats/store.md), read by seeks in their trees and written by the rules of their schema.
 /// A contract sees the store; what is said of it holds while the disk returns what was written and nobody else writes
@@ -120,19 +122,12 @@ impl<S: Alter + Drop> RunsFile<S> {
 }
 
 impl<D: Disk + Drop> RunsFile<FileStore<D>> {
-    ghost use Rattle.std.specs.Prelude.{IfOk, IfErr};
-    ghost use Rattle.kt_store.specs.Common.{HasAlone, IsStoreFault};
-    ghost use Rattle.sqlite_store.specs.FileStore.{view};
-    ghost use Rattle.sqlite_wal.specs.Files.{outcomes};
-    ghost use Rattle.sqlite_wal.specs.Reads.{AreClean};
-    ghost use Rattle.sqlite_wal.specs.Recovery.{Image};
+    ghost use Rattle.std.specs.Prelude.{OnOk, IfErr};
+    ghost use Rattle.kt_store.specs.Common.{Ends, IsStoreFault};
 
-    /// Closes the results, and gives their files back, of which the database file alone has the last commit; after an error
-    /// it stands in the file and in its log.
-    pub fn close(self) -> Result<Files<D>, StoreFault>
-        ensures closed { IfOk result (λ files. AreClean D.Disk files.log files.db
-            → (image : Image) → outcomes D.Disk files.log files.db image
-            → HasAlone (view self).committed image) }
+    /// Closes the results. Afterwards the file alone has them all; after an error they stand in it and in its log.
+    pub fn close(self) -> Result<(), StoreFault>
+        ensures closed { OnOk result (Ends self) }
         ensures failed { IfErr result IsStoreFault }
     {
         let RunsFile {
@@ -145,21 +140,43 @@ impl<D: Disk + Drop> RunsFile<FileStore<D>> {
     }
 }
 
-impl<S: Supposed> RunsFile<FileStore<FileFrom<S>>> {
-    ghost use Rattle.std.specs.Prelude.{IfSome, IsTrue, pos};
-    ghost use Rattle.kt_store.specs.Common.{OpensRuns, image_at};
-    ghost use Rattle.kt_store.specs.Runs.{SaysIn};
-    ghost use Rattle.sqlite_store.specs.FileStore.{view};
+/// How often a file is tried again that another process works with.
+const TRIES: usize = 100;
 
-    /// Opens the results in a file that lists the tables of schema 2 and says their number; `None` of any other file, and
-    /// of one that can't be opened. All pages and trees of a file of at most 16 MiB are tested first, and those of one whose
-    /// log has frames, since a runner was killed or the machine lost power. Of a larger file no more is read than is asked.
-    pub fn open_known(rt: &HostRuntime, file: &Text, start: S) -> Option<Self>
-        ensures opens { IfSome result (OpensRuns (image_at S.Start)) }
-        ensures says { IfSome result (λ r. IsTrue (view r).is_open
-            → SaysIn (pos 2) (view r).committed) }
+/// The pause before a file is tried again, in milliseconds.
+const PAUSE: u64 = 50;
+
+impl<S: Contents> RunsFile<FileStore<FileFrom<S>>> {
+    ghost use Rattle.std.specs.Prelude.{◌≡◌, ◌⊎◌, IfOk, IfErr};
+    ghost use Rattle.kt_store.specs.Common.{Finds, IsStoreFault, image_at};
+
+    /// Opens the results in a file, which is made where there is none, unless another process works with it. One that lists
+    /// the tables of schema 2 is opened by its trees, any other is taken by `Results::attach`. `UnknownSchema` where the
+    /// tables say a number other than 1 and 2.
+    fn open_once(rt: &HostRuntime, file: &Text, access: Access) -> Result<Self, StoreFault>
+        ensures opened { IfOk result (Finds (image_at S.Start)) }
+        ensures due { IfErr result (λ e. IsStoreFault e ⊎ (e ≡ StoreFault.UnknownSchema)) }
     {
-        open_known(rt, file, start)
+        if let Some(known) = open_known(rt, file, access, S::unread()) {
+            return Ok(known);
+        }
+        let results = Results::open(rt, file, S::unread())?;
+        RunsFile::of(results)
+    }
+
+    /// Opens the results in a file, which is made where there is none. A file that another process works with is tried
+    /// again for 5 seconds. `UnknownSchema` where the tables say a number other than 1 and 2.
+    pub fn open(rt: &HostRuntime, file: &Text, access: Access) -> Result<Self, StoreFault>
+        ensures opened { IfOk result (Finds (image_at S.Start)) }
+        ensures due { IfErr result (λ e. IsStoreFault e ⊎ (e ≡ StoreFault.UnknownSchema)) }
+    {
+        for _ in 0..TRIES {
+            match RunsFile::open_once(rt, file, access) {
+                Err(fault) if fault.is_in_use() => thread::sleep(rt, Duration::from_millis(PAUSE)),
+                opened => return opened,
+            }
+        }
+        RunsFile::open_once(rt, file, access)
     }
 }
 

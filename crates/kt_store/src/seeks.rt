@@ -1,6 +1,6 @@
 ghost use Rattle.std.specs.Prelude.{◌≡◌, ◌⊎◌, ◌<◌, ◌≤◌, ◌^◌, List, Some, None, length, map, IfOk, IfErr, OnOk, true};
 ghost use Rattle.kt_store.specs.Common.{HasRuns, IsStoreFault, StandAt, Looks, LooksThrough, Run, AreRuns, last_run, run_row, head_of, Serves, Heads, Outline, Outputs, entries_of, outlined, run_at, seen_as};
-ghost use Rattle.kt_store.specs.Known.{readings};
+ghost use Rattle.kt_store.specs.Inner.Known.{readings};
 ghost use Rattle.kt_store.specs.Runs.{IsRun};
 ghost use Rattle.sqlite_trees.specs.View.{IsClean};
 

@@ -4,30 +4,24 @@
 use kt_base::Text;
 use kt_child::{DriverFault, HostOs};
 use kt_cli::{HostMachine, LineOutput, Outside, Platform, Surroundings, carry_out_words};
-use kt_store::{Access, FileResults, Results, StoreFault, open_alone};
-use sqlite::{FileFrom, FileStore, Start, Unknown};
+use kt_store::{Access, Contents, RunsFile, StoreFault};
+use sqlite::{FileFrom, FileStore, Unknown};
 use std::alloc::Global;
 use std::marker::PhantomData;
 use std::process::ExitCode;
 use std::{env, io};
 
-/// A file and what it held, for contracts: no code reads it.
-trait Past: Start {
+/// A file and what it held, for contracts.
+trait Past: Contents {
     ghost use Rattle.std.specs.Prelude.{ℕ, List};
 
     ghost path: { List ℕ };
-
-    fn unread() -> Self;
 }
 
 impl Past for Unknown {
     ghost use Rattle.std.specs.Prelude.{[]};
 
     ghost path = { [] };
-
-    fn unread() -> Unknown {
-        Unknown
-    }
 }
 
 /// The host: results are kept in files of SQLite, of which `S` is one with what it held at first.
@@ -41,26 +35,16 @@ impl<S: Past> Platform for Host<'_, S> {
     ghost use Rattle.sqlite_wal.specs.Files.{image_at};
     ghost use Rattle.kt_cli.specs.Platforms.{InFiles};
 
-    type Results = FileResults<FileStore<FileFrom<S>>>;
+    type Results = RunsFile<FileStore<FileFrom<S>>>;
 
     ghost provides = { λ _ asked _. InFiles S.path (image_at S.Start) asked };
 
     fn open(&mut self, file: &Text, access: Access) -> Result<Self::Results, StoreFault> {
-        if matches!(access, Access::Read) {
-            if let Some(store) = open_alone(self.rt, file, S::unread()) {
-                return Ok(FileResults::Alone(store, self.rt.alloc()));
-            }
-        }
-        let results = Results::open(self.rt, file, S::unread())?;
-        Ok(FileResults::Whole(results))
+        RunsFile::open(self.rt, file, access)
     }
 
     fn close(&mut self, results: Self::Results) -> Result<(), StoreFault> {
-        match results {
-            // The log is copied into the file, so that the file alone has every run.
-            FileResults::Whole(results) => results.close(),
-            FileResults::Alone(_store, _alloc) => Ok(()),
-        }
+        results.close()
     }
 
     fn surroundings(&mut self) -> Result<Surroundings, DriverFault> {

@@ -18,7 +18,7 @@ use Rattle.kt_base.specs.declared.entry.Run.{Run}
 use Rattle.kt_store.specs.Inner.Cursors.{HoldsCommit}
 use Rattle.kt_store.specs.Inner.Runs.{HasTexts}
 use Rattle.kt_store.specs.Runs.{Keeps, entry_row, pair_rows}
-use Rattle.kt_store.specs.Seeks.{HasRuns}
+use Rattle.kt_store.specs.Inner.Known.{HasRuns}
 use Rattle.kt_store.specs.Serving.{Agrees, changed_by}
 use Rattle.kt_store.specs.StoreCalls.{StoreCall}
 use Rattle.kt_store.specs.declared.places.Places.{Places}

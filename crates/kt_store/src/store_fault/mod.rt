@@ -42,6 +42,11 @@ impl StoreFault {
             _ => "results store failed",
         }
     }
+
+    /// Whether the file can't be opened since another process works with it.
+    pub(crate) fn is_in_use(&self) -> bool {
+        matches!(self, StoreFault::Store(FailedStatement(Cause::InUse)))
+    }
 }
 
 /// Memory ran out. Only a refusal of the allocator, or of SQLite, makes this value.
@@ -49,7 +54,7 @@ impl StoreFault {
 pub struct Shortage(Refusal);
 
 /// A statement failed, a value of a row could not be read, the file could not be opened or closed, or the connection
-/// is in a transaction, a tree is damaged, a row does not obey the schema, or the database is only read. Only the
+/// is in a transaction, a tree is damaged, or a row does not obey the schema. Only the
 /// functions of `rules`, `statements` and `trees` make this value.
 #[derive(Clone, Copy, Debug)]
 pub struct FailedStatement(Cause);
@@ -59,12 +64,12 @@ pub struct FailedStatement(Cause);
 enum Cause {
     /// SQLite returned an error.
     Reported,
+    /// Another process works with the file.
+    InUse,
     /// The connection is in a transaction, so none was begun.
     InTransaction,
     /// A tree or an index is not what its schema says.
     Damaged,
-    /// The database is only read, and was to be written.
-    ReadOnly,
     /// A row does not obey the schema.
     Refused,
 }

@@ -1,10 +1,10 @@
 ghost use Rattle.std.specs.Prelude.{◌≡◌, ◌<◌, Ok, IfOk, OnOk, OnErr, IfErr, nat_lt, length, []};
-ghost use Rattle.kt_store.specs.Common.{bound, IsPlain, understood, HasCleanDisk, Survives, IsUnchanged, state, column, Tells, CommitsNothing, KeepsRuns, OnlyReads, Asked, AreWide, HasColumns, MayShow, MayTell, ShowsOf, Told, Commits, CommitsLater, MayCommit, RunsOne, Undoes, Rests, IsNoMemory, IsStoreFault, image_at, IsOver, IsClosed, IsUnderstood, StandsFor, schema_2};
+ghost use Rattle.kt_store.specs.Common.{bound, IsPlain, understood, HasCleanDisk, Survives, IsUnchanged, state, column, Tells, CommitsNothing, KeepsRuns, OnlyReads, Asked, AreWide, HasColumns, MayShow, MayTell, ShowsOf, Told, Commits, CommitsLater, MayCommit, RunsOne, Undoes, Rests, IsNoMemory, IsStoreFault, image_at, IsOver, IsUnderstood, StandsFor, schema_2};
 
-use crate::StoreFault;
 use crate::batch::Batch;
 use crate::opening::{is_path, options};
 use crate::store_fault::{Cause, FailedStatement, Refusal, Shortage};
+use crate::{Access, StoreFault};
 use kt_base::{NoMemory, Text};
 use sqlite::types::FromSql;
 use sqlite::{
@@ -195,9 +195,6 @@ pub(crate) fn commit<S: Alter, B: Batch>(
     }
 }
 
-/// How many pages of a database are kept in memory: somewhat more than an output of 1 MiB takes.
-const PAGES: usize = 1_100;
-
 /// A database that can't be opened.
 const NOT_OPENED: StoreFault = StoreFault::Store(FailedStatement(Cause::Reported));
 
@@ -208,7 +205,8 @@ fn unopened(error: &OpenError) -> StoreFault
     let is_short = match error {
         OpenError::OutOfMemory => true,
         OpenError::Io(error) => error.kind() == ErrorKind::OutOfMemory,
-        OpenError::Busy | OpenError::HotJournal => false,
+        OpenError::Busy => return StoreFault::Store(FailedStatement(Cause::InUse)),
+        OpenError::HotJournal => false,
     };
     if is_short {
         StoreFault::NoMemory(Shortage(Refusal))
@@ -244,21 +242,10 @@ pub(crate) fn open_file<S: Start>(
         Ok(files) => files,
         Err(error) => return Err(unopened(&error)),
     };
-    let Some(options) = options(rt, PAGES) else {
+    let Some(options) = options(rt, Access::Record.pages()) else {
         return Err(NOT_OPENED);
     };
     done(Connection::open_files(rt.alloc(), files, options))
-}
-
-/// Closes a database. Afterwards the file alone has all; after an error it stands in the file and in its log.
-pub(crate) fn close_file<S: Start>(
-    connection: Connection<FileStore<FileFrom<S>>>,
-) -> Result<(), StoreFault>
-    ensures closed { OnOk result (IsClosed connection) }
-    ensures failed { IfErr result IsStoreFault }
-{
-    done(connection.close_files())?;
-    Ok(())
 }
 
 pub(crate) fn has_rows(rows: &[Row]) -> bool

@@ -25,9 +25,6 @@ use std::cmp::Ordering;
 /// A tree has another shape than that of its number, or a place of an index has no row.
 pub(crate) const DAMAGED: StoreFault = StoreFault::Store(FailedStatement(Cause::Damaged));
 
-/// The database is only read.
-pub(crate) const READ_ONLY: StoreFault = StoreFault::Store(FailedStatement(Cause::ReadOnly));
-
 /// A table and the index of its key, with the columns of the key and those that are blobs.
 #[derive(Clone, Copy)]
 pub(crate) struct Table<'a> {

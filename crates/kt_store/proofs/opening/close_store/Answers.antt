@@ -1,8 +1,9 @@
-use Rattle.std.proofs.Common.{◌≡◌, ap, subst, ◌∙◌, arith}
+use Rattle.std.proofs.Common.{◌≡◌, ap, sym, subst, ◌∙◌, arith}
 use Rattle.sqlite_trees.specs.View.{View, IsClean}
 use Rattle.sqlite_wal.proofs.StateLemmas.{open_from}
 use Rattle.sqlite_trees.proofs.Doubt.{clean_of as sure, no_doubt}
 use Rattle.sqlite_store.specs.FileStore.{state, view}
+use Rattle.sqlite_store.proofs.StepLemmas.{quiet_then}
 use Rattle.sqlite_wal.specs.Files.{outcomes}
 use Rattle.sqlite_wal.specs.Reads.{AreClean}
 use Rattle.sqlite_pool.proofs.StateLemmas.{clean_is, may_leave_is}
@@ -11,18 +12,28 @@ use Rattle.kt_store.proofs.AloneFiles.{alone_of}
 use Rattle.kt_store.proofs.opening.close_store.Goals as goal
 
 pub returns-in-Ok-clause-closed : goal.returns-in-Ok-clause-closed
-returns-in-Ok-clause-closed g c honest image may =
+returns-in-Ok-clause-closed g c =
     let before = c.rollback.new.self in
     let last = c.checkpoint.new.self in
+    let first = c.rollback.ensures.undone in
     let q = c.checkpoint.ensures.quiet in
     let stays = g.met.D.Disk.seen_may_stay in
-    let sure_now = subst (λ p. AreClean g.D.Disk p.0 p.1) c.close.ensures honest in
-    let none : IsClean (view last) = no_doubt _ (clean_is last.pool ∙ sure_now) in
-    let clean : IsClean (view before) = omega (arith, q.clean) in
-    let h = open_from (state before) c.in-Ok.ensures.ready (sure (view before).is_clean clean) in
-    let first = c.rollback.ensures.undone.kept clean in
-    let on = c.in-Ok.ensures.open none in
-    let same = c.checkpoint.ensures.same on in
-    let committed : (view last).committed ≡ (view c.args.store).committed = ap (λ (v : View). v.committed) same ∙ first.committed h in
-    subst (λ t. HasAlone t image) committed (alone_of last stays on (c.in-Ok.ensures.moved (c.rollback.ensures.logged (first.was_open h))) image
-    (may_leave_is last.pool image sure_now (subst (λ p. outcomes g.D.Disk p.0 p.1 image) c.close.ensures may)))
+    record {
+      last = last;
+      quiet = quiet_then c.rollback.ensures.quiet q;
+      files = c.close-files.result;
+      own = sym c.close-files.ensures;
+      alone = λ honest image may.
+          let sure_now = subst (λ p. AreClean g.D.Disk p.0 p.1) c.close-files.ensures honest in
+          let none : IsClean (view last) = no_doubt _ (clean_is last.pool ∙ sure_now) in
+          let clean : IsClean (view before) = omega (arith, q.clean) in
+          let h = open_from (state before) c.in-Ok.ensures.ready (sure (view before).is_clean clean) in
+          let kept = first.kept clean in
+          let on = c.in-Ok.ensures.open none in
+          let same = c.checkpoint.ensures.same on in
+          let committed : (view last).committed ≡ (view c.args.store).committed = ap (λ (v : View). v.committed) same ∙ kept.committed h in
+          let numbered : (view last).is_numbered ≡ (view c.args.store).is_numbered = ap (λ (v : View). v.is_numbered) same ∙ first.numbered in
+          subst (λ t. HasAlone (view c.args.store).is_numbered t image) committed (subst (λ n. HasAlone n (view last).committed image) numbered
+          (alone_of last stays on (c.in-Ok.ensures.moved (c.rollback.ensures.logged (kept.was_open h))) image
+          (may_leave_is last.pool image sure_now (subst (λ p. outcomes g.D.Disk p.0 p.1 image) c.close-files.ensures may))));
+    }

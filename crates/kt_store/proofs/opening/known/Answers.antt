@@ -4,7 +4,9 @@ use Rattle.sqlite_catalog.specs.Listing.{IsSound}
 use Rattle.sqlite_store.specs.FileStore.{view}
 use Rattle.sqlite_store.specs.Laws.{shut_if_dirty_at}
 use Rattle.sqlite.specs.Files.{image_of, over_files}
+use Rattle.sqlite_trees.specs.View.{IsClean}
 use Rattle.kt_store.specs.Seeks.{OpensRuns}
+use Rattle.kt_store.specs.Supposed.{ListsTables}
 use Rattle.kt_store.specs.Runs.{SaysIn}
 use Rattle.kt_store.proofs.EndLemmas.{clean_of_open, looked_settled}
 use Rattle.kt_store.proofs.OpeningLemmas.{if_some, opens_runs}
@@ -40,3 +42,9 @@ pub returns-clause-tested : goal.returns-clause-tested
 returns-clause-tested g c tested =
     if_some (λ r. IsTrue (view r).is_numbered) c.over.result c.ok.result c.ok.ensures.value (λ r done.
     subst (λ s. IsTrue (view s).is_numbered) (sym ((rw done at c.over.ensures.same) ∙ c.in_ok-last.ensures.0)) (subst IsTrue (sym c.says_2-is_ours.ensures.looks.schema.numbered) (c.in_ok-store.ensures.tested tested)))
+
+pub returns-clause-lists : goal.returns-clause-lists
+returns-clause-lists g c =
+    let start = image_of g.D.Disk c.args.files in
+    if_some (λ r. IsClean (view r) → ListsTables start) c.over.result c.ok.result c.ok.ensures.value (λ r done clean.
+    c.in_ok-store.ensures.lists (c.says_2-is_ours.ensures.looks.clean (subst (λ s. IsClean (view s)) ((rw done at c.over.ensures.same) ∙ c.in_ok-last.ensures.0) clean)))

@@ -102,3 +102,14 @@ returns-clause-settled g c =
 pub returns-clause-unbroken : goal.returns-clause-unbroken
 returns-clause-unbroken g c =
     c.in_ok-store.ensures.ready.sound
+
+-- the files recover to pages that list the tables
+pub returns-clause-lists : goal.returns-clause-lists
+returns-clause-lists g c clean =
+    let fresh = c.in_ok-fresh.fresh in
+    let made = c.in_ok-fresh.ensures in
+    let mid = c.in_ok-mid.mid in
+    let lists : IsTrue (state_of mid).is_clean → ListsRuns fresh mid = subst (λ m. IsTrue (state_of m).is_clean → ListsRuns fresh m) (sym c.in_ok-mid.ensures.0) ((rw c.in_ok-mid.ensures.1 at c.list_schema-is_listed.ensures.lists) refl) in
+    let listed = lists (c.in_ok-store.ensures.honest (clean_of _ clean)) in
+    let seen : image fresh ≡ image_of g.D.Disk c.args.files = ap (λ f. seen_image g.D.Disk f.0 f.1) made.files ∙ same_image c.plain_size.ensures.log c.plain_size.ensures.db in
+    ((state_of fresh).page_size, listed.pages, subst (λ i. Recovers (state_of fresh).page_size i listed.pages) seen listed.found, listed.lists)

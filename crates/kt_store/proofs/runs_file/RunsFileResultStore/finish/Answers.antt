@@ -1,6 +1,6 @@
 use Rattle.std.proofs.Common.{inl, refl, subst}
 use Rattle.kt_store.proofs.Common.{Serves, Finished, finish}
-use Rattle.kt_store.specs.Known.{runs_file}
+use Rattle.kt_store.specs.Inner.Known.{runs_file}
 use Rattle.kt_store.proofs.EndLemmas.{ended_served, ended_settled, stand_at}
 use Rattle.kt_store.proofs.runs_file.RunsFileResultStore.finish.Goals as goal
 

@@ -1,6 +1,6 @@
 use Rattle.std.proofs.Common.{subst}
 use Rattle.kt_store.proofs.Common.{Serves, Outputs}
-use Rattle.kt_store.specs.Known.{runs_file}
+use Rattle.kt_store.specs.Inner.Known.{runs_file}
 use Rattle.kt_store.proofs.EndLemmas.{outputs_served, looked_settled, stand_at}
 use Rattle.kt_store.proofs.runs_file.RunsFileResultStore.outputs.Goals as goal
 

@@ -1,18 +1,19 @@
--- What is known of the results in a database, by a connection or by a store whose trees are only read, and of either.
-use Rattle.std.specs.Prelude.{List}
+-- What is known of the results in a database, by a connection or by the trees of a store.
+use Rattle.std.specs.Prelude.{◌≡◌, false, List}
 use Rattle.sqlite.specs.Held.{Held, state}
 use Rattle.sqlite.specs.State.{HasCleanDisk}
 use Rattle.sqlite.specs.Store.{Ghosts}
 use Rattle.sqlite_trees.specs.Tree.{Trees}
-use Rattle.sqlite_trees.specs.View.{IsClean}
+use Rattle.sqlite_trees.specs.View.{View, IsClean}
 use Rattle.kt_base.specs.declared.entry.Run.{Run}
-use Rattle.kt_store.specs.Runs.{AreNumbered, AreOrdered, KeepsOne}
-use Rattle.kt_store.specs.Seeks.{HasCommitted, HasRuns}
+use Rattle.kt_store.specs.Runs.{AreNumbered, AreOrdered, Keeps, KeepsOne}
+use Rattle.kt_store.specs.Seeks.{HasCommitted}
 use Rattle.kt_store.specs.Stands.{StandsFor, Leaves as LeavesOf}
-use Rattle.kt_store.specs.StoreCalls.{StoreCall}
-use Rattle.kt_store.specs.declared.file_results.FileResults.{FileResults}
-use Rattle.kt_store.specs.declared.file_results.FileResults.TheVariants.{Whole, Alone}
 use Rattle.kt_store.specs.declared.result_store.Keeping as store
+
+-- while the disk returns what was written and the store is not broken, its trees are those of a database with these runs
+abbrev pub HasRuns : View → List Run → Type 0
+HasRuns v runs = IsClean v → v.is_broken ≡ false → Keeps runs v.trees
 
 module _ {S : Type 0} (g : Ghosts S) where
   -- of the results of a connection
@@ -47,31 +48,3 @@ module _ {S : Type 0} (g : Ghosts S) where
     numbered = λ s runs h. h.1;
     ordered = λ s runs h sound. h.2 sound;
   }
-
-  -- the same store answered
-  abbrev pub Answers : FileResults S → StoreCall → FileResults S → Type 0
-  Answers (Whole s) call (Whole t) = Unit {0}
-  Answers (Alone s alloc) call (Alone t later) = Unit {0}
-  Answers _ call _ = ⊥
-
-  abbrev pub Stands : FileResults S → List Run → Type 0
-  Stands (Whole s) runs = results.stands s runs
-  Stands (Alone s alloc) runs = readings.stands s runs
-
-  abbrev pub IsSound : FileResults S → Type 0
-  IsSound (Whole s) = results.sound s
-  IsSound (Alone s alloc) = readings.sound s
-
-  abbrev pub Leaves : FileResults S → List (List Run) → Type 0
-  Leaves (Whole s) may = results.leaves s may
-  Leaves (Alone s alloc) may = readings.leaves s may
-
-  -- a run's number is its place
-  pub numbered : (s : FileResults S) (runs : List Run) → Stands s runs → AreNumbered 1 runs
-  numbered (Whole s) runs h = h.1
-  numbered (Alone s alloc) runs h = h.1
-
-  -- the entries of a run go by position while the store is sound
-  pub ordered : (s : FileResults S) (runs : List Run) → Stands s runs → IsSound s → AreOrdered runs
-  ordered (Whole s) runs h sound = h.2 sound
-  ordered (Alone s alloc) runs h sound = h.2 sound

@@ -1,9 +1,0 @@
-use Rattle.kt_store.proofs.FileLemmas.{whole_serves, alone_serves}
-use Rattle.kt_store.proofs.AloneLemmas.{put_never}
-use Rattle.kt_store.proofs.file_results.FileResultsResultStore.put.Goals as goal
-
-pub returns-in-Whole : goal.returns-in-Whole
-returns-in-Whole g c = rw c.in-Whole.is (whole_serves g.S.Store _ _ _ c.put.ensures)
-
-pub returns-in-Alone : goal.returns-in-Alone
-returns-in-Alone g c = rw c.in-Alone.is (alone_serves g.S.Store _ _ _ _ _ (put_never g.S.Store _ _ tt c.args.run c.args.entry.now))
