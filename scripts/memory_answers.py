@@ -33,12 +33,12 @@ KINDS = "passed|skipped|expected_failure|failed|broken"
 SETUPS = {
     "commands": ["no statement failed", "there is no store", "its tables are not taken",
                  "its runs can not be told", "its entries can not be told", "it does not open again", "it can not be attached again",
-                 "the old store is not made"],
+                 "the old store is not made", "its trees can't be read"],
     "filters": ["a filter that is refused is asked for by `read`"],
     "lists": ["there is no such property or value"],
     "openings": ["no statement failed"],
     "properties": ["there is no such property or value", "there is no such variable"],
-    "stores": ["no tables were taken", "the statement fails", "no statement failed"],
+    "stores": ["no tables were taken", "the statement fails", "no statement failed", "its trees can't be read"],
 }
 
 

@@ -5,7 +5,7 @@ use crate::played::Played;
 use crate::scripted_platform::ScriptedPlatform;
 use kt_answers::{Answer, Result, Row, RowFault, due};
 use kt_play::{Scene, scene_of};
-use kt_store::{ResultStore, Results, StoreFault};
+use kt_store::{ResultStore, Results, RunsFile, StoreFault};
 use sqlite::{Alter, Connection};
 use sqlite_disk::{Files, Fuse, Memory};
 
@@ -234,10 +234,14 @@ impl Work for Trial<'_> {
             return Err(RowFault::Misspelled("a transaction is open"));
         }
         match Results::attach(self.scene.alloc, conn) {
-            Ok(results) => {
-                let (tested, results) = self.done_over(results)?;
-                Ok((Some(tested), results.detach().into_store()))
-            }
+            Ok(results) => match RunsFile::of(results) {
+                Ok(file) => {
+                    let (tested, file) = self.done_over(file)?;
+                    Ok((Some(tested), file.into_store()))
+                }
+                Err(StoreFault::NoMemory(_)) => Err(RowFault::Misspelled("out of memory")),
+                Err(_) => Err(RowFault::Misspelled("its trees can't be read")),
+            },
             Err((StoreFault::Store(_), conn)) => Ok((None, conn.into_store())),
             Err((StoreFault::NoMemory(_), _conn)) => Err(RowFault::Misspelled("out of memory")),
             Err(_) => Err(RowFault::Misspelled("it was refused for another reason")),

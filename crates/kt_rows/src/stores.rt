@@ -1,35 +1,53 @@
 use crate::played::Played;
 use crate::refusing_store::RefusingStore;
 use crate::scripted_platform::ScriptedPlatform;
-use kt_answers::{Answer, Line, Result, Row, RowFault, content_at, is_content};
+use kt_answers::{Answer, Line, Result, Row, RowFault, asked, content_at, is_content};
 use kt_play::{Scene, push_call};
-use kt_store::{ResultStore, Results};
+use kt_store::{ResultStore, Results, RunsFile};
 use sqlite::{Alter, Connection};
+use std::alloc::Global;
 
-/// A database whose tables were taken or not.
+/// A database whose tables were taken or not, or are read and written by their trees.
 #[derive(Drop)]
 enum Store<S: Alter + Drop> {
     Open(Connection<S>),
     Attached(Results<S>),
+    ByTrees(RunsFile<S>),
 }
 
-/// The connection of a database, without its tables.
-fn detached<S: Alter + Drop>(store: Store<S>) -> Connection<S> {
+/// The connection of a database, without its tables. One that is worked with by its trees has none.
+fn detached<S: Alter + Drop>(store: Store<S>) -> Result<Connection<S>> {
     match store {
-        Store::Open(connection) => connection,
-        Store::Attached(results) => results.detach(),
+        Store::Open(connection) => Ok(connection),
+        Store::Attached(results) => Ok(results.detach()),
+        Store::ByTrees(_file) => Err(RowFault::Misspelled("the tables are taken twice")),
+    }
+}
+
+/// The results that were taken, or the same by their trees.
+fn taken<S: Alter + Drop>(results: Results<S>, by_trees: bool) -> Result<Store<S>> {
+    if !by_trees {
+        return Ok(Store::Attached(results));
+    }
+    match RunsFile::of(results) {
+        Ok(file) => Ok(Store::ByTrees(file)),
+        Err(_) => Err(RowFault::Misspelled("its trees can't be read")),
     }
 }
 
 /// Takes the tables, and appends whether that was refused.
-fn attach<S: Alter + Drop>(out: &mut Answer, connection: Connection<S>) -> Result<Store<S>> {
+fn attach<S: Alter + Drop>(
+    out: &mut Answer,
+    connection: Connection<S>,
+    by_trees: bool,
+) -> Result<Store<S>> {
     if !connection.is_autocommit() {
         return Err(RowFault::Misspelled("a transaction is open"));
     }
     match Results::attach(out.alloc, connection) {
         Ok(results) => {
             out.push("attached");
-            Ok(Store::Attached(results))
+            taken(results, by_trees)
         }
         Err((fault, connection)) => {
             out.name(&fault);
@@ -59,14 +77,15 @@ fn ask<R: ResultStore + Drop>(
 fn step<S: Alter + Drop>(
     out: &mut Answer,
     store: Store<S>,
+    by_trees: bool,
     line: &Line<'_>,
     content: &[Line<'_>],
 ) -> Result<Store<S>> {
     out.separate("\n");
     match line.word {
-        "attach" => attach(out, detached(store)),
+        "attach" => attach(out, detached(store)?, by_trees),
         "sql" => {
-            let mut connection = detached(store);
+            let mut connection = detached(store)?;
             if connection.execute(line.text, &[]).is_err() {
                 return Err(RowFault::Misspelled("the statement fails"));
             }
@@ -76,23 +95,46 @@ fn step<S: Alter + Drop>(
         _ => match store {
             Store::Open(_) => Err(RowFault::Misspelled("no tables were taken")),
             Store::Attached(results) => Ok(Store::Attached(ask(out, results, line, content)?)),
+            Store::ByTrees(file) => Ok(Store::ByTrees(ask(out, file, line, content)?)),
         },
     }
 }
 
-/// The answers to the lines of a row over a database.
-fn over<S: Alter + Drop>(
-    out: &mut Answer,
-    lines: &[Line<'_>],
-    connection: Connection<S>,
-) -> Result<()> {
-    let mut store = Store::Open(connection);
+/// The answers to the lines of a row over a database in memory, by SQL or by its trees.
+fn over(alloc: Global, lines: &[Line<'_>], by_trees: bool) -> Result<String> {
+    let mut out = Answer::new(alloc);
+    let mut store = Store::Open(Connection::open_in_memory(alloc)?);
     for (place, line) in lines.iter().enumerate() {
         if !is_content(line) {
-            store = step(out, store, line, content_at(lines, place))?;
+            store = step(&mut out, store, by_trees, line, content_at(lines, place))?;
         }
     }
-    Ok(())
+    asked(out.end())
+}
+
+/// Whether the lines ask for the connection again once the tables were taken: then there is no way by the trees.
+fn are_taken_again(lines: &[Line<'_>]) -> bool {
+    let mut later = lines.iter().skip_while(|line| line.word != "attach");
+    later.next();
+    later.any(|line| line.word == "attach" || line.word == "sql")
+}
+
+/// Whether an answer says that memory ran out.
+fn is_short(answer: &str) -> bool {
+    answer.contains("NoMemory") || answer.contains("out of memory")
+}
+
+/// Appends what both ways answer, or each answer if they differ. Where memory was refused, that was to one of them.
+fn push_both(out: &mut Answer, by_sql: &str, by_trees: &str) {
+    if by_sql == by_trees || is_short(by_sql) {
+        out.push(by_sql);
+    } else if is_short(by_trees) {
+        out.push(by_trees);
+    } else {
+        out.push(by_sql);
+        out.line("by its trees:");
+        out.line(by_trees);
+    }
 }
 
 /// The answers to the lines of a row over runs in memory.
@@ -106,13 +148,21 @@ fn over_memory(out: &mut Answer, lines: &[Line<'_>], mut runs: RefusingStore) ->
     Ok(())
 }
 
-/// What calls on a store answer, one after the other: over a database in memory, or after `memory` over runs in memory.
+/// What calls on a store answer, one after the other: over a database in memory, by SQL and by its trees, which answer
+/// alike, or after `memory` over runs in memory.
 pub fn answer(out: &mut Answer, row: &Row<'_>) -> Result<()> {
     let lines = row.entries.as_slice();
-    match lines.split_first() {
-        Some((first, calls)) if first.word == "memory" => {
-            over_memory(out, calls, RefusingStore::of(out.alloc, row)?)
+    if let Some((first, calls)) = lines.split_first() {
+        if first.word == "memory" {
+            return over_memory(out, calls, RefusingStore::of(out.alloc, row)?);
         }
-        _ => over(out, lines, Connection::open_in_memory(out.alloc)?),
     }
+    let by_sql = over(out.alloc, lines, false)?;
+    if are_taken_again(lines) {
+        out.push(by_sql.as_str());
+        return Ok(());
+    }
+    let by_trees = over(out.alloc, lines, true)?;
+    push_both(out, by_sql.as_str(), by_trees.as_str());
+    Ok(())
 }
