@@ -46,7 +46,7 @@ impl Block {
         self.props.get(name).is_some()
     }
 
-    /// Gives a property that the block has not given before.
+    /// Adds a property that the block doesn't have yet.
     pub fn set(&mut self, name: &Text, value: &Text) -> Result<(), PropFault>
         requires { is_given self.old.props name.now ≡ false }
         ensures ok { OnOk result (self.new ≡ with_property self.old name.now value.now) }

@@ -3,7 +3,8 @@ ghost use Rattle.kt_base.specs.Common.{decimal, digits_onto, utf8};
 
 use std::marker::Model;
 
-/// The decimal digits of a number, in a buffer of their own on the stack. Contracts see the digits' bytes.
+/// The decimal digits of a number, in a buffer of their own on the stack: reasons and reports print numbers where no memory
+/// may be taken. Contracts see the digits' bytes.
 #[derive(Drop)]
 pub struct Decimal {
     room: [u8; 64],

@@ -7,8 +7,8 @@ use kt_base::{NoMemory, Text, Variable, Variables};
 use std::alloc::Global;
 use std::marker::Model;
 
-/// The variables of a test suite, in the order of their first definitions. Contracts see the list of
-/// their pairs, in which each name occurs once.
+/// The variables of a test suite, in the order of their first definitions, so that what a case gets never depends on
+/// how a map is kept. Contracts see the list of their pairs, in which each name occurs once.
 #[derive(Drop)]
 pub struct SuiteVariables {
     values: IndexMap<String, Text>,
@@ -23,7 +23,7 @@ impl Model for SuiteVariables {
 }
 
 impl SuiteVariables {
-    /// No variables, which take no memory.
+    /// No variables. Allocates nothing.
     pub(crate) fn new(alloc: Global) -> SuiteVariables
         ensures { result ≡ [] }
     {

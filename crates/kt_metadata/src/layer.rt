@@ -28,7 +28,7 @@ impl Model for Layer {
 }
 
 impl Layer {
-    /// Nothing, which takes no memory.
+    /// An empty layer. Allocates nothing.
     pub fn new(alloc: Global) -> Layer
         ensures { result ≡ [] }
     {
@@ -74,7 +74,7 @@ impl Layer {
         Ok(())
     }
 
-    /// Gives each name what another layer gives it.
+    /// Sets every name that another layer sets, to its value.
     pub fn put_all(&mut self, more: &Layer) -> Result<(), NoMemory>
         ensures { OnOk result (self.new ≡ last_values (self.old ++ more.now)) }
     {

@@ -94,7 +94,7 @@ pub fn listed_reason(
     Ok(Some(reason))
 }
 
-/// A case for root on a host that isn't root, or for another user on one that is.
+/// The reason if a case wants root and the runner isn't, or the other way round.
 pub fn user_reason(user: User, root: bool) -> Option<Reason>
     ensures { text_in result ≡ user_row user root }
 {

@@ -103,7 +103,7 @@ fn filled(text: &str) -> Option<&str>
     Some(text)
 }
 
-/// What follows a front, in a text that goes on after it.
+/// What follows a prefix, if anything does.
 pub fn own_part<'a>(text: &'a str, front: &str) -> Option<&'a str>
     ensures { option_map (λ part. chars part.now) result
         ≡ own_part (chars front.now) (chars text.now) }

@@ -33,7 +33,7 @@ impl Removals {
         }
     }
 
-    /// Removes the directory of these entries' names if it is empty.
+    /// Removes the work directory if it is empty, and returns whether it is gone.
     fn remove_work<R: Files + AllocGlobal>(&self, rt: &R, directory: &Text) -> bool
         requires { MayEmpty self.now directory.now }
     {

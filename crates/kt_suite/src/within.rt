@@ -5,7 +5,7 @@ ghost use Rattle.kt_suite.specs.declared.filter.Filter.{Filter as OneFilter};
 use crate::{Filter, FilterFault};
 use kt_base::Text;
 
-/// Whether a path is over at this place, or goes on with a slash.
+/// Whether a component ends here: the path ends, or a slash follows.
 fn ends_component_at(path: &[u8], place: usize) -> bool
     ensures { result ≡ is_within [] (drop place path.now) }
 {

@@ -71,6 +71,8 @@ impl<O: Os + Drop> Launcher for Driver<O> {
 
     ghost waits = { DriverWaits O.leads };
 
+    /// All memory of a start is taken before its first call, so one that finds none has asked nothing, but that a refused
+    /// cleanup has its body's directory removed. The attempts of bodies and lists have different numbers.
     fn start(&mut self, job: &Job, role: Role) -> StartAnswer {
         match role {
             Role::Body => self.start_body(job),
@@ -78,7 +80,9 @@ impl<O: Os + Drop> Launcher for Driver<O> {
         }
     }
 
-    /// The end of the first child, polled in the order of their start, that has ended; all its answers tell it (`Waited`).
+    /// The end of the first child, polled in the order of their starts, that is over: it has ended, its limit was used up
+    /// and it was killed, or a poll failed. If all run, a pause follows. Evidence and outputs that can't be read for want
+    /// of memory count as not read.
     fn wait(&mut self) -> Ended {
         self.running.wait(self.alloc, &mut self.os)
     }
@@ -89,7 +93,9 @@ impl<O: Os + Drop> Driver<O> {
     ghost use Rattle.kt_child.specs.Common.{Chain, Call, RemoveTree, FindsRoot, idle_state, MayStart, running_after_start, HasMoment, IsFit, count_in, Begun, case_of, limit_of, spawned, state_after_start, is_among, shown_in, spawning_of, IsStart};
     ghost use Rattle.kt_base.specs.declared.child.Role.{Role as Part};
 
-    /// Makes a root directory in `base`. `source` is the absolute directory of the root Kyuafile. Errors return `os`.
+    /// Makes a root directory in `base`: the first of `kyua.0` to `kyua.999` that can be made. One that is there, such as
+    /// that of a runner that was killed, is never used. `source` is the absolute directory of the root Kyuafile, in which
+    /// the programs lie. An error returns `os`: `NoWorkDirectory` if none of the thousand can be made.
     pub fn new(
         alloc: Global,
         os: O,
@@ -115,7 +121,7 @@ impl<O: Os + Drop> Driver<O> {
         }
     }
 
-    /// Asks for the removal of the root directory, and returns the system.
+    /// Asks for the removal of the root directory, once, and returns the system. Whether it is gone is not looked at.
     pub fn close(self) -> O
         ensures { (done : Bool) × O.leads self.os (RemoveTree self.root done) result }
     {

@@ -79,7 +79,9 @@ impl<O: Os + Drop> Driver<O> {
     ghost use Rattle.std.specs.Prelude.{◌≡◌};
     ghost use Rattle.kt_child.specs.Common.{ListsBy};
 
-    /// Asks an ATF program for its list of test cases, with the variables of its suite.
+    /// Asks an ATF program for its list of test cases, with the variables of its suite. It runs in a directory of its own,
+    /// like a body, for 300 seconds at the most (this profile), and the directory is removed. A list that can't be read for
+    /// want of memory is `Unreadable`.
     pub fn list(&mut self, program: &Program, variables: &Variables) -> Listing
         ensures listed { ListsBy O.leads self.old program.now.path variables.now result self.new }
         ensures running { self.new.running ≡ self.old.running }

@@ -39,7 +39,7 @@ impl PartReader for TapReader {
     }
 }
 
-/// How the reading ends with a part that was kept, if it does.
+/// Counts a part, and returns how the reading ends if it was the last one.
 fn count_part(got: &mut u64, bytes: &Bytes, follows: bool, limit: u64) -> Option<ReadEnd>
     requires { got.old < limit }
     ensures end { result ≡ end_of limit got.old (FileRead.Part bytes.now follows) }

@@ -141,7 +141,7 @@ impl<P: OpenProcess + Drop> HostChild<P> {
         !self.seen && self.process.is_some() && self.pace.is_late_at(now)
     }
 
-    /// Whether it is told as running without a look: while some child is heard late, in the first half of its answers.
+    /// Whether to report it as running without a look: some child is polled late, and half of its own polls are left.
     fn is_unheard(&self, late: bool) -> bool
         ensures runs { IsTrue result → IsSome (stand_of self.now) }
         ensures late { IsTrue result → IsTrue late }

@@ -16,13 +16,16 @@ use std::process::{ExitStatus, Processes};
 use std::rt::{Clock, Files};
 use std::time::SystemTime;
 
-/// Whether a child is heard late is looked at once in so many turns.
+/// Late children are looked for once in this many turns.
 const TURNS_OF_A_LOOK: u32 = 8;
 
 /// The system itself: the processes, files and clocks of the standard library.
 ///
 /// A pause is over when a child ends, or after 10 milliseconds. A poll whose answer `running` would be early sleeps
 /// first. The first directory is the root of all others. A long removal goes on in pauses and at later removals.
+///
+/// An end is reported only of a child with a process, by the wait status of that process. The environment of a child is the
+/// runner's own with the changes of its plan. A read goes on from one place and ends at its limit or its first fault.
 #[derive(Drop)]
 pub struct HostOs<R: Processes> {
     rt: R,

@@ -71,7 +71,7 @@ fn is_too_early(limit: u64, told: u64, millis: u128) -> bool
     due > free && due - free > millis
 }
 
-/// The answers by which a child may lag behind its time before the others are told without a look.
+/// How many polls a child may be late before others are reported as running without a look.
 const SLACK: u128 = 2;
 
 /// Whether a child is heard late that was reported as running so often in these milliseconds, and may be again.

@@ -37,7 +37,7 @@ pub trait Os {
     ) -> Result<(), OsFault>
         ensures { leads self.old (Spawn child program.now words.now env.now dir.now result) self.new };
 
-    /// Asks how a child stands, without waiting for its end; it may wait so that its limit isn't over too early.
+    /// Polls a child without waiting for its end. It may sleep, so that the limit isn't used up early.
     fn poll(&mut self, child: Child) -> Result<Polled, OsFault>
         ensures { leads self.old (Poll child result) self.new };
 
