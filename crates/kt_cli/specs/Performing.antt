@@ -1,4 +1,4 @@
--- What the program does: a command over its results, which are opened before it and closed after it, and a command line that is none.
+-- How the program runs: it opens the results, executes the command and closes them; or the arguments are no command.
 use Rattle.std.specs.Prelude.{ℕ, Bool, false, List, ◌≡◌, Option, None, Ok, Err, [], Some, Result, if◌then◌else◌}
 use Rattle.std.specs.Io.KnownBytes.{Keeps}
 use Rattle.kt_base.specs.Chains.{Chain}
@@ -48,7 +48,7 @@ pub record Program (M O P S : Type 0) : Type 1 where
   pub platform : platform.Ghosts P S
   pub results : keeping.Ghosts S
 
--- the same, made of its parts
+-- a program of these parts
 abbrev pub program : {M O P S : Type 0} → machine.Ghosts M → system.Ghosts O → platform.Ghosts P S → keeping.Ghosts S → Program M O P S
 program machine system platform results = record { machine = machine; system = system; platform = platform; results = results }
 
@@ -57,7 +57,7 @@ pub record State (M O P : Type 0) : Type 0 where
   pub platform : P
   pub outside : Outside M O
 
--- the same, made of its parts
+-- a state of these parts
 abbrev pub state : {M O P : Type 0} → P → Outside M O → State M O P
 state platform outside = record { platform = platform; outside = outside }
 
@@ -78,15 +78,15 @@ module _ {O : Type 0} (o : system.Ghosts O) (os : O) where
     none_made : (fault : DriverFault) (calls : List Call) (left : O) → Chain o.leads os calls left → FindsRoot base calls (Err fault) → NoRoot base fault left
 
 module _ {M O : Type 0} (o : system.Ghosts O) (before : Outside M O) where
-  -- the same of all that is outside: the machine was asked nothing
+  -- why no driver is made, with what lies outside as it is given back: the machine was asked nothing
   abbrev pub NoDriver : List ℕ → DriverFault → Outside M O → Type 0
   NoDriver base fault after = NoRoot o before.os base fault after.os × (after.machine ≡ before.machine)
 
 module _ {M O R : Type 0} (m : machine.Ghosts M) (o : system.Ghosts O) (before after : Outside M O) (r : keeping.Ghosts R) where
-  -- a command was done over the files beside its Kyuafile and over a driver that was made for its options, whose root directory was then to be
-  -- removed: nothing else was asked of the machine and the system. All that the driver asked was for the answers of the trace, from a board on
-  -- which nothing runs: each poll and kill is heard by one child, and the outcome of an end is the row of the outcome table that its child's
-  -- answers are
+  -- a command was executed over the files beside its Kyuafile and over a driver that was made for its options; then the removal of the driver's
+  -- root directory was asked for. Nothing else was asked of the machine and the system. All that the driver asked was for the answers of the
+  -- trace, from a board on which nothing runs: each poll and kill is heard by one child, and each end has the outcome that the table gives for
+  -- its child's answers
   pub record OnDriver (around : Surroundings) (options : CaseOptions) (c : Command) (store end : R) (was now : Option (List ℕ)) (exit : ℕ) : Type 0 where
     pub old : HostWorld M O
     pub new : HostWorld M O
@@ -103,13 +103,13 @@ module _ {M O R : Type 0} (m : machine.Ghosts M) (o : system.Ghosts O) (before a
 abbrev pub no_world : World (Unit {0})
 no_world = record { running = λ w k role. None; pending = λ w k. false; starts = λ w job role answer v. ⊥; waits = λ w ended v. ⊥; asks = λ w asked v. ⊥; tells = λ w told v. ⊥ }
 
--- a command was done that asks and starts nothing
+-- a command was executed that asks and starts nothing
 abbrev pub DidAlone : {R : Type 0} → keeping.Ghosts R → Command → R → R → Option (List ℕ) → Option (List ℕ) → ℕ → Type 0
 DidAlone r c store after was now exit = Did no_world r c (scene tt store was) (scene tt after now) exit
 
 module _ {M O P S R : Type 0} (p : Program M O P S) (r : keeping.Ghosts R) where
-  -- a command was done over a store: a report alone, and one over test cases with what was found around it and a driver of its own; if it has
-  -- none of these, one line says so and the store is as it was. Nothing else is asked of the machine and the system
+  -- a command was executed over a store: a report by itself; a command over test cases with what was found around the process and a driver of
+  -- its own, or, without one of these, a line says so and the store is as it was. Nothing else is asked of the machine and the system
   pub data DoneOver (c : Command) (old new : State M O P) (store after : R) (was now : Option (List ℕ)) (exit : ℕ) : Type 0 where
     alone : cases_of c ≡ None → new ≡ old → DidAlone r c store after was now exit → DoneOver c old new store after was now exit
     done : (options : CaseOptions) (around : Surroundings) → cases_of c ≡ Some options → p.platform.provides old.platform (Found (Ok around)) new.platform
@@ -119,8 +119,8 @@ module _ {M O P S R : Type 0} (p : Program M O P S) (r : keeping.Ghosts R) where
     no_driver : (options : CaseOptions) (around : Surroundings) (fault : DriverFault) → cases_of c ≡ Some options → p.platform.provides old.platform (Found (Ok around)) new.platform
         → NoDriver p.system old.outside options.work fault new.outside → after ≡ store → Printed was now exit (utf8 (driver_line fault)) failure_exit → DoneOver c old new store after was now exit
 
--- what was given to standard output was handed on, and the command ends as it was due to; or with 2, if some of it stays unwritten or
--- the flush of standard output failed
+-- what was given to standard output was handed on, and the exit is the due one; or it is 2, if some of this stays unwritten or the flush of
+-- standard output failed
 pub record Flushed (told : Option (List ℕ)) (now : LineState) (due exit : ℕ) : Type 0 where
   pub kept : Keeps told now.given
   pub failed : Bool
@@ -148,8 +148,8 @@ abbrev pub access_of : Command → Access
 access_of c = access_for (cases_of c)
 
 module _ {M O P S : Type 0} (p : Program M O P S) where
-  -- a command was done over the results in a file: they were opened first, for what it does with them, and closed last, once and as the command left them; where they
-  -- could not be opened one line says why, and nothing else was done
+  -- a command was executed over the results in a file: they were opened first, for what it does with them, and closed last, once, as the
+  -- command left them; or they could not be opened: then a line says why, and nothing else was done
   pub data DoneIn (c : Command) (file : List ℕ) (old new : State M O P) (was now : Option (List ℕ)) (exit : ℕ) : Type 0 where
     not_opened : (fault : StoreFault) → p.platform.provides old.platform (Opened file (access_of c) (Err fault)) new.platform → new.outside ≡ old.outside
         → Printed was now exit (utf8 (refusal_line fault)) failure_exit → DoneIn c file old new was now exit
@@ -157,12 +157,12 @@ module _ {M O P S : Type 0} (p : Program M O P S) where
         → DoneOver p p.results c (state begun old.outside) (state done new.outside) store after was told due → p.platform.provides done (Closed after answer) new.platform
         → Concluded answer told now due exit → DoneIn c file old new was now exit
 
-  -- a command was done over the results in its file, or over none in memory where it has no file
+  -- a command was executed over the results in its file, or, if it has no file, over an empty store in memory
   abbrev pub DoneBy : Command → Option (List ℕ) → State M O P → State M O P → Option (List ℕ) → Option (List ℕ) → ℕ → Type 0
   DoneBy c (Some file) old new was now exit = DoneIn c file old new was now exit
   DoneBy c None old new was now exit = (after : List Run) × DoneOver p memory_runs c old new [] after was now exit
 
-  -- a command was performed: it was done, and then all its text was handed on
+  -- a command was performed: it was executed, and then all its text was handed on
   pub record Performed (c : Command) (old new : State M O P) (was : Option (List ℕ)) (now : LineState) (exit : ℕ) : Type 0 where
     pub told : Option (List ℕ)
     pub due : ℕ

@@ -17,7 +17,7 @@ pub record Scene (W R : Type 0) : Type 0 where
   pub store : R
   pub held : Option (List ℕ)
 
--- the same, made of its parts
+-- a scene of these parts
 abbrev pub scene : {W R : Type 0} → W → R → Option (List ℕ) → Scene W R
 scene world store held = record { world = world; store = store; held = held }
 
@@ -32,7 +32,7 @@ World W = record {
   tells : W → Told → W → Type 0;
 }
 
--- the same by the records of the three traits
+-- the relations of a world, from those of its three traits
 abbrev pub world_of : {W : Type 0} → tree.Ghosts W → launcher.Ghosts W → world.Ghosts W → World W
 world_of t l w = record { running = l.running; pending = l.pending; starts = l.starts; waits = l.waits; asks = t.asks; tells = w.tells }
 

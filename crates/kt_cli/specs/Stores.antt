@@ -34,7 +34,7 @@ beside_by (Heads answer) runs may = may
 beside_by (Outline number pairs answer) runs may = may
 beside_by (Outputs number position answer) runs may = may
 
--- ---- the same of calls one after the other
+-- ---- calls one after the other
 
 abbrev pub changed : List StoreCall → List Run → List Run
 changed [] runs = runs

@@ -24,7 +24,7 @@ fn write_fault<O: Write>(words: &str, out: &mut O) -> Result<(), OutputFault>
     emit_all(&[b"kyua: E: ", words.as_bytes(), b"\n"], out)
 }
 
-/// Writes that memory ran out. The refusal is no part of the line: who says so holds one, which nobody can make up.
+/// Writes that memory ran out. The refusal isn't printed: it is a parameter so that only a real one leads here.
 pub fn write_memory<O: Write>(_refusal: NoMemory, out: &mut O) -> Result<(), OutputFault>
     ensures { Shows (O.contents out.old) (O.contents out.new) (is_err result) (utf8 memory_line) }
 {

@@ -29,7 +29,7 @@ pub record Recording (R : Type 0) : Type 0 where
   pub failed : Bool
   pub held : Option (List ℕ)
 
--- the same, made of its parts
+-- a recording of these parts
 abbrev pub recording : {R : Type 0} → R → ℕ → Bool → Option (List ℕ) → Recording R
 recording store number failed held = record { store = store; number = number; failed = failed; held = held }
 

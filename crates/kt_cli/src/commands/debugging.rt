@@ -32,7 +32,7 @@ fn print_cases<L: Launcher, O: Write>(
         written: Ok(()),
     };
     let answer = run_cases(alloc, plan, 1, launcher, &mut printer);
-    // No effect when it runs: from this use the proof reads what was lent to the printer.
+    // No effect: the proof needs this use to see that what the printer borrowed is given back here.
     let _ = &*printer.out;
     (answer, printer.written)
 }

@@ -13,7 +13,12 @@ use kt_words::Command;
 use std::alloc::Global;
 use std::io::Write;
 
-/// Does a command over a world and a store of runs, and writes its text.
+/// Executes a command over a world and a store of runs, and writes its text.
+///
+/// `test` asks its world before the store, so a fault of the configuration or of a Kyuafile begins no run. It puts an
+/// entry before it writes its line; after a failed write it goes on recording, after a refused put it only starts owed
+/// cleanups. Calls, text and exit follow from the answers, even of a store that forgets what was put; which runs there
+/// are afterwards depends on the store (`law_of_sound_stores`).
 pub fn execute<W: World, R: ResultStore, O: Write>(
     alloc: Global,
     command: &Command,
@@ -43,8 +48,8 @@ pub fn execute<W: World, R: ResultStore, O: Write>(
     }
 }
 
-/// Executes commands one after the other, and returns the exit of each. The memory for the exits is
-/// taken before the first command.
+/// Executes commands one after the other, whatever their exits, and returns these. The memory for the exits is taken
+/// before the first command, so that no command is executed whose exit is lost.
 pub fn execute_all<W: World, R: ResultStore, O: Write>(
     alloc: Global,
     commands: &[Command],

@@ -40,7 +40,7 @@ fn record_cases<L: Launcher, R: ResultStore, O: Write>(
         written: Ok(()),
     };
     let answer = run_cases(alloc, plan, width, launcher, &mut recorder);
-    // No effect when it runs: from these uses the proof reads what was lent to the recorder.
+    // No effect: the proof needs these uses to see that what the recorder borrowed is given back here.
     let _ = &*recorder.results;
     let _ = &*recorder.out;
     (answer, recorder.written)

@@ -53,8 +53,8 @@ fn driver_of<O: Os + Drop>(
     }
 }
 
-/// Does a command over test cases of this machine and this system, with work directories of its own,
-/// which are removed at the end. What is outside is returned.
+/// Executes a command over test cases on this machine and this system, with work directories of its
+/// own, which are removed at the end. What is outside is returned.
 pub fn execute_over_cases<M: Machine + Drop, O: Os + Drop, S: ResultStore, W: Write>(
     outside: Outside<M, O>,
     around: Surroundings,

@@ -14,7 +14,7 @@ use kt_store::{Access, ResultStore};
 use kt_words::{CaseOptions, Command, CommandFault};
 use std::io::Write;
 
-/// Does a command over test cases, with what is found around the process.
+/// Executes a command over test cases, with what is found around the process.
 fn perform_over_cases<M: Machine + Drop, O: Os + Drop, P: Platform, S: ResultStore, W: Write>(
     outside: Outside<M, O>,
     platform: &mut P,
@@ -38,7 +38,7 @@ fn perform_over_cases<M: Machine + Drop, O: Os + Drop, P: Platform, S: ResultSto
     }
 }
 
-/// Does a command over a store of runs. A report needs nothing else.
+/// Executes a command over a store of runs. A report needs nothing else.
 fn perform_over<M: Machine + Drop, O: Os + Drop, P: Platform, S: ResultStore, W: Write>(
     outside: Outside<M, O>,
     platform: &mut P,
@@ -81,7 +81,7 @@ fn access_of(command: &Command) -> Access
     }
 }
 
-/// Does a command over the results in a file.
+/// Executes a command over the results in a file.
 fn perform_in_file<M: Machine + Drop, O: Os + Drop, P: Platform, W: Write>(
     outside: Outside<M, O>,
     platform: &mut P,
@@ -143,8 +143,8 @@ fn reject<W: Write, E: Write>(fault: &CommandFault, out: &mut LineOutput<W>, err
     }
 }
 
-/// Carries out a command line: performs its command, or prints why it is none. What is outside is returned, as all
-/// that was asked of it left it.
+/// Carries out a command line: performs its command, or prints why it is none. Returns what is outside, as the calls
+/// left it.
 pub fn carry_out<M: Machine + Drop, O: Os + Drop, P: Platform, W: Write, E: Write>(
     outside: Outside<M, O>,
     platform: &mut P,
