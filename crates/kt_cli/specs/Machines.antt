@@ -48,7 +48,7 @@ module _ {M : Type 0} (answers : M → MachineAnswer → M → Type 0) where
     further : (directory : List ℕ) (others : List (List ℕ)) (answer : Bool) (old mid new : M) → InDirectory name directory false old mid → Searched name others answer mid new
         → Searched name (directory ∷ others) answer old new
 
-  -- a program without an absolute path is looked for by a name without a slash, where `PATH` is set
+  -- a program without an absolute path is looked for by a name without a slash, if `PATH` is set
   abbrev pub IsNamed : Bool → Option (List ℕ) → List ℕ → Bool → M → M → Type 0
   IsNamed false (Some path) name answer old new = Searched (utf8 name) (directories (utf8 path)) answer old new
   IsNamed false None name answer old new = (answer ≡ false) × (new ≡ old)

@@ -83,7 +83,7 @@ impl<W: Write> LineOutput<W> {
         self.failed || self.unflushed.is_some()
     }
 
-    /// The exit of a command that wrote here: what is still held is written, and where that fails the exit is 2.
+    /// The exit of a command that wrote here: what is still held is written, and if that fails the exit is 2.
     pub fn finish(&mut self, exit: Exit) -> Exit
         ensures { Flushed (given_bytes W.contents self.old) (line_state W.contents self.new)
             exit.status result.status }

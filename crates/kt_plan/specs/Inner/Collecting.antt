@@ -12,7 +12,7 @@ use Rattle.kt_plan.specs.Stops.{IsShort}
 use Rattle.kt_plan.specs.Told.{Told, Lists}
 use Rattle.kt_plan.specs.Collecting.{Collects, CollectsFirst, variables_for}
 
--- the first question for them, where memory ran out: the list is asked for, or not yet
+-- the first question for them, if memory ran out: the list is asked for, or not yet
 pub data ListsFirst (config : Values) (program : Program) : List Told → Type 0 where
   before_list : ListsFirst config program []
   after_list : (listing : Listing) → ListsFirst config program (Lists program (variables_for config program.suite) listing ∷ [])
