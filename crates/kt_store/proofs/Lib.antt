@@ -26,7 +26,6 @@ pub mod RunLemmas
 pub mod EntryLemmas
 pub mod TakesLemmas
 pub mod ThereLemmas
-pub mod CountLemmas
 pub mod CloseLemmas
 pub mod HeadLemmas
 pub mod KeptEntries
@@ -54,5 +53,4 @@ pub mod CommitLemmas
 pub mod AttachLemmas
 pub mod UniqueLemmas
 pub mod ProbeLemmas
-pub mod WholeEntries
 pub mod NewFiles

@@ -1,23 +1,10 @@
--- What the query for the outputs of an entry answers.
+-- The entry of a run at a position, by the rows at that place.
 use Rattle.std.proofs.Common.{◌≢◌, length, ◌<◌, ◌≤◌, zero, suc, subst, arith, ◌≡◌, ◌==◌, ℕ, List, [], ◌∷◌, map, filter, Bool, true, false, cond, Some, None, Option, slice_get, refl, sym, ap, ◌∙◌, inl, inr}
-use Rattle.kt_store.proofs.Common.{cases_lt, slice_get_past, find, last_run, Row, State, Shown, reads_as, Run, Entry, entry_at, outputs_text, schema_2, output_columns, entries_of, run_at, IsStore}
-use Rattle.kt_store.proofs.SqlFacts.{outputs_select_is, outputs_query}
-use Rattle.kt_store.proofs.KeptEntries.{Same, tells_kept}
-use Rattle.kt_store.proofs.EntriesLemmas.{up_of}
-use Rattle.kt_store.proofs.ThereLemmas.{there_params, there_tests, each}
+use Rattle.kt_store.proofs.Common.{cases_lt, slice_get_past, find, last_run, Row, Run, Entry, entry_at, output_columns, entries_of, run_at}
 
 -- an entry has this position
 abbrev pub has : ℕ → Entry → Bool
 has p e = e.position == p
-
-same_rows : (n p : ℕ) (r : Row) → Same there_tests outputs_query.project (there_params n p) r
-same_rows n p [] = (refl, refl)
-same_rows n p (x ∷ r) = (refl, refl)
-
-pub tells_outputs : (old new : State) (runs : List Run) (n p : ℕ) (rows : List Row) → IsStore old runs → Shown outputs_text (there_params n p) old new rows → rows ≡ map output_columns (filter (has p) (entries_of (run_at runs n)))
-tells_outputs old new runs n p rows is h =
-    let reads = reads_as outputs_text (there_params n p) old new schema_2 is.tables.schema _ outputs_select_is.0 outputs_select_is.2 outputs_select_is.1 rows h in
-    tells_kept there_tests outputs_query.project (there_params n p) (same_rows n p) n (has p) (each n p) old runs rows is (up_of runs n is.tables.valid) reads.answer
 
 -- the first row is that of the entry at the position
 first_is : (p : ℕ) (es : List Entry) (row : Row) → slice_get (map output_columns (filter (has p) es)) 0 ≡ Some row → (e : Entry) × (find (has p) es ≡ Some e) × (row ≡ output_columns e)
