@@ -30,7 +30,7 @@ use Rattle.kt_cli.specs.Reports.{Reported, ReportedJunit, Unread, JunitCut}
 use Rattle.kt_cli.specs.Scenes.{Scene, World}
 use Rattle.kt_cli.specs.StopLines.{stop_line, stop_exit}
 use Rattle.kt_cli.specs.Stores.{Stored}
-use Rattle.kt_cli.specs.Testing.{none_idle, run_for, Tested, TestCut}
+use Rattle.kt_cli.specs.Testing.{all_matched, run_for, Tested, TestCut}
 use Rattle.kt_plan.specs.Told.{Told, Now}
 use Rattle.kt_cli.specs.Warnings.{warnings}
 
@@ -54,7 +54,7 @@ listing words chosen = utf8 (flat_map case_line chosen.cases) ++ utf8 (warnings 
 
 -- 0 if each filter selects a case
 abbrev pub listing_exit : Chosen → ℕ
-listing_exit chosen = if none_idle chosen.unmatched then 0 else 1
+listing_exit chosen = if all_matched chosen.unmatched then 0 else 1
 
 -- these cases were selected, the host was asked for what they require, and then these questions; the plan is theirs
 pub record IsPrepared (needed : Bool) (options : CaseOptions) (seen : Seen) (picked : Picked) (cases : List Candidate) (last : List Told) : Type 0 where

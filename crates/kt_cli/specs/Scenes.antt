@@ -21,6 +21,14 @@ pub record Scene (W R : Type 0) : Type 0 where
 abbrev pub scene : {W R : Type 0} → W → R → Option (List ℕ) → Scene W R
 scene world store held = record { world = world; store = store; held = held }
 
+-- the same scene, seen with this world
+abbrev pub with_world : {V W R : Type 0} → W → Scene V R → Scene W R
+with_world world s = scene world s.store s.held
+
+-- the same scene, seen with this store
+abbrev pub with_store : {W R T : Type 0} → T → Scene W R → Scene W T
+with_store store s = scene s.world store s.held
+
 -- the relations of a world: those of the launcher and the tree that it is, and its own
 abbrev pub World : Type 0 → Type 1
 World W = record {

@@ -14,10 +14,10 @@ use Rattle.kt_cli.specs.Stores.{puts}
 use Rattle.kt_cli.specs.Totals.{lines, totals_text, good_count, bad_count}
 use Rattle.kt_cli.specs.Warnings.{warnings}
 
--- no filter is left without a case
-abbrev pub none_idle : List ℕ → Bool
-none_idle [] = true
-none_idle (position ∷ unmatched) = false
+-- each filter selects a case
+abbrev pub all_matched : List ℕ → Bool
+all_matched [] = true
+all_matched (position ∷ unmatched) = false
 
 -- the totals, and a warning for each filter that selects no case
 abbrev pub ending : ℕ → ℕ → ℕ → List (List ℕ) → List ℕ → List ℕ
@@ -29,7 +29,7 @@ results entries words unmatched = lines entries ++ ending (good_count entries) (
 
 -- 0 if no entry is bad and each filter selects a case
 abbrev pub exit_of : ℕ → List ℕ → ℕ
-exit_of bad unmatched = if bad == 0 && none_idle unmatched then 0 else 1
+exit_of bad unmatched = if bad == 0 && all_matched unmatched then 0 else 1
 
 -- `exit_of` for a list of entries
 abbrev pub results_exit : List Entry → List ℕ → ℕ
@@ -43,13 +43,10 @@ pub record PlannedRun : Type 0 where
   pub unmatched : List ℕ
   pub moment : ℕ
 
--- a planned run of these parts
-abbrev pub planned_run : List Job → ℕ → List (List ℕ) → List ℕ → ℕ → PlannedRun
-planned_run plan width words unmatched moment = record { plan = plan; width = width; words = words; unmatched = unmatched; moment = moment }
-
 -- the run of a plan, for what was picked by these options
 abbrev pub run_for : List Job → CaseOptions → Picked → ℕ → PlannedRun
-run_for plan options picked moment = planned_run plan picked.settings.config.parallelism options.filters picked.chosen.unmatched moment
+run_for plan options picked moment =
+    record { plan = plan; width = picked.settings.config.parallelism; words = options.filters; unmatched = picked.chosen.unmatched; moment = moment }
 
 -- the call that begins it, with its answer
 abbrev pub begins : PlannedRun → Result ℕ StoreFault → StoreCall

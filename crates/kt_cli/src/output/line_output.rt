@@ -71,7 +71,7 @@ impl<W: Write> LineOutput<W> {
 
     /// Sets whether each line is written when it is complete.
     pub fn set_by_line(&mut self, by_line: bool)
-        ensures { given_bytes W.contents self.new ≡ given_bytes W.contents self.old }
+        ensures { line_state W.contents self.new ≡ line_state W.contents self.old }
     {
         self.by_line = by_line;
     }
