@@ -22,7 +22,7 @@ pub use Rattle.kt_store.specs.Heads.{entry_at, head_of, no_output, outlined, out
 pub use Rattle.kt_store.specs.Inner.Ask.{AreWide, Asked, HasColumns, MayShow, MayTell, ShowsOf, Told}
 pub use Rattle.kt_store.specs.Inner.Attaching.{HasNumber}
 pub use Rattle.kt_store.specs.Inner.Calls.{Statement, entry_statements, five_statement, pair_statement, pair_statements, plain_statements, single_statements}
-pub use Rattle.kt_store.specs.Inner.Cursors.{CountsUnder, Goes, HoldsCommit, Looks, LooksThrough, ShowsUnder, in_columns}
+pub use Rattle.kt_store.specs.Inner.Cursors.{CountsUnder, FindsUnder, Goes, HoldsCommit, Looks, LooksThrough, ShowsUnder, in_columns}
 pub use Rattle.kt_store.specs.Inner.Edits.{Fills, Obeys, PutsRows, Wrote, done_row, unnumbered}
 pub use Rattle.kt_store.specs.Inner.Fault.{Tells}
 pub use Rattle.kt_store.specs.Inner.Heads.{entry_columns, head_columns, output_columns, pair_columns, pairs_shown}
