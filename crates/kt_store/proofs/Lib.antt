@@ -6,6 +6,7 @@ pub mod EndLemmas
 pub mod EditLemmas
 pub mod PlaceLemmas
 pub mod AloneFiles
+pub mod ReopenLemmas
 pub mod OverLemmas
 pub mod SqlFacts
 pub mod FaultLemmas

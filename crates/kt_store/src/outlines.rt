@@ -1,13 +1,13 @@
 ghost use Rattle.std.specs.Prelude.{◌≡◌, ◌<◌, ◌≤◌, pos, ℕ, length, map, List, ◌++◌, ◌+◌, IfOk, IfErr};
-ghost use Rattle.kt_store.specs.Common.{utf8, AllByRecursion, AreWide, Int, column, IsStoreFault, no_output, outputs_of, IsAscending, IsEntry, IsPair, IsText, kind_code, as_shown, shown_columns, width_of, pair_columns, pairs_shown};
+ghost use Rattle.kt_store.specs.Common.{utf8, AllByRecursion, AreWide, Blob, Int, column, IsStoreFault, no_output, outputs_of, IsAscending, IsEntry, IsPair, IsText, kind_code, as_shown, shown_columns, width_of, pair_columns, pairs_shown};
 ghost use Rattle.kt_base.specs.declared.entry.Entry.{Entry as Stored};
 ghost use Rattle.kt_store.specs.Inner.Heads.{pair_count};
 ghost use Rattle.kt_base.specs.declared.verdict.Kind.{Kind as Sort};
 ghost use Rattle.sqlite_value.specs.declared.value.Value.TheVariants.{Text as Words};
+ghost use Rattle.kt_base.specs.declared.entry.Output.{Output as Pair};
 ghost use Rattle.kt_base.specs.declared.variable.Variable.{Variable as StoredPair};
 
 use crate::heads::add;
-use crate::outputs::output_in;
 use crate::store_fault::statements::value_in;
 use crate::store_fault::trees::DAMAGED;
 use crate::stored_kind::StoredKind;
@@ -81,6 +81,27 @@ pub fn no_output(alloc: Global) -> Output
         out: Bytes::new(alloc),
         err: Bytes::new(alloc),
     }
+}
+
+fn bytes_in(row: &Row, at: usize) -> Result<Bytes, StoreFault>
+    requires { at < length row.now }
+    ensures bytes { IfOk result (λ b. column row.now at ≡ Blob b) }
+    ensures failed { IfErr result IsStoreFault }
+{
+    let items = value_in::<Vec<u8>>(row, at)?;
+    Ok(Bytes::from_vec(items))
+}
+
+/// An output in two columns of a row.
+fn output_in(row: &Row, out: usize, err: usize) -> Result<Output, StoreFault>
+    requires { (out < length row.now) × (err < length row.now) }
+    ensures output { (o : Pair) → column row.now out ≡ Blob o.out → column row.now err ≡ Blob o.err
+        → IfOk result (λ x. x ≡ o) }
+    ensures failed { IfErr result IsStoreFault }
+{
+    let out = bytes_in(row, out)?;
+    let err = bytes_in(row, err)?;
+    Ok(Output { out, err })
 }
 
 /// The outputs behind the other columns of an entry, if they are shown.
