@@ -80,5 +80,6 @@ pub fn execute_all<W: World, R: ResultStore, O: Write>(
 /// written.
 pub fn law_of_sound_stores<W: World, R: ResultStore>()
     ensures { (c : Command) (old new : Scene W R) (exit : ℕ) (runs : List Run)
-        (did : Did W.World R.Keeping c old new exit) → R.stands old.store runs → Left did runs }
+        (did : Did W.World R.Keeping c old new exit) → R.stands old.store runs
+        → R.sound new.store → Left did runs }
 {}
