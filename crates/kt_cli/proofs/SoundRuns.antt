@@ -1,6 +1,6 @@
 -- The effect of a command's calls on the runs of a sound store.
 use Rattle.std.proofs.Common.{Option, Some, None, Ok, Err, Bool, true, false, map, slice_get, ◌≡◌, ℕ, suc, List, [], ◌∷◌, ◌++◌, length, refl, sym, ap, ◌∙◌, subst, ◌⊎◌, inl, inr}
-use Rattle.kt_cli.proofs.Common.{AllByRecursion, Entry, Run, Kind, Job, plan_fits, AreEntries, IsPlan, Trace, IsStoreFault, head_of, outlined, entry_at, AreNumbered, new_run, run_at, with_entry, put_refusal, finish_refusal, StoreCall, Began, Put, Finished, Heads, Outline, Outputs, CaseOutputs, RunHead, StoreFault, Command, number_of, Seen, Means, stopped, listed, tested, debugged, idle, reported, reported_junit, CutShort, no_memory, cut, report_cut, junit_cut, Printed, AllRecorded, JunitOrUnread, chosen, Reported, told, no_run, ReportedJunit, Unread, JunitCut, asked_outputs, with_new, Comes, not_called, begun, finished, shown, ReadsOutputs, Left, put_all, Agrees, changed_by, puts, beside_by, changed, beside, Agree, Stored, PlannedRun, run_for, Tested, TestCut, not_begun, not_run, not_put, not_finished}
+use Rattle.kt_cli.proofs.Common.{AllByRecursion, Entry, Run, Kind, Job, plan_fits, AreEntries, IsPlan, Trace, IsStoreFault, head_of, outlined, entry_at, AreNumbered, new_run, run_at, with_entry, put_refusal, finish_refusal, StoreCall, Began, Put, Finished, Heads, Outline, Outputs, CaseOutputs, RunHead, StoreFault, Command, number_of, Seen, Means, stopped, listed, tested, debugged, idle, reported, reported_junit, CutShort, no_memory, cut, report_cut, junit_cut, Did, Scene, World, AllRecorded, JunitOrUnread, chosen, Reported, told, no_run, ReportedJunit, Unread, JunitCut, asked_outputs, with_new, Comes, not_called, begun, finished, shown, ReadsOutputs, Left, put_all, Agrees, changed_by, puts, beside_by, changed, beside, Agree, PlannedRun, run_for, Tested, TestCut, not_begun, not_run, not_put, not_finished}
 use Rattle.kt_sched.specs.RecordOrder.{recorded as record_order}
 use Rattle.kt_cli.specs.Reports.{told as told_junit, no_run as no_junit, no_heads as unread_heads, no_outline as unread_outline, no_outputs as cut_outputs, no_memory as cut_junit}
 use Rattle.kt_cli.specs.SoundStores.{not_begun as comes_not_begun, not_put as comes_not_put, not_finished as comes_not_finished, no_heads, no_run as comes_no_run, no_outline, told as told_outputs, failed as failed_outputs}
@@ -245,21 +245,20 @@ either_coming seen runs c bytes exit h (inl m) a = means_coming seen runs c byte
 either_coming seen runs c bytes exit h (inr m) a = short_coming seen runs c bytes exit h m a
 
 -- what a command left of a store that stood for runs
-pub left_by : {R : Type 0} (keep : keeping.Ghosts R) (seen : Seen) (c : Command) (store after : R) (was now : Option (List ℕ)) (exit : ℕ) (bytes : List ℕ) (due : ℕ) (runs : List Run) → Stored keep seen.calls store after → Means seen c bytes due ⊎ CutShort seen c bytes due → Printed was now exit bytes due
-    → keep.stands store runs → Left keep runs store after was now exit seen c
-left_by keep seen c store after was now exit bytes due runs s m p h =
-    let k = s.kept in
+pub left_by : {W R : Type 0} (w : World W) (keep : keeping.Ghosts R) (c : Command) (old new : Scene W R) (exit : ℕ) (runs : List Run) (did : Did w keep c old new exit) → keep.stands old.store runs → Left did runs
+left_by w keep c old new exit runs did h =
+    let k = did.stored.kept in
     record {
-      left = changed seen.calls runs;
+      left = changed did.seen.calls runs;
       stands = k.stands runs h;
       earlier = k.earlier runs h;
       done = λ sound.
-          let it = either_coming seen runs c bytes due (keep.numbered store runs h) m (k.agree runs h sound) in
+          let it = either_coming did.seen runs c did.bytes did.due (keep.numbered old.store runs h) did.is (k.agree runs h sound) in
           record {
-            outcome = record { runs = it.left; bytes = bytes; exit = due; beside = it.others };
-            is = record { means = m; comes = it.comes };
+            outcome = record { runs = it.left; bytes = did.bytes; exit = did.due; beside = it.others };
+            is = record { means = did.is; comes = it.comes };
             keeps = it.same;
-            crash = λ may l. subst (λ (ms : List (List Run)). keep.leaves after (changed seen.calls runs ∷ ms)) (it.crash may) (k.crash runs may h l);
-            printed = p;
+            crash = λ may l. subst (λ (ms : List (List Run)). keep.leaves new.store (changed did.seen.calls runs ∷ ms)) (it.crash may) (k.crash runs may h l);
+            printed = did.printed;
           };
     }

@@ -12,9 +12,10 @@ use Rattle.kt_store.specs.declared.store_fault.StoreFault.{StoreFault}
 use Rattle.kt_store.specs.declared.store_fault.StoreFault.TheVariants.{StoreFull}
 use Rattle.kt_words.specs.declared.command.Command.{Command}
 use Rattle.kt_words.specs.Commands.{number_of}
-use Rattle.kt_cli.specs.Meaning.{Seen, Means, CutShort}
+use Rattle.kt_cli.specs.Meaning.{Seen, Means, CutShort, Did}
 use Rattle.kt_cli.specs.Pages.{Printed}
 use Rattle.kt_cli.specs.Reports.{chosen}
+use Rattle.kt_cli.specs.Scenes.{Scene, World}
 use Rattle.kt_cli.specs.Stores.{by_position, puts}
 
 -- the number of the run that is begun next
@@ -66,19 +67,19 @@ pub record IsOutcome (seen : Seen) (runs : List Run) (c : Command) (outcome : Ou
   pub means : Means seen c outcome.bytes outcome.exit ⊎ CutShort seen c outcome.bytes outcome.exit
   pub comes : Comes (number_of c) runs seen.calls outcome.runs outcome.beside
 
-module _ {R : Type 0} (r : keeping.Ghosts R) where
+module _ {W R : Type 0} {w : World W} {r : keeping.Ghosts R} {c : Command} {old new : Scene W R} {exit : ℕ} (did : Did w r c old new exit) (runs : List Run) where
   -- a command was done: the runs are as its outcome has them, and so is what a crash leaves; its bytes were written, and a failed writer
   -- holds a proper prefix of them
-  pub record Done (runs : List Run) (old new : R) (left : List Run) (was now : Option (List ℕ)) (exit : ℕ) (seen : Seen) (c : Command) : Type 0 where
+  pub record Done (left : List Run) : Type 0 where
     pub outcome : Outcome
-    pub is : IsOutcome seen runs c outcome
+    pub is : IsOutcome did.seen runs c outcome
     pub keeps : left ≡ outcome.runs
-    pub crash : (may : List (List Run)) → r.leaves old (runs ∷ may) → r.leaves new (left ∷ outcome.beside may)
-    pub printed : Printed was now exit outcome.bytes outcome.exit
+    pub crash : (may : List (List Run)) → r.leaves old.store (runs ∷ may) → r.leaves new.store (left ∷ outcome.beside may)
+    pub printed : Printed old.held new.held exit outcome.bytes outcome.exit
 
   -- a store that stood for runs is left with others, and while it is sound the command was done
-  pub record Left (runs : List Run) (old new : R) (was now : Option (List ℕ)) (exit : ℕ) (seen : Seen) (c : Command) : Type 0 where
+  pub record Left : Type 0 where
     pub left : List Run
-    pub stands : r.stands new left
-    pub earlier : r.sound new → r.sound old
-    pub done : r.sound new → Done runs old new left was now exit seen c
+    pub stands : r.stands new.store left
+    pub earlier : r.sound new.store → r.sound old.store
+    pub done : r.sound new.store → Done left

@@ -1,8 +1,8 @@
 -- How a store that is only read serves the calls of a store of runs.
-use Rattle.std.proofs.Common.{◌≡◌, ◌⊎◌, Result, Ok, Err, IfOk, IfErr, Some, None, Bool, inl, inr, ℕ, List, [], ◌∷◌, ◌++◌, map, sym, ap, ◌∙◌}
+use Rattle.std.proofs.Common.{◌≡◌, ◌⊎◌, Result, Ok, Err, IfOk, IfErr, Some, None, Bool, inl, ℕ, List, map, sym, ap, ◌∙◌}
 use Rattle.kt_store.specs.declared.store_fault.StoreFault.TheVariants.{NoRun}
 use Rattle.kt_store.specs.Heads.{head_of, outputs_of}
-use Rattle.kt_store.proofs.Common.{entries_of, entry_at, outlined, run_at, seen_as, Ghosts, Entry, Run, IsStoreFault, new_run, with_entry, finish, Serves, Agrees, Began, Put, Finished, Heads, Outline, Outputs, StoreFault}
+use Rattle.kt_store.proofs.Common.{entries_of, entry_at, outlined, run_at, seen_as, Ghosts, Entry, Run, IsStoreFault, Serves, Agrees, Heads, Outline, Outputs, StoreFault}
 use Rattle.sqlite_trees.specs.View.{View, IsClean, KeepsSchema}
 use Rattle.kt_store.specs.declared.result_store.CaseOutputs.{CaseOutputs}
 use Rattle.kt_store.specs.declared.result_store.RunHead.{RunHead}

@@ -1,5 +1,5 @@
 -- A cursor goes over the places of a key, one by one.
-use Rattle.std.proofs.Common.{append-nil, ◌≡◌, ℕ, ℤ, List, [], ◌∷◌, ◌++◌, map, take, filter, true, false, true≢false, refl, sym, ap, subst, ◌∙◌}
+use Rattle.std.proofs.Common.{append-nil, ◌≡◌, ℕ, ℤ, List, [], ◌∷◌, ◌++◌, map, drop, take, filter, Some, None, slice_get, true, false, true≢false, refl, sym, ap, subst, ◌∙◌}
 use Rattle.kt_store.proofs.Common.{AllByRecursion, append_assoc, map-append, Int, Row, column, plain, has_rowid}
 use Rattle.sqlite_sql.specs.Catalog.{entry_of}
 use Rattle.sqlite_trees.specs.Tree.{from_key}
@@ -48,6 +48,23 @@ module _ (columns cs : List ℕ) (key : Row) (mine table index : List Row) (p : 
               now_is = others;
               shown_is = ap (λ l. l ++ in_columns columns row ∷ []) h.shown_is ∙ ap (λ x. map (in_columns columns) h.done ++ in_columns columns x ∷ []) (sym same) ∙ sym (map-append (in_columns columns) h.done (r ∷ []));
             }
+
+    -- the row behind the first place
+    pub first_row : from_key plain key index ≡ place ∷ new → Some (drop 1 row) ≡ slice_get mine 0
+    first_row is = go p.rows p.are p.each (sym is ∙ p.found)
+      where
+        go : (rows : List Row) → map (drop 1) rows ≡ mine → AllByRecursion (IsAt table) rows → place ∷ new ≡ map (entry_of cs) rows ++ p.rest → Some (drop 1 row) ≡ slice_get mine 0
+        go [] are each at = absurd (none_past p.rest place new p.past (sym at) hit)
+        go (r ∷ rows) are each at =
+            let first : place ≡ entry_of cs r = cc in
+            ap (λ (x : Row). Some (drop 1 x)) (sym (the_row r each.0 first)) ∙ ap (λ l. slice_get l 0) are
+
+  pub first_none : (now : List Row) → now ≡ from_key plain key index → AllByRecursion (λ e. begins key e ≡ false) (take 1 now) → None ≡ slice_get mine 0
+  first_none now is none = go p.rows p.are p.hits (is ∙ p.found)
+    where
+      go : (rows : List Row) → map (drop 1) rows ≡ mine → AllByRecursion (λ e. begins key e ≡ true) (map (entry_of cs) rows) → now ≡ map (entry_of cs) rows ++ p.rest → None ≡ slice_get mine 0
+      go [] are hits at = ap (λ l. slice_get l 0) are
+      go (r ∷ rows) are hits at = absurd (true≢false (sym hits.0 ∙ (subst (λ l. AllByRecursion (λ e. begins key e ≡ false) (take 1 l)) at none).0))
 
   pub halfway_end : (now shown : List Row) → Halfway now shown → AllByRecursion (λ e. begins key e ≡ false) (take 1 now) → Shows columns mine shown
   halfway_end now shown h none = go h.left h.split h.hits h.now_is

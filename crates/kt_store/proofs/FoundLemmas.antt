@@ -1,8 +1,10 @@
 -- What was taken of a file has the runs that the file held.
 use Rattle.std.proofs.Common.{◌≡◌, List, Result, Ok, Err, IfOk, inr, sym, subst, ◌∙◌}
+use Rattle.std.proofs.Math.Logic.{∥∥₁_elim}
 use Rattle.sqlite_disk.specs.declared.Disk.{Ghosts}
 use Rattle.sqlite_wal.specs.Recovery.{Image}
 use Rattle.sqlite_trees.specs.Objects.{catalog_tree}
+use Rattle.sqlite_trees.specs.Props.{Trees-set}
 use Rattle.sqlite_catalog.specs.Listing.{Lists}
 use Rattle.sqlite_catalog.proofs.ReadLemmas.{lists_once}
 use Rattle.sqlite_store.specs.declared.store.FileStore.{FileStore}
@@ -24,7 +26,7 @@ module _ {D : Type 0} {g : Ghosts D} (image : Image) where
   held_stands conn over runs (db, found, (held, sound, trees, tables)) clean opened =
       let it = over clean in
       let s = file_state conn in
-      let same : held.trees ≡ s.committed.trees = sym trees ∙ sym (it.1.holds db found) in
+      let same : held.trees ≡ s.committed.trees = sym trees ∙ ∥∥₁_elim found (Trees-set _ _) (λ it_is. sym (it.1.holds db it_is)) in
       let lists : Lists (s.committed.trees catalog_tree) held.schema = subst (λ (t : Trees). Lists (t catalog_tree) held.schema) same sound.lists in
       let schema : held.schema ≡ s.committed.schema = lists_once (s.committed.trees catalog_tree) held.schema s.committed.schema lists (it.0.1 opened).1.lists in
       record {

@@ -6,6 +6,7 @@ pub mod EndLemmas
 pub mod EditLemmas
 pub mod PlaceLemmas
 pub mod AloneFiles
+pub mod ReopenLemmas
 pub mod OverLemmas
 pub mod SqlFacts
 pub mod FaultLemmas
@@ -26,7 +27,6 @@ pub mod RunLemmas
 pub mod EntryLemmas
 pub mod TakesLemmas
 pub mod ThereLemmas
-pub mod CountLemmas
 pub mod CloseLemmas
 pub mod HeadLemmas
 pub mod KeptEntries
@@ -54,5 +54,4 @@ pub mod CommitLemmas
 pub mod AttachLemmas
 pub mod UniqueLemmas
 pub mod ProbeLemmas
-pub mod WholeEntries
 pub mod NewFiles

@@ -27,7 +27,6 @@ use Rattle.sqlite.proofs.OpenLemmas.{meets}
 use Rattle.sqlite_disk.specs.declared.Disk.{Ghosts}
 use Rattle.sqlite_store.specs.declared.store.FileStore.{FileStore}
 use Rattle.sqlite_store.specs.FileStore.{view}
-use Rattle.sqlite_trees.proofs.Doubt.{clean_of}
 use Rattle.sqlite.specs.Files.{over_files}
 use Rattle.kt_store.specs.Inner.Cursors.{Looks}
 use Rattle.kt_store.specs.Inner.Opening.{OpensOver}

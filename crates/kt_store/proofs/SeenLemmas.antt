@@ -1,6 +1,6 @@
 -- What is shown of the rows that a cursor finds.
 use Rattle.std.proofs.Common.{arith, length, ◌≡◌, ℕ, suc, pos, List, [], ◌∷◌, ◌++◌, map, drop, filter, true, false, Some, None, Option, refl, sym, ap, ap₂, subst, ◌∙◌}
-use Rattle.kt_store.proofs.Common.{AreWide, column, length-map, map-append, Ghosts, map-map, flat_map, option_to_list, Row, Entry, Variable, Run, Keeps, entry_row, entry_columns, output_columns, pair_rows, pair_rows_from, pair_columns, pairs_shown, head_columns, run_row, run_at, has_rowid, AreNumbered, Trees}
+use Rattle.kt_store.proofs.Common.{AreWide, column, length-map, map-append, Ghosts, map-map, flat_map, option_to_list, Row, Entry, Variable, Run, Keeps, entry_row, entry_columns, pair_rows, pair_rows_from, pair_columns, pairs_shown, head_columns, run_row, run_at, has_rowid, AreNumbered, Trees}
 use Rattle.sqlite_trees.specs.View.{View, Finds}
 use Rattle.kt_store.proofs.EntryLemmas.{back}
 use Rattle.kt_store.proofs.FindLemmas.{found_run}
@@ -23,9 +23,6 @@ seen columns leaves mine shown h = h.2 ∙ go h.0 ∙ ap (map (λ r. in_columns 
 abbrev pub entry_places : List ℕ
 entry_places = 2 ∷ 3 ∷ 4 ∷ 5 ∷ 6 ∷ 7 ∷ 8 ∷ []
 
-abbrev pub output_places : List ℕ
-output_places = 9 ∷ 10 ∷ 11 ∷ 12 ∷ []
-
 abbrev pub pair_places : List ℕ
 pair_places = 2 ∷ 4 ∷ 5 ∷ []
 
@@ -33,19 +30,12 @@ entries_leave : LeavesRowid entry_places
 entries_leave [] = refl
 entries_leave (x ∷ r) = refl
 
-outputs_leave : LeavesRowid output_places
-outputs_leave [] = refl
-outputs_leave (x ∷ r) = refl
-
 pairs_leave : LeavesRowid pair_places
 pairs_leave [] = refl
 pairs_leave (x ∷ r) = refl
 
 pub seen_entries : (n : ℕ) (es : List Entry) (shown : List Row) → Shows entry_places (map (entry_row n) es) shown → shown ≡ map entry_columns es
 seen_entries n es shown h = seen entry_places entries_leave _ shown h ∙ map-map (λ r. in_columns entry_places (back r)) (entry_row n) es
-
-pub seen_outputs : (n : ℕ) (es : List Entry) (shown : List Row) → Shows output_places (map (entry_row n) es) shown → shown ≡ map output_columns es
-seen_outputs n es shown h = seen output_places outputs_leave _ shown h ∙ map-map (λ r. in_columns output_places (back r)) (entry_row n) es
 
 one_entry : (n p k : ℕ) (vs : List Variable) → map (λ r. in_columns pair_places (back r)) (pair_rows_from n p k vs) ≡ map (pair_columns p) vs
 one_entry n p k [] = refl

@@ -52,4 +52,13 @@ module _ {D : Type 0} {g : disk.Ghosts D} where
     pub quiet : IsQuiet view faults recovers is_shielded store last
     pub files : Files D
     pub own : files_in last ≡ (files.log, files.db)
+    pub was_open : AreClean g files.log files.db → IsTrue (view store).is_open
     pub alone : AreClean g files.log files.db → (image : Image) → outcomes g files.log files.db image → HasAlone (view store).is_numbered (view store).committed image
+
+  -- the two files may have become these after a store whose trees are numbered ended, also by a crash; its last commit had these runs
+  pub record EndsIn (store : FileStore D g) (runs : List Run) (image : Image) : Type 0 where
+    pub ends : Ends store
+    pub honest : AreClean g ends.files.log ends.files.db
+    pub outcome : outcomes g ends.files.log ends.files.db image
+    pub numbered : IsTrue (view store).is_numbered
+    pub has : HasCommitted (view store) runs

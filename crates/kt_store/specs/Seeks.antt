@@ -16,7 +16,7 @@ HasCommitted v runs = IsTrue v.is_open → Keeps runs v.committed
 
 -- a file and its log hold a database with these runs
 abbrev pub HoldsRuns : Image → List Run → Type 0
-HoldsRuns image runs = (db : Trees) × HoldsDatabase image db × Keeps runs db
+HoldsRuns image runs = (db : Trees) × ∥ HoldsDatabase image db ∥₁ × Keeps runs db
 
 module _ {D : Type 0} {g : disk.Ghosts D} where
   -- a store that was opened over a file stands for the runs that the file held, and a crash leaves them

@@ -4,13 +4,15 @@ use Rattle.sqlite_pages.specs.PageMap.{PageMap}
 use Rattle.sqlite_pool.specs.File.{in_use}
 use Rattle.sqlite_pool.specs.Stored.{Recovers}
 use Rattle.sqlite_store.specs.Db.{rows_at}
+use Rattle.sqlite_trees.specs.Tree.{Trees}
 use Rattle.sqlite_trees.specs.declared.store.Shape.TheVariants.{Table}
 use Rattle.sqlite_value.specs.declared.value.Value.TheVariants.{Null, Int, Text}
 use Rattle.sqlite_value.specs.Order.{Row}
 use Rattle.sqlite_wal.specs.Recovery.{Image}
+use Rattle.sqlite.specs.Files.{HoldsDatabase}
 use Rattle.sqlite.specs.Opening.{unrooted}
 use Rattle.kt_base.specs.declared.entry.Run.{Run}
-use Rattle.kt_store.specs.Seeks.{HoldsRuns}
+use Rattle.kt_store.specs.Runs.{Keeps}
 use Rattle.kt_store.specs.Tables.{create_meta, create_runs, create_entries, create_props}
 
 -- a table in the list of objects, less its root page: its rowid, type, name, table and text
@@ -38,4 +40,5 @@ ListsTables image = (size : ℕ) × (pages : PageMap) × Recovers size image pag
 
 -- files that list them hold runs; of any other files nothing is said
 abbrev pub IsOfRuns : Image → Type 0
-IsOfRuns image = (size : ℕ) (pages : PageMap) → Recovers size image pages → ListsObjects size pages → (runs : List Run) × HoldsRuns image runs
+IsOfRuns image = (size : ℕ) (pages : PageMap) → Recovers size image pages → ListsObjects size pages
+    → (runs : List Run) × (db : Trees) × HoldsDatabase image db × Keeps runs db

@@ -1,4 +1,4 @@
-ghost use Rattle.std.specs.Prelude.{◌≡◌, [], ◌∷◌, pos, codes, map, drop, true, false, Some, OnOk, IfErr, IfSome, IsTrue};
+ghost use Rattle.std.specs.Prelude.{◌≡◌, [], ◌∷◌, pos, codes, map, drop, true, false, Some, IfOk, OnOk, IfErr, IfSome, IsTrue};
 ghost use Rattle.kt_store.specs.Common.{Ends, Int, IsStoreFault, Looks, ListsRuns, OpensRuns, image_at};
 ghost use Rattle.kt_store.specs.Supposed.{IsOfRuns, ListsTables, key_object, objects_2, table_object};
 ghost use Rattle.sqlite_trees.specs.Tree.{Trees};
@@ -20,6 +20,7 @@ use crate::attach::{CREATE_ENTRIES, CREATE_META, CREATE_PROPS, CREATE_RUNS};
 use crate::new_file::may_have_frames;
 use crate::runs_file::{RunsFile, over};
 use crate::seeks::PLACES_2;
+use crate::store_fault::statements::open_both;
 use crate::store_fault::trees::all_shown;
 use crate::supposed::Supposed;
 use crate::{Access, StoreFault};
@@ -305,24 +306,28 @@ fn is_tested<R: FileSystem>(rt: &R, file: &Text) -> Option<bool> {
 }
 
 /// The results in a file that lists the tables of schema 2 and says their number. `S` stands for what the file held, which
-/// no code reads. `None` of any other file, and of one that can't be opened or fails the test that it is due.
+/// no code reads. `None` of any other file, and of one that fails the test that it is due.
 pub(crate) fn open_known<S: Supposed>(
     rt: &HostRuntime,
     file: &Text,
     access: Access,
     start: S,
-) -> Option<RunsFile<FileStore<FileFrom<S>>>>
-    ensures opens { IfSome result (OpensRuns (image_at S.Start)) }
-    ensures lists { IfSome result (λ r. IsClean (view r) → ListsTables (image_at S.Start)) }
-    ensures says { IfSome result (λ r. IsTrue (view r).is_open
-        → SaysIn (pos 2) (view r).committed) }
+) -> Result<Option<RunsFile<FileStore<FileFrom<S>>>>, StoreFault>
+    ensures opens { IfOk result (λ found. IfSome found (OpensRuns (image_at S.Start))) }
+    ensures lists { IfOk result (λ found. IfSome found (λ r. IsClean (view r)
+        → ListsTables (image_at S.Start))) }
+    ensures says { IfOk result (λ found. IfSome found (λ r. IsTrue (view r).is_open
+        → SaysIn (pos 2) (view r).committed)) }
+    ensures failed { IfErr result IsStoreFault }
 {
     if !is_path(file.as_str()) {
-        return None;
+        return Ok(None);
     }
-    let is_tested = is_tested(rt, file)?;
-    let files = sqlite_std_file::open(rt, file.as_str(), start).ok()?;
-    known(rt.alloc(), files, options(rt, access.pages()), is_tested)
+    let Some(is_tested) = is_tested(rt, file) else {
+        return Ok(None);
+    };
+    let files = open_both(rt, file, start)?;
+    Ok(known(rt.alloc(), files, options(rt, access.pages()), is_tested))
 }
 
 /// The largest file whose pages and trees are all tested, in bytes.

@@ -157,7 +157,7 @@ impl<S: Contents> RunsFile<FileStore<FileFrom<S>>> {
         ensures opened { IfOk result (Finds (image_at S.Start)) }
         ensures due { IfErr result (λ e. IsStoreFault e ⊎ (e ≡ StoreFault.UnknownSchema)) }
     {
-        if let Some(known) = open_known(rt, file, access, S::unread()) {
+        if let Some(known) = open_known(rt, file, access, S::unread())? {
             return Ok(known);
         }
         let results = Results::open(rt, file, S::unread())?;

@@ -1,5 +1,6 @@
-ghost use Rattle.std.specs.Prelude.{◌≡◌, ◌⊎◌, ◌<◌, ◌≤◌, ◌^◌, List, Some, None, length, map, IfOk, IfErr, OnOk, true};
-ghost use Rattle.kt_store.specs.Common.{HasRuns, IsStoreFault, StandAt, Looks, LooksThrough, Run, AreRuns, last_run, run_row, head_of, Serves, Heads, Outline, Outputs, entries_of, outlined, run_at, seen_as};
+ghost use Rattle.std.specs.Prelude.{◌≡◌, ◌⊎◌, ◌<◌, ◌≤◌, ◌^◌, ℕ, List, Some, None, drop, length, map, IfOk, IfErr, OnOk, true};
+ghost use Rattle.kt_store.specs.Common.{HasRuns, IsStoreFault, StandAt, Looks, LooksThrough, Run, AreRuns, Blob, Entry, column, entry_row, last_run, outputs_of, run_row, head_of, Serves, Heads, Outline, Outputs, entries_of, outlined, run_at, seen_as};
+ghost use Rattle.kt_base.specs.declared.entry.Output.{Output as Pair};
 ghost use Rattle.kt_store.specs.Inner.Known.{readings};
 ghost use Rattle.kt_store.specs.Runs.{IsRun};
 ghost use Rattle.sqlite_trees.specs.View.{IsClean};
@@ -8,13 +9,12 @@ use crate::ends::{NO_RUN, check_ends};
 use crate::heads::{head_in, heads_in};
 use crate::lookup::key;
 use crate::outlines::entries_in;
-use crate::outputs::outputs_in;
 use crate::places::{Place, Places};
 use crate::store_fault::trees::{
-    DAMAGED, Table, add_number, all_shown, number_row, rows_behind, rows_in, shown,
+    DAMAGED, Table, add_number, all_shown, number_row, row_behind, rows_in, shown,
 };
 use crate::{CaseOutputs, RunHead, StoreFault};
-use kt_base::Entry;
+use kt_base::{Bytes, Entry, Output};
 use sqlite_exec::check::all_rows;
 use sqlite_exec::work::Workspace;
 use sqlite_trees::store::{Direction, Shape, Store};
@@ -168,10 +168,10 @@ fn all_entries<S: Store>(
         &[2, 3, 4, 5, 6, 7, 8],
     )?;
     if !pairs {
-        return entries_in(alloc, &rows, &[]);
+        return entries_in(alloc, &rows, &[], false);
     }
     let shown = rows_in(store, alloc, &pairs_at(places), run, &[2, 4, 5])?;
-    entries_in(alloc, &rows, &shown)
+    entries_in(alloc, &rows, &shown, false)
 }
 
 /// Whether a run with this head has so many entries: a finished one as many as its total, another no more.
@@ -207,6 +207,47 @@ pub(crate) fn outline<S: Store>(
     Ok(found)
 }
 
+/// The bytes in a column of a stored row. This is the one copy of an output that is made here.
+fn stored_bytes(alloc: Global, row: &row::Row, at: usize) -> Result<Bytes, StoreFault>
+    ensures bytes { (b : List ℕ) → column row.now at ≡ Blob b → IfOk result (λ x. x ≡ b) }
+    ensures failed { IfErr result IsStoreFault }
+{
+    match row.get(at) {
+        ValueRef::Blob(bytes) => {
+            let copy = Bytes::from_slice(alloc, bytes)?;
+            Ok(copy)
+        }
+        _ => Err(DAMAGED),
+    }
+}
+
+/// What was printed, in two columns of a stored row.
+fn stored_output(
+    alloc: Global,
+    row: &row::Row,
+    out: usize,
+    err: usize,
+) -> Result<Output, StoreFault>
+    ensures output { (o : Pair) → column row.now out ≡ Blob o.out → column row.now err ≡ Blob o.err
+        → IfOk result (λ x. x ≡ o) }
+    ensures failed { IfErr result IsStoreFault }
+{
+    let out = stored_bytes(alloc, row, out)?;
+    let err = stored_bytes(alloc, row, err)?;
+    Ok(Output { out, err })
+}
+
+/// The outputs in the row of an entry.
+fn stored_outputs(alloc: Global, row: &row::Row) -> Result<CaseOutputs, StoreFault>
+    ensures outputs { (n : ℕ) (e : Entry) → drop 1 row.now ≡ entry_row n e
+        → IfOk result (λ o. o ≡ outputs_of e) }
+    ensures failed { IfErr result IsStoreFault }
+{
+    let body = stored_output(alloc, row, 9, 10)?;
+    let cleanup = stored_output(alloc, row, 11, 12)?;
+    Ok(CaseOutputs { body, cleanup })
+}
+
 /// The outputs of a run's entry at a position.
 pub(crate) fn find_outputs<S: Store>(
     store: &mut S,
@@ -222,9 +263,8 @@ pub(crate) fn find_outputs<S: Store>(
     let number = key(run);
     let mut place = number_row(alloc, number)?;
     add_number(&mut place, u64::from(position))?;
-    let rows = rows_behind(store, alloc, &entries_at(places), &place, &[9, 10, 11, 12])?;
-    match rows.first() {
-        Some(row) if number == run => outputs_in(row),
+    match row_behind(store, alloc, &entries_at(places), &place)? {
+        Some(row) if number == run => stored_outputs(alloc, &row),
         _ => Err(StoreFault::NoRun),
     }
 }

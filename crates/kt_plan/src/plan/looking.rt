@@ -123,6 +123,9 @@ fn look_for_all<W: World>(
 
 /// Asks the host for what some cases may require: whether the runner is root, memory and disk
 /// space, and the required files and programs of each case whose list has no fault.
+///
+/// Root, memory and disk are asked for even if no case requires them. A word of several cases is
+/// asked for by each; if the answers differ, it counts as found.
 pub fn survey<W: World>(alloc: Global, cases: &[Candidate], world: &mut W) -> Result<Host, NoMemory>
     requires { IsIdle (W.running world.old) (W.pending world.old) }
     ensures surveyed { Answered W.tells world.old world.new (λ told. MatchResult result

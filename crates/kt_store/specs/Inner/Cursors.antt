@@ -1,6 +1,7 @@
 -- What cursors over the trees of a store find of its runs.
-use Rattle.std.specs.Prelude.{◌≡◌, ℕ, ℤ, false, true, Bool, List, [], ◌∷◌, ◌++◌, map, drop, take, filter, length, IsTrue}
+use Rattle.std.specs.Prelude.{◌≡◌, ℕ, ℤ, false, true, Bool, List, [], ◌∷◌, ◌++◌, Option, map, drop, take, filter, length, slice_get, IsTrue}
 use Rattle.std.specs.List.{AllByRecursion}
+use Rattle.std.specs.Option.{option_map}
 use Rattle.std.specs.Ordering.{is_eq}
 use Rattle.sqlite.specs.declared.types.Value.TheVariants.{Int}
 use Rattle.sqlite.specs.Order.{Row}
@@ -43,6 +44,11 @@ Shows columns mine shown = (rows : List Row) × (map (drop 1) rows ≡ mine) × 
 abbrev pub ShowsUnder : ℕ → ℕ → Row → List ℕ → Trees → List Row → Type 0
 ShowsUnder table index key columns trees shown = (cs : List ℕ) (mine : List Row)
     → (IsShaped Table (trees table) → IsIndex plain (trees index) → Places cs key mine (trees table) (trees index)) → Shows columns mine shown
+
+-- this is the first row of a table whose place an index has from a key on, if it has such places, and none is there if it has none
+abbrev pub FindsUnder : ℕ → ℕ → Row → Trees → Option Row → Type 0
+FindsUnder table index key trees found = (cs : List ℕ) (mine : List Row)
+    → (IsShaped Table (trees table) → IsIndex plain (trees index) → Places cs key mine (trees table) (trees index)) → option_map (drop 1) found ≡ slice_get mine 0
 
 -- a cursor over places of a table, with these left, gave the next one, which begins with the key, and its row, or it has none that does
 abbrev pub Goes : Row → List Row → List Row → Row → Row → List Row → Bool → Type 0

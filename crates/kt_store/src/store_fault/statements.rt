@@ -1,5 +1,6 @@
-ghost use Rattle.std.specs.Prelude.{◌≡◌, ◌<◌, Ok, IfOk, OnOk, OnErr, IfErr, nat_lt, length, []};
-ghost use Rattle.kt_store.specs.Common.{bound, IsPlain, understood, HasCleanDisk, Survives, IsUnchanged, state, column, Tells, CommitsNothing, KeepsRuns, OnlyReads, Asked, AreWide, HasColumns, MayShow, MayTell, ShowsOf, Told, Commits, CommitsLater, MayCommit, RunsOne, Undoes, Rests, IsNoMemory, IsStoreFault, image_at, IsOver, IsUnderstood, StandsFor, schema_2};
+ghost use Rattle.std.specs.Prelude.{◌≡◌, ◌<◌, Ok, IfOk, OnOk, OnErr, IfErr, IsTrue, true, false, nat_lt, length, []};
+ghost use Rattle.kt_store.specs.Common.{bound, IsPlain, understood, HasCleanDisk, Survives, IsUnchanged, state, column, Tells, CommitsNothing, Looked, Asked, AreWide, HasColumns, MayShow, MayTell, ShowsOf, Told, Commits, CommitsLater, MayCommit, RunsOne, Undoes, Rests, IsNoMemory, IsStoreFault, image_at, IsOver, IsUnderstood, StandsFor, schema_2};
+ghost use Rattle.sqlite_std_file.specs.File.{file_is_usable, IsFresh};
 
 use crate::batch::Batch;
 use crate::opening::{is_path, options};
@@ -10,6 +11,7 @@ use sqlite::types::FromSql;
 use sqlite::{
     Alter, Connection, Error as SqlError, ErrorCode, FileFrom, FileStore, Row, Start, Transaction,
 };
+use sqlite_disk::Files;
 use sqlite_std_file::OpenError;
 use sqlite_value::value::ValueRef;
 use std::io::ErrorKind;
@@ -36,7 +38,6 @@ fn fault_of(error: SqlError) -> StoreFault
 pub(crate) fn value_in<T: FromSql>(row: &Row, at: usize) -> Result<T, StoreFault>
     requires { at < length row.now }
     ensures value { IfOk result (T.FromSql.reads_as (column row.now at)) }
-    ensures read { T.FromSql.is_readable (column row.now at) → IfErr result IsNoMemory }
     ensures failed { IfErr result IsStoreFault }
 {
     match row.get::<T>(at) {
@@ -119,9 +120,8 @@ pub(crate) fn query<S: Alter>(
         → IfOk result (λ rows. ShowsOf S.Store runs sql.now (bound params.now)
         conn.new rows.items) }
     ensures wide { IfOk result (λ rows. AreWide width rows.items) }
-    ensures stands { KeepsRuns S.Store conn.old conn.new }
+    ensures looked { Looked S.Store conn.old conn.new }
     ensures failed { IfErr result IsStoreFault }
-    ensures crash { OnlyReads S.Store conn.old conn.new }
 {
     let rows = ask(conn, sql, params)?;
     have_columns(&rows, width)?;
@@ -226,6 +226,23 @@ fn done<T, L: Drop>(returned: Result<T, (SqlError, L)>) -> Result<T, StoreFault>
     }
 }
 
+/// Opens a file and its log, which are made where there is none.
+pub(crate) fn open_both<S: Start>(
+    rt: &HostRuntime,
+    file: &Text,
+    start: S,
+) -> Result<Files<FileFrom<S>>, StoreFault>
+    ensures log { IfOk result (λ files. IsTrue (file_is_usable S.Start files.log)) }
+    ensures db { IfOk result (λ files. IsTrue (file_is_usable S.Start files.db)) }
+    ensures fresh { IfOk result (λ files. IsFresh true files.log × IsFresh false files.db) }
+    ensures failed { IfErr result IsStoreFault }
+{
+    match sqlite_std_file::open(rt, file.as_str(), start) {
+        Ok(files) => Ok(files),
+        Err(error) => Err(unopened(&error)),
+    }
+}
+
 /// Opens the database in a file, which is made where there is none.
 pub(crate) fn open_file<S: Start>(
     rt: &HostRuntime,
@@ -238,10 +255,7 @@ pub(crate) fn open_file<S: Start>(
     if !is_path(file.as_str()) {
         return Err(NOT_OPENED);
     }
-    let files = match sqlite_std_file::open(rt, file.as_str(), start) {
-        Ok(files) => files,
-        Err(error) => return Err(unopened(&error)),
-    };
+    let files = open_both(rt, file, start)?;
     let Some(options) = options(rt, Access::Record.pages()) else {
         return Err(NOT_OPENED);
     };

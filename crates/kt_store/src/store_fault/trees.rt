@@ -1,5 +1,5 @@
 ghost use Rattle.std.specs.Prelude.{◌≡◌, ◌++◌, ◌<◌, ◌^◌, ℤ, pos, List, [], ◌∷◌, map, length, false, Some, IsSome, IsTrue, IfOk, IfErr, OnOk};
-ghost use Rattle.kt_store.specs.Common.{AllByRecursion, filter, column, Int, AreWide, IsStoreFault, Goes, Looks, LooksThrough, ShowsUnder, CountsUnder, in_columns};
+ghost use Rattle.kt_store.specs.Common.{AllByRecursion, filter, column, Int, AreWide, IsStoreFault, FindsUnder, Goes, Looks, LooksThrough, ShowsUnder, CountsUnder, in_columns};
 ghost use Rattle.sqlite_exec.specs.Calls.{OnlyReads};
 ghost use Rattle.sqlite_exec.specs.Loops.{left_of};
 ghost use Rattle.sqlite_trees.specs.View.{IsClean};
@@ -46,6 +46,13 @@ impl Found {
             place: row::Row::new(alloc),
             row: row::Row::new(alloc),
         }
+    }
+
+    fn into_row(self) -> row::Row
+        ensures { result ≡ self.row }
+    {
+        let Found { place: _, row } = self;
+        row
     }
 }
 
@@ -191,6 +198,32 @@ pub(crate) fn next_row<S: Store>(
         return Err(DAMAGED);
     }
     Ok(place.cmp_prefix(Order::PLAIN, key) == Ordering::Equal)
+}
+
+/// The first row of a table that the index of its key has under a key, if it has one. No other row is read.
+pub(crate) fn row_behind<S: Store>(
+    store: &mut S,
+    alloc: Global,
+    table: &Table,
+    key: &row::Row,
+) -> Result<Option<row::Row>, StoreFault>
+    ensures found { IfOk result (λ found. IsClean (S.Store.view store.new)
+        → FindsUnder table.now.tree table.now.index key.now
+        (S.Store.view store.old).trees found) }
+    ensures sound { OnOk result (IsClean (S.Store.view store.new)
+        → (S.Store.view store.old).is_broken ≡ false) }
+    ensures failed { IfErr result IsStoreFault }
+    ensures looks { Looks S.Store store.old store.new }
+{
+    if !are_shaped(store, table) {
+        return Err(DAMAGED);
+    }
+    store.seek(0, table.index, key, Direction::Forward)?;
+    let mut found = Found::new(alloc);
+    if !next_row(store, alloc, table, key, &mut found)? {
+        return Ok(None);
+    }
+    Ok(Some(found.into_row()))
 }
 
 /// These columns of the rows of a table that the index of its key has under a key, in its order. One row is held at a

@@ -23,6 +23,10 @@ returns-in-Ok-clause-closed g c =
       quiet = quiet_then c.rollback.ensures.quiet q;
       files = c.close-files.result;
       own = sym c.close-files.ensures;
+      was_open = λ honest.
+          let none : IsClean (view last) = no_doubt _ (clean_is last.pool ∙ subst (λ p. AreClean g.D.Disk p.0 p.1) c.close-files.ensures honest) in
+          let clean : IsClean (view before) = omega (arith, q.clean) in
+          (first.kept clean).was_open (open_from (state before) c.in-Ok.ensures.ready (sure (view before).is_clean clean));
       alone = λ honest image may.
           let sure_now = subst (λ p. AreClean g.D.Disk p.0 p.1) c.close-files.ensures honest in
           let none : IsClean (view last) = no_doubt _ (clean_is last.pool ∙ sure_now) in

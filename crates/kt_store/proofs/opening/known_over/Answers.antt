@@ -1,4 +1,5 @@
 use Rattle.std.proofs.Common.{◌≡◌, ◌≢◌, ◌%◌, IsTrue, refl, sym, ap, ap₂, subst, subst₂, ◌∙◌, arith}
+use Rattle.std.proofs.Math.Logic.{∥∥₁_elim}
 use Rattle.std.proofs.lemmas.Bool.{cond-true}
 use Rattle.kt_store.proofs.Common.{Keeps, schema_2}
 use Rattle.kt_store.proofs.EditLemmas.{sound_in}
@@ -9,6 +10,7 @@ use Rattle.sqlite_wal.specs.Reads.{are_clean}
 use Rattle.sqlite_pool.specs.Stored.{Recovers}
 use Rattle.sqlite_pool.specs.StoredLaws.{recovers_once}
 use Rattle.sqlite_trees.specs.Tree.{no_trees}
+use Rattle.sqlite_trees.specs.Props.{Trees-set}
 use Rattle.sqlite_trees.proofs.Doubt.{clean_of, no_doubt}
 use Rattle.sqlite_store.specs.Db.{IsFile}
 use Rattle.sqlite_store.specs.Unopened.{state_of, wanted_by, image}
@@ -50,8 +52,9 @@ returns-clause-opens g c clean =
     ∙ ap₂ (λ n s. file_trees n s (state store).committed) ((kept now).size ∙ listed.size) listing in
     let opened = ready.is_open (no_doubt _ now) in
     let holds = λ (runs : _) (h : HoldsRuns start runs).
-    let held = without_sums size (image fresh) h.0 plain (subst₂ (λ n i. HoldsIn n i h.0) (c.in_ok-size.ensures.size clean h.0 h.1 ∙ sym made.size) (sym seen) h.1.2) in
-    let trees : (view store).trees ≡ h.0 = reads ∙ ap (λ p. file_trees size (wanted_by mid) p) (sym same) ∙ sym (listed.fits runs h.0 held h.2).1 in
+    let trees : (view store).trees ≡ h.0 = ∥∥₁_elim h.1 (Trees-set _ _) (λ found.
+    let held = without_sums size (image fresh) h.0 plain (subst₂ (λ n i. HoldsIn n i h.0) (c.in_ok-size.ensures.size clean h.0 found ∙ sym made.size) (sym seen) found.2) in
+    reads ∙ ap (λ p. file_trees size (wanted_by mid) p) (sym same) ∙ sym (listed.fits runs h.0 held h.2).1) in
     subst (Keeps runs) (sym trees) h.2 in
     record {
       holds = λ runs h sound. holds runs h;
@@ -72,9 +75,9 @@ sound_over-requires-clause-sound g c now =
     let size = (state_of fresh).page_size in
     let plain : size % 16 ≢ 8 = λ summed. omega (arith, summed, made.size, c.in_ok-size.size.aligned) in
     let all = c.requires.held size listed.pages (subst (λ i. Recovers size i listed.pages) seen listed.found) listed.lists in
-    let h = all.1 in
-    let held = without_sums size (image fresh) h.0 plain (subst₂ (λ n i. HoldsIn n i h.0) (c.in_ok-size.ensures.size clean h.0 h.1 ∙ sym made.size) (sym seen) h.1.2) in
-    let ours = (listed.fits all.0 h.0 held h.2).0 in
+    let (runs, db, found, keeps) = all in
+    let held = without_sums size (image fresh) db plain (subst₂ (λ n i. HoldsIn n i db) (c.in_ok-size.ensures.size clean db found ∙ sym made.size) (sym seen) found.2) in
+    let ours = (listed.fits runs db held keeps).0 in
     (listed.pages, subst (λ n. Recovers n (image mid) listed.pages) (sym listed.size) listed.again, subst (λ n. IsFile n (wanted_by mid) listed.pages) (sym listed.size) ours.file)
 
 -- so it obeys the schema
@@ -93,7 +96,7 @@ returns-clause-sound g c opens =
     let listed = lists (it.honest now) in
     let seen : image fresh ≡ start = ap (λ f. seen_image g.D.Disk f.0 f.1) made.files ∙ same_image c.plain_size.ensures.log c.plain_size.ensures.db in
     let all = c.requires.held (state_of fresh).page_size listed.pages (subst (λ i. Recovers (state_of fresh).page_size i listed.pages) seen listed.found) listed.lists in
-    subst (IsSound schema_2) ready.clean (sound_in all.0 (view store).trees ((returns-clause-opens g c loose).holds all.0 all.1 (ready.sound loose)))
+    subst (IsSound schema_2) ready.clean (sound_in all.0 (view store).trees ((returns-clause-opens g c loose).holds all.0 (all.1, ∣ all.2 ∣₁, all.3) (ready.sound loose)))
 
 pub returns-clause-settled : goal.returns-clause-settled
 returns-clause-settled g c =
