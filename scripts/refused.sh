@@ -189,8 +189,9 @@ for name in dict.fromkeys(it["crate"] for it in bodies):
         if is_refused:
             body["why"] = f"refused: {body['why'][:160]}"
         elif not body["why"]:
-            body["why"] = try_alone(crate, body, kept)
-            is_refused = "refused, as it must be" in body["why"]
+            why = try_alone(crate, body, kept)
+            body["why"] = why.replace("refused, as it must be", "refused")
+            is_refused = body["why"] != why
         passed, failed = passed + is_refused, failed + (not is_refused)
         print(f"{body['name']}: {body['why']}", flush=True)
     shutil.rmtree(kept)
