@@ -118,10 +118,13 @@ def try_together(crate, group, kept):
         for body in group:
             body["why"] = refusal(said, body["functions"])
     elif ran.returncode and len(group) > 1:
-        # One of them can't be compiled.
+        # Some of them can't be compiled.
+        places = {it.groups() for it in map(re.compile(r"(?:\./)?(\S+?):(\d+):\d+: error").match, said) if it}
+        good = [it for it in group if not any((file, str(at + 1)) in places for file, at, _ in it["changes"])]
         half = len(group) // 2
-        try_together(crate, group[:half], kept)
-        try_together(crate, group[half:], kept)
+        for part in [good] if len(good) < len(group) else [group[:half], group[half:]]:
+            if part:
+                try_together(crate, part, kept)
 
 
 def try_alone(crate, body, kept):
