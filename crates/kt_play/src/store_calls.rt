@@ -1,10 +1,11 @@
 //! Calls on a store of runs, and what they answer.
 
+use crate::RunCalls;
 use kt_answers::{
     Answer, Line, Result, RowFault, count, number, number_in, push_entries, retried, storable_entry,
 };
 use kt_base::LATEST_MOMENT;
-use kt_store::{ResultStore, RunHead, StoreFault, entries};
+use kt_store::{RunHead, StoreFault};
 
 /// Appends whether a call was done.
 fn push_done(out: &mut Answer, done: Result<(), StoreFault>) {
@@ -15,7 +16,7 @@ fn push_done(out: &mut Answer, done: Result<(), StoreFault>) {
 }
 
 /// Begins as many runs as `times N` says, and appends the number of the last one: `TOTAL MOMENT`.
-fn begin<R: ResultStore>(out: &mut Answer, results: &mut R, text: &str, times: u64) -> Result<()> {
+fn begin<R: RunCalls>(out: &mut Answer, results: &mut R, text: &str, times: u64) -> Result<()> {
     let (total, moment) = text.split_once(' ').unwrap_or((text, "0"));
     let total = count(total)?;
     let moment = number(moment)?.min(LATEST_MOMENT);
@@ -33,7 +34,7 @@ fn begin<R: ResultStore>(out: &mut Answer, results: &mut R, text: &str, times: u
 }
 
 /// Puts an entry, or as many as `times N` says from its position on: `RUN POSITION VERDICT`.
-fn put<R: ResultStore>(
+fn put<R: RunCalls>(
     out: &mut Answer,
     results: &mut R,
     text: &str,
@@ -66,8 +67,8 @@ pub fn state_text(head: &RunHead) -> &'static str {
 }
 
 /// Appends a run with the number of its entries: `run 1 at 500: 2 of 3, unfinished`.
-fn push_run<R: ResultStore>(out: &mut Answer, results: &mut R, head: &RunHead) {
-    match results.outline(head.number, true) {
+fn push_run<R: RunCalls>(out: &mut Answer, results: &mut R, head: &RunHead) {
+    match results.entries(head.number) {
         Ok(entries) => {
             let (count, state) = (entries.len(), state_text(head));
             write!(out, "run {} at {}: ", head.number, head.started);
@@ -78,7 +79,7 @@ fn push_run<R: ResultStore>(out: &mut Answer, results: &mut R, head: &RunHead) {
 }
 
 /// Appends the runs of a store, a line each, or how many there are.
-pub fn push_runs<R: ResultStore>(out: &mut Answer, results: &mut R, is_brief: bool) {
+pub fn push_runs<R: RunCalls>(out: &mut Answer, results: &mut R, is_brief: bool) {
     let heads = match results.runs() {
         Ok(heads) => heads,
         Err(fault) => return out.name(&fault),
@@ -95,8 +96,8 @@ pub fn push_runs<R: ResultStore>(out: &mut Answer, results: &mut R, is_brief: bo
 }
 
 /// Appends what a word shows of the entries of a run, or how many they are.
-fn push_run_entries<R: ResultStore>(out: &mut Answer, results: &mut R, word: &str, run: u64) {
-    match entries(out.alloc, results, run) {
+fn push_run_entries<R: RunCalls>(out: &mut Answer, results: &mut R, word: &str, run: u64) {
+    match results.entries(run) {
         Ok(found) if word == "count" => write!(out, "{} entries", found.len()),
         Ok(found) => push_entries(out, word, found.as_slice()),
         Err(fault) => out.name(&fault),
@@ -104,7 +105,7 @@ fn push_run_entries<R: ResultStore>(out: &mut Answer, results: &mut R, word: &st
 }
 
 /// Appends what a call on a store of runs answers, whose line has others below it.
-pub fn push_call<R: ResultStore>(
+pub fn push_call<R: RunCalls>(
     out: &mut Answer,
     results: &mut R,
     line: &Line<'_>,

@@ -9,7 +9,7 @@ use kt_answers::{Answer, Line, Result, Row, RowFault, content_at, halves, lossy_
 use kt_base::Text;
 use kt_child::DriverFault;
 use kt_cli::source_of;
-use kt_play::{Scene, failure, push_call, push_calls, push_runs, scene_of, shortage};
+use kt_play::{InParts, Scene, failure, push_call, push_calls, push_runs, scene_of, shortage};
 use kt_store::StoreFault;
 use std::alloc::Global;
 
@@ -42,7 +42,11 @@ fn results_of(alloc: Global, row: &Row<'_>) -> Result<RefusingStore> {
     let lines = row.entries.as_slice();
     for (place, line) in lines.iter().enumerate() {
         if matches!(line.word, "begin" | "put" | "finish") {
-            push_call(&mut unread, &mut results, line, content_at(lines, place))?;
+            let mut calls = InParts {
+                store: &mut results,
+                alloc,
+            };
+            push_call(&mut unread, &mut calls, line, content_at(lines, place))?;
         }
     }
     unread.so_far()?;
@@ -88,7 +92,10 @@ fn played_by(row: &Row<'_>, scene: &Scene, failing: u64) -> Result<Played<Refusi
 /// Appends the runs that were closed.
 fn push_closed(out: &mut Answer, played: &mut Played<RefusingStore>) {
     match &mut played.platform.results {
-        Some(results) => push_runs(out, results, false),
+        Some(store) => {
+            let alloc = out.alloc;
+            push_runs(out, &mut InParts { store, alloc }, false);
+        }
         None => out.push("open"),
     }
 }

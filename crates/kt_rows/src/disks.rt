@@ -3,7 +3,7 @@
 use kt_answers::{Answer, Result, RowFault, asked, both, due, push_entries, push_made};
 use kt_base::Entry;
 use kt_play::state_text;
-use kt_store::{ResultStore, Results, RunHead, entries};
+use kt_store::{Results, RunHead};
 use sqlite::{Alter, Connection, Options};
 use sqlite_disk::{Crash, Disk, Files, Fuse, Memory};
 use std::alloc::Global;
@@ -103,13 +103,13 @@ fn whole_text(alloc: Global, entry: &[Entry]) -> Result<String> {
 }
 
 /// Appends all that is shown of a run: its head, its entries, and whether it is finished.
-fn push_told<R: ResultStore>(
+fn push_told<S: Alter>(
     alloc: Global,
     told: &mut Vec<String>,
-    results: &mut R,
+    results: &mut Results<S>,
     head: &RunHead,
 ) -> Result<()> {
-    let Ok(found) = entries(alloc, results, head.number) else {
+    let Ok(found) = results.entries(head.number) else {
         return Err(RowFault::Misspelled("its entries can not be told"));
     };
     let text = format!(in alloc;
@@ -124,7 +124,7 @@ fn push_told<R: ResultStore>(
 }
 
 /// All that a store holds: of each run its head, its entries, and whether it is finished.
-fn told<R: ResultStore>(alloc: Global, results: &mut R) -> Result<Vec<String>> {
+fn told<S: Alter>(alloc: Global, results: &mut Results<S>) -> Result<Vec<String>> {
     let Ok(heads) = results.runs() else {
         return Err(RowFault::Misspelled("its runs can not be told"));
     };

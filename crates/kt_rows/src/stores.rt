@@ -2,7 +2,7 @@ use crate::played::Played;
 use crate::refusing_store::RefusingStore;
 use crate::scripted_platform::ScriptedPlatform;
 use kt_answers::{Answer, Line, Result, Row, RowFault, asked, content_at, is_content};
-use kt_play::{Scene, push_call};
+use kt_play::{InParts, Scene, push_call};
 use kt_store::{ResultStore, Results, RunsFile};
 use sqlite::{Alter, Connection};
 use std::alloc::Global;
@@ -24,13 +24,10 @@ fn detached<S: Alter + Drop>(store: Store<S>) -> Result<Connection<S>> {
     }
 }
 
-/// The results that were taken, or the same by their trees.
-fn taken<S: Alter + Drop>(results: Results<S>, by_trees: bool) -> Result<Store<S>> {
-    if !by_trees {
-        return Ok(Store::Attached(results));
-    }
+/// The same results by their trees.
+fn by_trees<S: Alter + Drop>(results: Results<S>) -> Result<RunsFile<S>> {
     match RunsFile::of(results) {
-        Ok(file) => Ok(Store::ByTrees(file)),
+        Ok(file) => Ok(file),
         Err(_) => Err(RowFault::Misspelled("its trees can't be read")),
     }
 }
@@ -39,7 +36,7 @@ fn taken<S: Alter + Drop>(results: Results<S>, by_trees: bool) -> Result<Store<S
 fn attach<S: Alter + Drop>(
     out: &mut Answer,
     connection: Connection<S>,
-    by_trees: bool,
+    is_by_trees: bool,
 ) -> Result<Store<S>> {
     if !connection.is_autocommit() {
         return Err(RowFault::Misspelled("a transaction is open"));
@@ -47,7 +44,10 @@ fn attach<S: Alter + Drop>(
     match Results::attach(out.alloc, connection) {
         Ok(results) => {
             out.push("attached");
-            taken(results, by_trees)
+            if is_by_trees {
+                return Ok(Store::ByTrees(by_trees(results)?));
+            }
+            Ok(Store::Attached(results))
         }
         Err((fault, connection)) => {
             out.name(&fault);
@@ -64,7 +64,8 @@ fn ask<R: ResultStore + Drop>(
     content: &[Line<'_>],
 ) -> Result<R> {
     if line.word != "do" {
-        push_call(out, &mut results, line, content)?;
+        let (store, alloc) = (&mut results, out.alloc);
+        push_call(out, &mut InParts { store, alloc }, line, content)?;
         return Ok(results);
     }
     let mut played = Played::new(out.alloc, ScriptedPlatform::new(out.alloc, results));
@@ -73,17 +74,32 @@ fn ask<R: ResultStore + Drop>(
     played.into_results()
 }
 
+/// The same of results that are asked by SQL. From a command line on they are asked by their trees.
+fn ask_by_sql<S: Alter + Drop>(
+    out: &mut Answer,
+    mut results: Results<S>,
+    line: &Line<'_>,
+    content: &[Line<'_>],
+) -> Result<Store<S>> {
+    if line.word == "do" {
+        let file = by_trees(results)?;
+        return Ok(Store::ByTrees(ask(out, file, line, content)?));
+    }
+    push_call(out, &mut results, line, content)?;
+    Ok(Store::Attached(results))
+}
+
 /// Does a line of a row over a store, and appends the answer.
 fn step<S: Alter + Drop>(
     out: &mut Answer,
     store: Store<S>,
-    by_trees: bool,
+    is_by_trees: bool,
     line: &Line<'_>,
     content: &[Line<'_>],
 ) -> Result<Store<S>> {
     out.separate("\n");
     match line.word {
-        "attach" => attach(out, detached(store)?, by_trees),
+        "attach" => attach(out, detached(store)?, is_by_trees),
         "sql" => {
             let mut connection = detached(store)?;
             if connection.execute(line.text, &[]).is_err() {
@@ -94,19 +110,19 @@ fn step<S: Alter + Drop>(
         }
         _ => match store {
             Store::Open(_) => Err(RowFault::Misspelled("no tables were taken")),
-            Store::Attached(results) => Ok(Store::Attached(ask(out, results, line, content)?)),
+            Store::Attached(results) => ask_by_sql(out, results, line, content),
             Store::ByTrees(file) => Ok(Store::ByTrees(ask(out, file, line, content)?)),
         },
     }
 }
 
 /// The answers to the lines of a row over a database in memory, by SQL or by its trees.
-fn over(alloc: Global, lines: &[Line<'_>], by_trees: bool) -> Result<String> {
+fn over(alloc: Global, lines: &[Line<'_>], is_by_trees: bool) -> Result<String> {
     let mut out = Answer::new(alloc);
     let mut store = Store::Open(Connection::open_in_memory(alloc)?);
     for (place, line) in lines.iter().enumerate() {
         if !is_content(line) {
-            store = step(&mut out, store, by_trees, line, content_at(lines, place))?;
+            store = step(&mut out, store, is_by_trees, line, content_at(lines, place))?;
         }
     }
     asked(out.end())

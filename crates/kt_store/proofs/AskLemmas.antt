@@ -1,6 +1,6 @@
 -- What a query leaves of a connection that stands for runs, whatever its text.
-use Rattle.std.proofs.Common.{ℕ, List, IsTrue, sym, ap, subst}
-use Rattle.kt_store.proofs.Common.{Row, Trees, Ghosts, Held, state, understood, Database, State, HasCleanDisk, Survives, IsUnchanged, Shown, ShowsRows, never_commits, unchanged_then, survives_weaker, Run, schema_2, IsStore, StandsFor, Asked, MayShow}
+use Rattle.std.proofs.Common.{ℕ, List, IsTrue, sym, ap, subst, arith}
+use Rattle.kt_store.proofs.Common.{Row, Trees, Ghosts, Held, state, understood, Database, State, HasCleanDisk, Survives, IsUnchanged, Shown, ShowsRows, never_commits, unchanged_then, survives_then, survives_weaker, Run, schema_2, IsStore, Looked, StandsFor, Asked, MayShow}
 use Rattle.sqlite.specs.Given.{IsPlain}
 use Rattle.sqlite.specs.Clock.{timed}
 use Rattle.kt_store.proofs.StepLemmas.{same_store}
@@ -41,3 +41,14 @@ module _ {S : Type 0} (g : Ghosts S) (old new : Held S) (runs : List Run) (has :
 
   pub asked_survives : Survives (state g old) (state g new) (MayShow g sql params old) → Survives (state g old) (state g new) (λ _. ⊥)
   asked_survives h = asked_leaves g old new survives sql stored_plain params h
+
+-- calls that read, one after the other
+pub looked-then : {S : Type 0} {g : Ghosts S} {old mid new : Held S} → Looked g old mid → Looked g mid new → Looked g old new
+looked-then {S} {g} {old} {mid} {new} a b = record {
+  stands = λ runs has. b.stands runs (a.stands runs has);
+  crash = λ runs has. survives_then (state g old) (state g mid) (state g new) (λ _. ⊥) (λ _. ⊥) (λ _. ⊥) (λ _ db none. none) (λ _ db none. none) (a.crash runs has) (b.crash runs (a.stands runs has));
+}
+
+-- a disk that is clean after a call that reads was so before it
+pub was_clean : {S : Type 0} {g : Ghosts S} {old new : Held S} → Looked g old new → (runs : List Run) → StandsFor (state g old) runs → HasCleanDisk (state g new) → HasCleanDisk (state g old)
+was_clean looked runs has clean = omega (arith, clean, (looked.crash runs has).clean)

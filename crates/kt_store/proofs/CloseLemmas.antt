@@ -1,9 +1,8 @@
 -- A run is finished.
-use Rattle.std.proofs.Common.{◌≡◌, ◌==◌, nat_lt, min, ℕ, zero, suc, ◌+◌, ◌<◌, ◌≤◌, pos, List, [], ◌∷◌, ◌++◌, length, map, drop, Bool, true, false, cond, Some, None, Option, Ok, slice_get, refl, sym, ap, subst, ◌∙◌, arith, IsPermutation, IsTrue}
+use Rattle.std.proofs.Common.{◌≡◌, ◌==◌, nat_lt, ℕ, zero, suc, ◌+◌, ◌<◌, ◌≤◌, pos, List, [], ◌∷◌, ◌++◌, length, map, drop, Bool, true, false, cond, Some, None, Option, Ok, slice_get, refl, sym, ap, subst, ◌∙◌, arith, IsPermutation, IsTrue}
 use Rattle.kt_store.proofs.Common.{nat_tests, AllByRecursion, flat_map, Int, Trees, Applies, edit_of, ids_of, Given, runs_1, schema_2, IsAscending, Mode, Update, Enforced, Tally, Does, Database, IsDatabase, Ghosts, Held, state, HasCleanDisk, Run, Entry, RunClosed, Incomplete, finish_text, entries_of, IsComplete, Tables, Keeps, IsRun, AreRuns, AreNumbered, run_at, entry_row, entry_rows, pair_rows, prop_rows, finish, finish_refusal, finish_refusal_of, IsStore, StandsFor, MayTell, Told}
 use Rattle.kt_store.specs.Inner.Edits.{done_row}
 use Rattle.kt_store.proofs.SqlFacts.{finish_is}
-use Rattle.kt_store.proofs.CountLemmas.{most}
 use Rattle.kt_store.proofs.FinishLemmas.{finish_program, finish_writes, finished_rows}
 use Rattle.kt_store.proofs.Numbered.{numbers_finish}
 use Rattle.kt_store.proofs.WriteLemmas.{told_update, crash_update}
@@ -112,25 +111,13 @@ all_zero (e ∷ es) = (omega arith, all_zero es)
 pub at_most : (r : Run) → IsRun r → length r.entries ≤ r.total
 at_most r is = omega (arith, no_more 0 r.total r.entries (omega arith) (all_zero r.entries) is.ordered is.below)
 
-least_most : (n m : ℕ) → n < most → m ≡ min n most → m ≡ n
-least_most n m low is = omega (arith, low, is)
-
--- a count that is exact is one that SQL has
-pub most_is : (runs : List Run) (run : ℕ) (r : Run) → run_at runs run ≡ Some r → AreRuns runs → (n : ℕ) → n ≡ length (entries_of (run_at runs run)) → n ≡ min (length (entries_of (run_at runs run))) most
-most_is runs run r there valid n is =
-    let sound = run_of run runs r valid there in
-    let same : length (entries_of (run_at runs run)) ≡ length r.entries = ap (λ o. length (entries_of o)) there in
-    omega (arith, is, same, at_most r sound, sound.small)
-
 module _ (runs : List Run) (run : ℕ) (r : Run) (there : run_at runs run ≡ Some r) where
   pub closed_already : r.finished ≡ true → finish_refusal runs run ≡ Some RunClosed
   closed_already done = ap finish_refusal_of there ∙ rw done refl
 
-  module _ (unclosed : r.finished ≡ false) (valid : AreRuns runs) (n : ℕ) (is : n ≡ min (length (entries_of (run_at runs run))) most) where
+  module _ (unclosed : r.finished ≡ false) (valid : AreRuns runs) (n : ℕ) (is : n ≡ length (entries_of (run_at runs run))) where
     counted : n ≡ length r.entries
-    counted =
-        let sound = run_of run runs r valid there in
-        least_most (length r.entries) n (omega (arith, at_most r sound, sound.small)) (is ∙ ap (λ o. min (length (entries_of o)) most) there)
+    counted = is ∙ ap (λ o. length (entries_of o)) there
 
     pub lacks_some : n < r.total → finish_refusal runs run ≡ Some Incomplete
     lacks_some low =

@@ -70,16 +70,15 @@ unfoldable pub use Rattle.sqlite_value.specs.Order.{value_cmp}
 pub use Rattle.kt_store.specs.Ask.{IsNoMemory, IsStoreFault, Rests}
 pub use Rattle.kt_store.specs.Heads.{entry_at, head_of, outlined, with_pairs, without_outputs}
 pub use Rattle.kt_store.specs.Inner.Ask.{AreWide, Asked, HasColumns, MayShow, MayTell, ShowsOf, Told}
-pub use Rattle.kt_store.specs.Inner.Calls.{Statement, entry_statements, five_statement, five_text, five_values, make_statements, pair_statement, pair_statements, pair_text, pair_texts, pair_values, plain_statements, raise_statements, single_statements}
-pub use Rattle.kt_store.specs.Inner.Heads.{entry_columns, head_columns, output_columns, pair_columns, pairs_shown}
-pub use Rattle.kt_store.specs.Inner.Kept.{AsksNumber, Changes, CommitsNothing, KeepsRuns, MayChange, OnlyReads}
+pub use Rattle.kt_store.specs.Inner.Calls.{Statement, entry_statements, make_statements, pair_statement, pair_statements, pair_text, plain_statements, raise_statements}
+pub use Rattle.kt_store.specs.Inner.Heads.{as_shown, entry_columns, head_columns, output_columns, pair_columns, pairs_shown, shown_columns, width_of}
+pub use Rattle.kt_store.specs.Inner.Kept.{AsksNumber, Changes, CommitsNothing, KeepsRuns, Looked, MayChange, OnlyReads}
 pub use Rattle.kt_store.specs.Inner.Runs.{CanAdd, HasTexts, IsBareIfPassed, IsComplete, entries_of}
 pub use Rattle.kt_store.specs.Inner.Transactions.{Commits, CommitsLater, IsUndone, MayCommit, RunInTurn, RunsAll, RunsInside, RunsOne, Undoes, begun}
-pub use Rattle.kt_store.specs.Inner.Whole.{AreAt}
 pub use Rattle.kt_store.specs.Runs.{AreNumbered, AreOrdered, AreRuns, HaveNoPairs, IsEntry, IsPair, IsRun, IsText, Keeps, KeepsEither, KeepsOld, KeepsOne, OldTables, Tables, entry_row, entry_rows, finish, finish_refusal, finish_refusal_of, flag, has_position, insert_at, kind_code, new_run, pair_row, pair_rows, pair_rows_from, prop_rows, put_refusal, put_refusal_of, run_at, run_row, with_entry}
-pub use Rattle.kt_store.specs.Serving.{Agrees, Outlasts, Reads, Serves, changed_by}
+pub use Rattle.kt_store.specs.Serving.{Agrees, Outlasts, Reads, Serves, changed_by, results}
 pub use Rattle.kt_store.specs.Stands.{HasTables, Holds, IsEmpty, IsSettled, IsStore, IsUnderstood, Leaves, SaysNumber, SaysSchema, StandsFor, StandsInOld}
 pub use Rattle.kt_store.specs.StoreCalls.{Began, Finished, Heads, Outline, Outputs, Put, StoreCall, seen_as}
-pub use Rattle.kt_store.specs.Tables.{begin_text, beside_meta, count_text, create_entries, create_meta, create_props, create_runs, entries, entries_1, entries_text, finish_text, full_text, index_of, mark_text, meta, meta_1, meta_text, no_schema, outline_text, outputs_text, pairs_text, props, props_1, put_text, raise_text, run_text, runs, runs_1, runs_text, schema_1, schema_2, there_text}
+pub use Rattle.kt_store.specs.Tables.{begin_text, beside_meta, create_entries, create_meta, create_props, create_runs, entries, entries_1, entries_text, finish_text, index_of, mark_text, meta, meta_1, meta_text, no_schema, pairs_text, props, props_1, put_text, raise_text, run_text, runs, runs_1, runs_text, schema_1, schema_2, there_text}
 pub use Rattle.kt_store.specs.declared.store_fault.StoreFault.{StoreFault}
 pub use Rattle.kt_store.specs.declared.store_fault.StoreFault.TheVariants.{BadPosition, Incomplete, NoMemory, RepeatedPosition, RunClosed, Store, StoreFull}

@@ -1,11 +1,11 @@
 -- What the statements do that put an entry and its pairs, one after the other.
-use Rattle.std.proofs.Common.{◌≡◌, ◌&&◌, ◌/◌, Bool, not, ℕ, suc, ◌+◌, ◌<◌, pos, List, [], ◌∷◌, ◌++◌, length, map, drop, codes, None, Ok, refl, sym, ap, subst, ◌∙◌, arith, IsPermutation, IsTrue, true, false}
-use Rattle.kt_store.proofs.Common.{AllByRecursion, IsPair, IsText, HasTexts, pair_texts, IsPermutation-cons, IsPermutation-trans, IsPermutation-map, IsPermutation-sym, IsPermutation-middle, Int, Text, Row, Trees, is_taken, taken_by, put_all, are_fresh, next_rowid, numbered, put_row, works, Values, Insert, Chosen, edit_of, Enforced, understood, Ghosts, Held, state, Database, IsDatabase, value_rows, State, HasCleanDisk, mode_of, Executes, Writes, Term, IsPlain, command_of, statement_of, runs_as, Entry, Run, Variable, schema_2, entries_1, props_1, put_text, CanAdd, Tables, IsRun, kind_code, run_row, entry_row, entry_rows, pair_row, pair_rows_from, prop_rows, with_entry, AreRuns, Applies, Statement, single_statements, pair_statements, entry_statements, pair_text, five_text, five_values, begun, RunInTurn, StandsFor}
+use Rattle.std.proofs.Common.{◌≡◌, ◌&&◌, Bool, not, ℕ, suc, ◌+◌, ◌<◌, pos, List, [], ◌∷◌, ◌++◌, length, map, drop, codes, None, Ok, refl, sym, ap, subst, ◌∙◌, arith, IsPermutation, IsTrue, true, false}
+use Rattle.kt_store.proofs.Common.{AllByRecursion, IsPair, HasTexts, IsPermutation-cons, IsPermutation-trans, IsPermutation-map, IsPermutation-sym, IsPermutation-middle, Int, Text, Row, is_taken, put_all, are_fresh, next_rowid, numbered, put_row, Values, Insert, Chosen, edit_of, Enforced, understood, Ghosts, Held, state, Database, IsDatabase, value_rows, State, HasCleanDisk, mode_of, Executes, Writes, statement_of, runs_as, Entry, Run, Variable, schema_2, entries_1, props_1, put_text, CanAdd, Tables, IsRun, kind_code, run_row, entry_row, entry_rows, pair_row, pair_rows_from, prop_rows, with_entry, AreRuns, Applies, Statement, pair_statements, entry_statements, pair_text, begun, RunInTurn, StandsFor}
 use Rattle.sqlite_rules.specs.Cast.{cast_row}
-use Rattle.kt_store.proofs.SqlFacts.{put_is, put_terms, pair_is, pair_terms, five_is, five_terms}
+use Rattle.kt_store.proofs.SqlFacts.{put_is, put_terms, pair_is, pair_terms}
 use Rattle.kt_store.proofs.InsertLemmas.{changed}
 use Rattle.kt_store.proofs.PutLemmas.{put_beside, same_runs, as_many, more_rows, put_rows, put_works}
-use Rattle.kt_store.proofs.PairLemmas.{more_pairs, swap_blocks}
+use Rattle.kt_store.proofs.PairLemmas.{more_pairs}
 use Rattle.kt_store.proofs.EntryLemmas.{back}
 use Rattle.kt_store.proofs.Numbered.{numbers_entry}
 use Rattle.kt_store.proofs.Values.{cast_int, cast_null}
@@ -82,69 +82,28 @@ module _ (runs : List Run) (entries props : List Row) (old new : State) (count :
       let did = changed schema_2 2 entries_1 put_terms 13 refl refl refl put_works old.step_limit (mode_of old) (entry_row n e) old.now new.now text w.tally refl has.schema w.changed in
       (entry_in runs entries props old.now new.now has did.schema_is n e did.applies, w.sound)
 
-  -- an INSERT of pairs
-  pairs_put : (sql : List ℕ) (terms : List Term) (params : Row) (rows : List Row) → command_of (understood schema_2 sql) ≡ Insert 3 (Values terms 6) → IsPlain (understood schema_2 sql)
-      → ((params : Row) (trees : Trees) → let edit = edit_of trees props_1 [] Chosen 0 (value_rows params 6 (length terms / 6) terms) in works schema_2 Enforced 0 edit.table.tree (taken_by trees edit) edit.news ≡ [])
-      → map (λ s. cast_row props_1 (drop 0 s)) (value_rows params 6 (length terms / 6) terms) ≡ map back rows → Executes sql params old new (Ok count) → Holds runs entries (rows ++ props) new.now × IsDatabase new.now
-  pairs_put sql terms params rows is plain none rows_are h =
-      let text = statement_of sql (understood schema_2 sql) in
-      let w : Writes old new None (Insert 3 (Values terms 6)) text params count = runs_as sql params old new schema_2 has.schema (Insert 3 (Values terms 6)) is plain count h in
-      let did = changed schema_2 3 props_1 terms 6 refl refl refl none old.step_limit (mode_of old) params old.now new.now text w.tally refl has.schema w.changed in
-      (pairs_in runs entries props old.now new.now has did.schema_is (value_rows params 6 (length terms / 6) terms) rows rows_are did.applies, w.sound)
-
   pair_inside : (n p k : ℕ) (v : Variable) → Executes pair_text (pair_row n p k v) old new (Ok count) → Holds runs entries (pair_row n p k v ∷ props) new.now × IsDatabase new.now
-  pair_inside n p k v = pairs_put pair_text pair_terms (pair_row n p k v) (pair_row n p k v ∷ []) pair_is.0 pair_is.1 (λ _ _. refl) (rw (cast_null, cast_int (pos n), cast_int (pos p), cast_int (pos k)) refl)
-
-  five_inside : (n p k : ℕ) (a b c d e : Variable) → let five = a ∷ b ∷ c ∷ d ∷ e ∷ [] in Executes five_text (five_values n p k five) old new (Ok count) → Holds runs entries (pair_rows_from n p k five ++ props) new.now × IsDatabase new.now
-  five_inside n p k a b c d e =
-      let one : k + 1 ≡ suc k = omega arith in
-      let two : k + 2 ≡ suc (suc k) = omega arith in
-      let three : k + 3 ≡ suc (suc (suc k)) = omega arith in
-      let four : k + 4 ≡ suc (suc (suc (suc k))) = omega arith in
-      let five = a ∷ b ∷ c ∷ d ∷ e ∷ [] in
-      pairs_put five_text five_terms (five_values n p k five) (pair_rows_from n p k five) five_is.0 five_is.1 (λ _ _. refl)
-      (rw (cast_null, cast_int (pos n), cast_int (pos p), cast_int (pos k), cast_int (pos (k + 1)), cast_int (pos (k + 2)), cast_int (pos (k + 3)), cast_int (pos (k + 4)), one, two, three, four) refl)
+  pair_inside n p k v h =
+      let params = pair_row n p k v in
+      let text = statement_of pair_text (understood schema_2 pair_text) in
+      let w : Writes old new None (Insert 3 (Values pair_terms 6)) text params count = runs_as pair_text params old new schema_2 has.schema (Insert 3 (Values pair_terms 6)) pair_is.0 pair_is.1 count h in
+      let did = changed schema_2 3 props_1 pair_terms 6 refl refl refl (λ _ _. refl) old.step_limit (mode_of old) params old.now new.now text w.tally refl has.schema w.changed in
+      (pairs_in runs entries props old.now new.now has did.schema_is (value_rows params 6 1 pair_terms) (params ∷ []) (rw (cast_null, cast_int (pos n), cast_int (pos p), cast_int (pos k)) refl) did.applies, w.sound)
 
 module _ {S : Type 0} (g : Ghosts S) (runs : List Run) (entries : List Row) (n p : ℕ) where
-  singles_inside : (k : ℕ) (vs : List Variable) (props : List Row) (old new : Held S) → Holds runs entries props (state g old).now → IsDatabase (state g old).now
-      → RunInTurn g (single_statements n p k vs) old new → Holds runs entries (pair_rows_from n p k vs ++ props) (state g new).now × IsDatabase (state g new).now
-  singles_inside k [] props old new has sound is = subst (λ h. Holds runs entries props (state g h).now × IsDatabase (state g h).now) (sym is) (has, sound)
-  singles_inside k (v ∷ vs) props old new has sound ran =
-      let one = pair_inside runs entries props (state g old) (state g ran.0) ran.1.0 has n p k v ran.1.1.0 in
-      let all = singles_inside (suc k) vs (pair_row n p k v ∷ props) ran.0 new one.0 one.1 ran.2 in
-      (moved runs entries _ _ (state g new).now (IsPermutation-sym _ _ (IsPermutation-middle (pair_rows_from n p (suc k) vs) (pair_row n p k v) props)) all.0, all.1)
-
   pairs_inside : (k : ℕ) (vs : List Variable) (props : List Row) (old new : Held S) → Holds runs entries props (state g old).now → IsDatabase (state g old).now
       → RunInTurn g (pair_statements n p k vs) old new → Holds runs entries (pair_rows_from n p k vs ++ props) (state g new).now × IsDatabase (state g new).now
-  pairs_inside k [] props old new has sound ran = singles_inside k [] props old new has sound ran
-  pairs_inside k (a ∷ []) props old new has sound ran = singles_inside k (a ∷ []) props old new has sound ran
-  pairs_inside k (a ∷ b ∷ []) props old new has sound ran = singles_inside k (a ∷ b ∷ []) props old new has sound ran
-  pairs_inside k (a ∷ b ∷ c ∷ []) props old new has sound ran = singles_inside k (a ∷ b ∷ c ∷ []) props old new has sound ran
-  pairs_inside k (a ∷ b ∷ c ∷ d ∷ []) props old new has sound ran = singles_inside k (a ∷ b ∷ c ∷ d ∷ []) props old new has sound ran
-  pairs_inside k (a ∷ b ∷ c ∷ d ∷ e ∷ vs) props old new has sound ran =
-      let first = pair_rows_from n p k (a ∷ b ∷ c ∷ d ∷ e ∷ []) in
-      let next = suc (suc (suc (suc (suc k)))) in
-      let one = five_inside runs entries props (state g old) (state g ran.0) ran.1.0 has n p k a b c d e ran.1.1.0 in
-      let all = pairs_inside next vs (first ++ props) ran.0 new one.0 one.1 ran.2 in
-      (moved runs entries _ _ (state g new).now (swap_blocks first (pair_rows_from n p next vs) props) all.0, all.1)
+  pairs_inside k [] props old new has sound is = subst (λ h. Holds runs entries props (state g h).now × IsDatabase (state g h).now) (sym is) (has, sound)
+  pairs_inside k (v ∷ vs) props old new has sound ran =
+      let one = pair_inside runs entries props (state g old) (state g ran.0) ran.1.0 has n p k v ran.1.1.0 in
+      let all = pairs_inside (suc k) vs (pair_row n p k v ∷ props) ran.0 new one.0 one.1 ran.2 in
+      (moved runs entries _ _ (state g new).now (IsPermutation-sym _ _ (IsPermutation-middle (pair_rows_from n p (suc k) vs) (pair_row n p k v) props)) all.0, all.1)
 
 -- the texts of pairs that were put
 module _ {S : Type 0} (g : Ghosts S) (n p : ℕ) where
-  singles_spelled : (k : ℕ) (vs : List Variable) (old new : Held S) → RunInTurn g (single_statements n p k vs) old new → AllByRecursion IsPair vs
-  singles_spelled k [] old new ran = tt
-  singles_spelled k (v ∷ vs) old new ran = ((ran.1.2.0, ran.1.2.1.0), singles_spelled (suc k) vs ran.0 new ran.2)
-
   pairs_spelled : (k : ℕ) (vs : List Variable) (old new : Held S) → RunInTurn g (pair_statements n p k vs) old new → AllByRecursion IsPair vs
   pairs_spelled k [] old new ran = tt
-  pairs_spelled k (a ∷ []) old new ran = singles_spelled k (a ∷ []) old new ran
-  pairs_spelled k (a ∷ b ∷ []) old new ran = singles_spelled k (a ∷ b ∷ []) old new ran
-  pairs_spelled k (a ∷ b ∷ c ∷ []) old new ran = singles_spelled k (a ∷ b ∷ c ∷ []) old new ran
-  pairs_spelled k (a ∷ b ∷ c ∷ d ∷ []) old new ran = singles_spelled k (a ∷ b ∷ c ∷ d ∷ []) old new ran
-  pairs_spelled k (a ∷ b ∷ c ∷ d ∷ e ∷ vs) old new ran = paired (a ∷ b ∷ c ∷ d ∷ e ∷ []) vs ran.1.2 (pairs_spelled (suc (suc (suc (suc (suc k))))) vs ran.0 new ran.2)
-    where
-      paired : (vs others : List Variable) → AllByRecursion IsText (pair_texts vs) → AllByRecursion IsPair others → AllByRecursion IsPair (vs ++ others)
-      paired [] others has more = more
-      paired (v ∷ vs) others has more = ((has.0, has.1.0), paired vs others has.1.1 more)
+  pairs_spelled k (v ∷ vs) old new ran = ((ran.1.2.0, ran.1.2.1.0), pairs_spelled (suc k) vs ran.0 new ran.2)
 
 -- the tables of runs, and with an entry and its pairs those of the runs that have it
 pub rows_of : (runs : List Run) (db : Database) → Tables db runs → Holds runs (entry_rows runs) (prop_rows runs) db

@@ -27,7 +27,6 @@ pub mod RunLemmas
 pub mod EntryLemmas
 pub mod TakesLemmas
 pub mod ThereLemmas
-pub mod CountLemmas
 pub mod CloseLemmas
 pub mod HeadLemmas
 pub mod KeptEntries
@@ -55,5 +54,4 @@ pub mod CommitLemmas
 pub mod AttachLemmas
 pub mod UniqueLemmas
 pub mod ProbeLemmas
-pub mod WholeEntries
 pub mod NewFiles

@@ -1,6 +1,8 @@
 -- The rows of pairs beside those of their entries.
-use Rattle.std.proofs.Common.{◌≡◌, ◌≢◌, ◌⊎◌, inl, inr, ℕ, zero, suc, ◌<◌, pos, List, [], ◌∷◌, ◌++◌, length, map, take, drop, refl, sym, ap, subst, ◌∙◌, arith, get_or}
-use Rattle.kt_store.proofs.Common.{AllByRecursion, Int, Row, column, IsAscending, Entry, Variable, IsEntry, IsPair, entry_columns, pair_columns, pairs_shown}
+use Rattle.std.proofs.Common.{◌≡◌, ◌≢◌, ◌⊎◌, inl, inr, Bool, true, false, ℕ, zero, suc, ◌<◌, ◌≤◌, pos, List, [], ◌∷◌, ◌++◌, length, map, take, drop, refl, sym, ap, subst, ◌∙◌, arith, get_or}
+use Rattle.kt_store.proofs.Common.{AllByRecursion, Int, Row, column, IsAscending, Entry, Variable, IsEntry, IsPair, as_shown, entry_columns, output_columns, pair_columns, pairs_shown, shown_columns, width_of}
+use Rattle.kt_store.specs.Heads.{outputs_of}
+use Rattle.kt_store.specs.declared.result_store.CaseOutputs.{CaseOutputs}
 
 abbrev pub Later : ℕ → List Entry → Type 0
 Later p others = AllByRecursion (λ (e : Entry). p < e.position) others
@@ -34,20 +36,6 @@ next_is p (v ∷ rest) others shown after later is =
 -- what was read of the first column is the position
 pub read_position : (p n : ℕ) (v : Variable) (shown : Row) → shown ≡ pair_columns p v → column shown 0 ≡ Int (pos n) → n ≡ p
 read_position p n v shown is read = let e : Int (pos n) ≡ Int (pos p) = sym read ∙ ap (λ l. column l 0) is in cc
-
-pub entry_position : (n : ℕ) (e : Entry) (shown : Row) → shown ≡ entry_columns e → column shown 0 ≡ Int (pos n) → n ≡ e.position
-entry_position n e shown is read = let q : Int (pos n) ≡ Int (pos e.position) = sym read ∙ ap (λ l. column l 0) is in cc
-
--- the first column of the next row is a number
-pub first_column : (p : ℕ) (more : List Variable) (others : List Entry) (shown : Row) (after : List Row) → NextIs p more others shown after → (n : ℕ) × (column shown 0 ≡ Int (pos n))
-first_column p more others shown after (inl next) = (p, ap (λ l. column l 0) next.3)
-first_column p more others shown after (inr past) = (past.1, ap (λ l. column l 0) past.4)
-
--- a row of the position is that of the next pair
-pub next_pair : (p n : ℕ) (more : List Variable) (others : List Entry) (shown : Row) (after : List Row) → NextIs p more others shown after → column shown 0 ≡ Int (pos n) → n ≡ p → AllByRecursion IsPair more
-    → (v : Variable) × IsPair v × (shown ≡ pair_columns p v)
-next_pair p n more others shown after (inl next) read same sound = let pairs : AllByRecursion IsPair (next.0 ∷ next.1) = subst (AllByRecursion IsPair) next.2 sound in (next.0, pairs.0, next.3)
-next_pair p n more others shown after (inr past) read same sound = absurd (omega (arith, past.3, same, read_position past.1 n past.2 shown past.4 read))
 
 -- what was read so far, and what is still to come
 abbrev pub SoFar : ℕ → List Row → List Variable → List Row → Type 0
@@ -87,18 +75,35 @@ no_more p n more others shown rest after parts read apart later is = elim (next_
   | inr past ↦ past.0
 ]
 
+-- the columns of an entry begin with those without its outputs
+pub begins : (whole : Bool) (e : Entry) → (more : Row) × (shown_columns whole e ≡ entry_columns e ++ more)
+begins true e = (output_columns e, refl)
+begins false e = ([], refl)
+
+pub entry_position : (whole : Bool) (n : ℕ) (e : Entry) (shown : Row) → shown ≡ shown_columns whole e → column shown 0 ≡ Int (pos n) → n ≡ e.position
+entry_position whole n e shown is read = let q : Int (pos n) ≡ Int (pos e.position) = sym read ∙ ap (λ l. column l 0) (is ∙ (begins whole e).1) in cc
+
+pub enough : (whole : Bool) (n : ℕ) → width_of whole ≤ n → 7 ≤ n
+enough true n h = omega (arith, h)
+enough false n h = h
+
 -- the entry whose row is next, with what is behind it
-pub record At (es : List Entry) (i : ℕ) (y : Row) : Type 0 where
+pub record At (whole : Bool) (es : List Entry) (i : ℕ) (y : Row) : Type 0 where
   pub entry : Entry
   pub sound : IsEntry entry
-  pub row : y ≡ entry_columns entry
+  pub row : y ≡ shown_columns whole entry
   pub before : take (suc i) es ≡ take i es ++ entry ∷ []
   pub behind : drop i es ≡ entry ∷ drop (suc i) es
   pub later : Later entry.position (drop (suc i) es)
 
-pub at : (es : List Entry) (i : ℕ) (y : Row) → AllByRecursion IsEntry es → Up es → i < length es → y ≡ get_or (map entry_columns es) i y → At es i y
-at [] i y sound up low is = absurd (omega (arith, low))
-at (e ∷ es) zero y sound up low is = record { entry = e; sound = sound.0; row = is; before = refl; behind = refl; later = up.0 }
-at (e ∷ es) (suc i) y sound up low is =
-    let it = at es i y sound.1 up.1 (omega (arith, low)) is in
+pub at : (whole : Bool) (es : List Entry) (i : ℕ) (y : Row) → AllByRecursion IsEntry es → Up es → i < length es → y ≡ get_or (map (shown_columns whole) es) i y → At whole es i y
+at whole [] i y sound up low is = absurd (omega (arith, low))
+at whole (e ∷ es) zero y sound up low is = record { entry = e; sound = sound.0; row = is; before = refl; behind = refl; later = up.0 }
+at whole (e ∷ es) (suc i) y sound up low is =
+    let it = at whole es i y sound.1 up.1 (omega (arith, low)) is in
     record { entry = it.entry; sound = it.sound; row = it.row; before = ap (λ l. e ∷ l) it.before; behind = it.behind; later = it.later }
+
+-- the outputs of an entry as it is shown, among its other parts
+pub outputs_shown : (whole : Bool) (e : Entry) (o : CaseOutputs) → o ≡ outputs_of (as_shown whole e) → record e { body = o.body; cleanup = o.cleanup } ≡ as_shown whole e
+outputs_shown true e o is = rw is refl
+outputs_shown false e o is = rw is refl

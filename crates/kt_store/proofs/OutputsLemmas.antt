@@ -1,23 +1,10 @@
--- What the query for the outputs of an entry answers.
+-- The entry of a run at a position, by its stored row.
 use Rattle.std.proofs.Common.{◌≢◌, length, ◌<◌, ◌≤◌, zero, suc, subst, arith, ◌≡◌, ◌==◌, ℕ, List, [], ◌∷◌, map, filter, Bool, true, false, cond, Some, None, Option, slice_get, refl, sym, ap, ◌∙◌, inl, inr}
-use Rattle.kt_store.proofs.Common.{cases_lt, slice_get_past, find, last_run, Row, State, Shown, reads_as, Run, Entry, entry_at, outputs_text, schema_2, output_columns, entry_row, entries_of, run_at, IsStore}
-use Rattle.kt_store.proofs.SqlFacts.{outputs_select_is, outputs_query}
-use Rattle.kt_store.proofs.KeptEntries.{Same, tells_kept}
-use Rattle.kt_store.proofs.EntriesLemmas.{up_of}
-use Rattle.kt_store.proofs.ThereLemmas.{there_params, there_tests, each}
+use Rattle.kt_store.proofs.Common.{cases_lt, slice_get_past, find, last_run, Row, Run, Entry, entry_at, entry_row, entries_of, run_at}
 
 -- an entry has this position
 abbrev pub has : ℕ → Entry → Bool
 has p e = e.position == p
-
-same_rows : (n p : ℕ) (r : Row) → Same there_tests outputs_query.project (there_params n p) r
-same_rows n p [] = (refl, refl)
-same_rows n p (x ∷ r) = (refl, refl)
-
-pub tells_outputs : (old new : State) (runs : List Run) (n p : ℕ) (rows : List Row) → IsStore old runs → Shown outputs_text (there_params n p) old new rows → rows ≡ map output_columns (filter (has p) (entries_of (run_at runs n)))
-tells_outputs old new runs n p rows is h =
-    let reads = reads_as outputs_text (there_params n p) old new schema_2 is.tables.schema _ outputs_select_is.0 outputs_select_is.2 outputs_select_is.1 rows h in
-    tells_kept there_tests outputs_query.project (there_params n p) (same_rows n p) n (has p) (each n p) old runs rows is (up_of runs n is.tables.valid) reads.answer
 
 -- the first row is that of the entry at the position
 first_is : (f : Entry → Row) (p : ℕ) (es : List Entry) (row : Row) → slice_get (map f (filter (has p) es)) 0 ≡ Some row → (e : Entry) × (find (has p) es ≡ Some e) × (row ≡ f e)
@@ -46,14 +33,6 @@ row_there (Some r) n p row first = first_is (entry_row n) p r.entries row (sym f
 pub no_row : (o : Option Run) (n p : ℕ) → None ≡ slice_get (map (entry_row n) (filter (has p) (entries_of o))) 0 → entry_at o p ≡ None
 no_row None n p none = refl
 no_row (Some r) n p none = none_is (entry_row n) p r.entries (sym none)
-
-pub outputs_there : (o : Option Run) (p : ℕ) (rows : List Row) (row : Row) → rows ≡ map output_columns (filter (has p) (entries_of o)) → slice_get rows 0 ≡ Some row → (e : Entry) × (entry_at o p ≡ Some e) × (row ≡ output_columns e)
-outputs_there None p rows row are first = absurd (let e : None ≡ Some row = sym (ap (λ l. slice_get l 0) are) ∙ first in cc)
-outputs_there (Some r) p rows row are first = first_is output_columns p r.entries row (sym (ap (λ l. slice_get l 0) are) ∙ first)
-
-pub no_outputs : (o : Option Run) (p : ℕ) (rows : List Row) → rows ≡ map output_columns (filter (has p) (entries_of o)) → slice_get rows 0 ≡ None → entry_at o p ≡ None
-no_outputs None p rows are none = refl
-no_outputs (Some r) p rows are none = none_is output_columns p r.entries (sym (ap (λ l. slice_get l 0) are) ∙ none)
 
 run_past : (runs : List Run) (run : ℕ) → length runs < run → run_at runs run ≡ None
 run_past runs zero low = refl

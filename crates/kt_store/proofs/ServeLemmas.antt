@@ -1,9 +1,8 @@
 -- How the tables of a database serve the calls of a store.
-use Rattle.std.proofs.Common.{Result, Ok, Err, IfOk, IfErr, OnOk, OnErr, Bool, ◌≡◌, inl, ℕ, suc, List, [], ◌∷◌, ◌++◌, ◌<◌, None, length, IsErrAnd, refl, subst, sym, arith}
-use Rattle.kt_store.proofs.Common.{Trees, Ghosts, Held, state, State, HasCleanDisk, Survives, survives_then, survives_weaker, last_run, Entry, Run, IsStoreFault, KeepsRuns, OnlyReads, Changes, MayChange, Keeps, KeepsOne, new_run, with_entry, put_refusal, finish, finish_refusal, Serves, Agrees, Outlasts, changed_by, StandsFor, Leaves, StoreCall, Began, Put, Finished, Heads, Outline, Outputs, StoreFault}
-use Rattle.kt_store.specs.declared.result_store.CaseOutputs.{CaseOutputs}
+use Rattle.std.proofs.Common.{Result, Ok, Err, IfOk, IfErr, OnOk, OnErr, ◌≡◌, inl, ℕ, suc, List, [], ◌∷◌, ◌++◌, ◌<◌, None, length, IsErrAnd, refl, subst, sym, arith}
+use Rattle.kt_store.proofs.Common.{Trees, Ghosts, Held, state, State, HasCleanDisk, Survives, survives_then, survives_weaker, last_run, Entry, Run, IsStoreFault, KeepsRuns, Looked, Changes, MayChange, Keeps, KeepsOne, new_run, with_entry, put_refusal, finish, finish_refusal, Reads, Serves, Agrees, Outlasts, changed_by, results, StandsFor, Leaves, StoreCall, Began, Put, Finished, Heads, Outline, Outputs, StoreFault}
 use Rattle.kt_store.specs.declared.result_store.RunHead.{RunHead}
-use Rattle.kt_store.specs.Inner.Known.{results}
+use Rattle.kt_store.proofs.AskLemmas.{was_clean}
 use Rattle.kt_store.proofs.Crashing.{survived, untouched}
 use Rattle.kt_store.proofs.Numbered.{numbers_changed, ordered_changed}
 
@@ -46,101 +45,93 @@ module _ {S : Type 0} (g : Ghosts S) where
   seen_at call inside now new is s = subst (λ o. Serves (results g) call o new) is s
 
 -- calls of which a part only reads
-module _ {S : Type 0} (g : Ghosts S) (old new : Held S) (kept : KeepsRuns g old new) (only : OnlyReads g old new) where
+module _ {S : Type 0} (g : Ghosts S) (old new : Held S) (looked : Looked g old new) where
   early : (runs : List Run) → StandsFor (state g old) runs → HasCleanDisk (state g new) → HasCleanDisk (state g old)
-  early runs has clean = omega (arith, clean, (only runs has).clean)
+  early = was_clean looked
 
   unwritten : (change runs : List Run) (may : List (List Run)) → StandsFor (state g old) runs → Leaves (state g old) (KeepsOne (runs ∷ may)) → Leaves (state g new) (KeepsOne (runs ∷ change ∷ may))
   unwritten change runs may has left =
-      survived (state g old) (state g new) change runs may (survives_weaker (state g old) (state g new) (λ _. ⊥) (Keeps change) (λ _ db none. absurd none) (only runs has)) left
+      survived (state g old) (state g new) change runs may (survives_weaker (state g old) (state g new) (λ _. ⊥) (Keeps change) (λ _ db none. absurd none) (looked.crash runs has)) left
 
   module _ (fault : StoreFault) where
     -- one that is refused before it writes
     pub begin_refused : (total moment : ℕ) → ((runs : List Run) → StandsFor (state g old) runs → HasCleanDisk (state g new) → Agrees runs (Began total moment (Err fault))) → Serves (results g) (Began total moment (Err fault)) old new
     begin_refused total moment why =
-        serves g (Began total moment (Err fault)) old new kept early why (λ runs may has l. unwritten (runs ++ new_run runs total moment ∷ []) runs may has l)
+        serves g (Began total moment (Err fault)) old new looked.stands early why (λ runs may has l. unwritten (runs ++ new_run runs total moment ∷ []) runs may has l)
 
     pub put_refused : (number : ℕ) (e : Entry) → ((runs : List Run) → StandsFor (state g old) runs → HasCleanDisk (state g new) → Agrees runs (Put number e (Err fault))) → Serves (results g) (Put number e (Err fault)) old new
     put_refused number e why =
-        serves g (Put number e (Err fault)) old new kept early why (λ runs may has l. unwritten (with_entry number e runs) runs may has l)
+        serves g (Put number e (Err fault)) old new looked.stands early why (λ runs may has l. unwritten (with_entry number e runs) runs may has l)
 
     pub finish_refused : (number : ℕ) → ((runs : List Run) → StandsFor (state g old) runs → HasCleanDisk (state g new) → Agrees runs (Finished number (Err fault))) → Serves (results g) (Finished number (Err fault)) old new
     finish_refused number why =
-        serves g (Finished number (Err fault)) old new kept early why (λ runs may has l. unwritten (finish number runs) runs may has l)
+        serves g (Finished number (Err fault)) old new looked.stands early why (λ runs may has l. unwritten (finish number runs) runs may has l)
 
   -- one that reads
   pub heads_read : (answer : Result (List RunHead) StoreFault) → ((runs : List Run) → StandsFor (state g old) runs → HasCleanDisk (state g new) → Agrees runs (Heads answer)) → Serves (results g) (Heads answer) old new
   heads_read answer why =
-      serves g (Heads answer) old new kept early why (λ runs may has l. untouched (state g old) (state g new) may (only runs has) l)
+      serves g (Heads answer) old new looked.stands early why (λ runs may has l. untouched (state g old) (state g new) may (looked.crash runs has) l)
 
-  pub outline_read : (number : ℕ) (pairs : Bool) (answer : Result (List Entry) StoreFault) → ((runs : List Run) → StandsFor (state g old) runs → HasCleanDisk (state g new) → Agrees runs (Outline number pairs answer)) → Serves (results g) (Outline number pairs answer) old new
-  outline_read number pairs answer why =
-      serves g (Outline number pairs answer) old new kept early why (λ runs may has l. untouched (state g old) (state g new) may (only runs has) l)
+  pub reads_alone : Reads (results g) old new
+  reads_alone = record {
+    stands = λ runs h. (looked.stands runs h.0, h.1, λ clean. h.2 (early runs h.0 clean));
+    earlier = λ runs h clean. early runs h.0 clean;
+    crash = λ runs may h l. untouched (state g old) (state g new) may (looked.crash runs h.0) l;
+  }
 
-  pub outputs_read : (number position : ℕ) (answer : Result CaseOutputs StoreFault) → ((runs : List Run) → StandsFor (state g old) runs → HasCleanDisk (state g new) → Agrees runs (Outputs number position answer)) → Serves (results g) (Outputs number position answer) old new
-  outputs_read number position answer why =
-      serves g (Outputs number position answer) old new kept early why (λ runs may has l. untouched (state g old) (state g new) may (only runs has) l)
-
--- two parts that read
-module _ {S : Type 0} (g : Ghosts S) (old mid new : Held S) (kept : KeepsRuns g old mid) (only : OnlyReads g old mid) where
-  pub keeps_then : KeepsRuns g mid new → KeepsRuns g old new
-  keeps_then more runs has = more runs (kept runs has)
-
-  pub reads_then : OnlyReads g mid new → OnlyReads g old new
-  reads_then more runs has = survives_then (state g old) (state g mid) (state g new) (λ _. ⊥) (λ _. ⊥) (λ _. ⊥) (λ _ db none. none) (λ _ db none. none) (only runs has) (more runs (kept runs has))
-
-  -- a part that reads, and one that writes
+-- a part that reads, and one that writes
+module _ {S : Type 0} (g : Ghosts S) (old mid new : Held S) (looked : Looked g old mid) where
   module _ (Allowed : List Run → Type 0) (change : List Run → List Run) (allowed : (runs : List Run) → StandsFor (state g old) runs → HasCleanDisk (state g mid) → Allowed runs) (may_change : MayChange g mid new Allowed change) where
     second : (runs : List Run) → StandsFor (state g old) runs → Survives (state g mid) (state g new) (Keeps (change runs))
-    second runs has = may_change runs (kept runs has) (allowed runs has)
+    second runs has = may_change runs (looked.stands runs has) (allowed runs has)
 
     pub mid_clean : (runs : List Run) → StandsFor (state g old) runs → HasCleanDisk (state g new) → HasCleanDisk (state g mid)
     mid_clean runs has clean = omega (arith, clean, (second runs has).clean)
 
     old_clean : (runs : List Run) → StandsFor (state g old) runs → HasCleanDisk (state g new) → HasCleanDisk (state g old)
-    old_clean runs has clean = omega (arith, mid_clean runs has clean, (only runs has).clean)
+    old_clean runs has clean = was_clean looked runs has (mid_clean runs has clean)
 
     written : (runs : List Run) (may : List (List Run)) → StandsFor (state g old) runs → Leaves (state g old) (KeepsOne (runs ∷ may)) → Leaves (state g new) (KeepsOne (runs ∷ change runs ∷ may))
     written runs may has left =
         survived (state g old) (state g new) (change runs) runs may
-        (survives_then (state g old) (state g mid) (state g new) (λ _. ⊥) (Keeps (change runs)) (Keeps (change runs)) (λ _ db none. absurd none) (λ _ db it. it) (only runs has) (second runs has)) left
+        (survives_then (state g old) (state g mid) (state g new) (λ _. ⊥) (Keeps (change runs)) (Keeps (change runs)) (λ _ db none. absurd none) (λ _ db it. it) (looked.crash runs has) (second runs has)) left
 
     lasting : Changes g mid new Allowed change → (runs : List Run) → StandsFor (state g old) runs → Leaves (state g new) (KeepsOne (change runs ∷ []))
-    lasting changes runs has clean trees may = inl (changes.lasts runs (kept runs has) (allowed runs has) clean trees may)
+    lasting changes runs has clean trees may = inl (changes.lasts runs (looked.stands runs has) (allowed runs has) clean trees may)
 
     done : Changes g mid new Allowed change → (runs : List Run) → StandsFor (state g old) runs → StandsFor (state g new) (change runs)
-    done changes runs has = changes.stands runs (kept runs has) (allowed runs has)
+    done changes runs has = changes.stands runs (looked.stands runs has) (allowed runs has)
 
 -- a run is begun after a look
-module _ {S : Type 0} (g : Ghosts S) (old mid new : Held S) (kept : KeepsRuns g old mid) (only : OnlyReads g old mid) (total moment : ℕ)
+module _ {S : Type 0} (g : Ghosts S) (old mid new : Held S) (looked : Looked g old mid) (total moment : ℕ)
     (room : (runs : List Run) → StandsFor (state g old) runs → HasCleanDisk (state g mid) → length runs < last_run) (may_change : MayChange g mid new (λ runs. length runs < last_run) (λ runs. runs ++ new_run runs total moment ∷ [])) where
   pub begin_called : (r : Result ℕ StoreFault) → OnOk r (Changes g mid new (λ runs. length runs < last_run) (λ runs. runs ++ new_run runs total moment ∷ []))
       → ((runs : List Run) → StandsFor (state g old) runs → HasCleanDisk (state g new) → IfOk r (λ n. n ≡ suc (length runs))) → IfErr r IsStoreFault → OnErr r (KeepsRuns g mid new) → Serves (results g) (Began total moment r) old new
   begin_called (Ok number) changes is failed more =
-      serves g (Began total moment (Ok number)) old new (done g old mid new kept only _ _ room may_change changes) (old_clean g old mid new kept only _ _ room may_change) (λ runs has clean. (is runs has clean, room runs has (mid_clean g old mid new kept only _ _ room may_change runs has clean))) (λ runs may has. lasting g old mid new kept only _ _ room may_change changes runs has)
+      serves g (Began total moment (Ok number)) old new (done g old mid new looked _ _ room may_change changes) (old_clean g old mid new looked _ _ room may_change) (λ runs has clean. (is runs has clean, room runs has (mid_clean g old mid new looked _ _ room may_change runs has clean))) (λ runs may has. lasting g old mid new looked _ _ room may_change changes runs has)
   begin_called (Err fault) changes is failed more =
-      serves g (Began total moment (Err fault)) old new (λ runs has. more runs (kept runs has)) (old_clean g old mid new kept only _ _ room may_change) (λ runs has clean. inl failed) (written g old mid new kept only _ _ room may_change)
+      serves g (Began total moment (Err fault)) old new (λ runs has. more runs (looked.stands runs has)) (old_clean g old mid new looked _ _ room may_change) (λ runs has clean. inl failed) (written g old mid new looked _ _ room may_change)
 
 -- an entry is put after a look
-module _ {S : Type 0} (g : Ghosts S) (old mid new : Held S) (kept : KeepsRuns g old mid) (only : OnlyReads g old mid) (number : ℕ) (e : Entry) (Fits : List Run → Type 0)
+module _ {S : Type 0} (g : Ghosts S) (old mid new : Held S) (looked : Looked g old mid) (number : ℕ) (e : Entry) (Fits : List Run → Type 0)
     (fits : (runs : List Run) → StandsFor (state g old) runs → HasCleanDisk (state g mid) → (put_refusal runs number e ≡ None) × Fits runs) (may_change : MayChange g mid new Fits (with_entry number e)) where
   may : (runs : List Run) → StandsFor (state g old) runs → HasCleanDisk (state g mid) → Fits runs
   may runs has clean = (fits runs has clean).1
 
   pub put_called : (r : Result (Unit {0}) StoreFault) → OnOk r (Changes g mid new Fits (with_entry number e)) → IfErr r IsStoreFault → OnErr r (KeepsRuns g mid new) → Serves (results g) (Put number e r) old new
   put_called (Ok unit) ok failed more =
-      serves g (Put number e (Ok unit)) old new (done g old mid new kept only _ _ may may_change ok) (old_clean g old mid new kept only _ _ may may_change) (λ runs has clean. (fits runs has (mid_clean g old mid new kept only _ _ may may_change runs has clean)).0) (λ runs others has. lasting g old mid new kept only _ _ may may_change ok runs has)
+      serves g (Put number e (Ok unit)) old new (done g old mid new looked _ _ may may_change ok) (old_clean g old mid new looked _ _ may may_change) (λ runs has clean. (fits runs has (mid_clean g old mid new looked _ _ may may_change runs has clean)).0) (λ runs others has. lasting g old mid new looked _ _ may may_change ok runs has)
   put_called (Err fault) ok failed more =
-      serves g (Put number e (Err fault)) old new (λ runs has. more runs (kept runs has)) (old_clean g old mid new kept only _ _ may may_change) (λ runs has clean. inl failed) (written g old mid new kept only _ _ may may_change)
+      serves g (Put number e (Err fault)) old new (λ runs has. more runs (looked.stands runs has)) (old_clean g old mid new looked _ _ may may_change) (λ runs has clean. inl failed) (written g old mid new looked _ _ may may_change)
 
 -- a run is finished after a look
-module _ {S : Type 0} (g : Ghosts S) (old mid new : Held S) (kept : KeepsRuns g old mid) (only : OnlyReads g old mid) (number : ℕ) (Fits : List Run → Type 0)
+module _ {S : Type 0} (g : Ghosts S) (old mid new : Held S) (looked : Looked g old mid) (number : ℕ) (Fits : List Run → Type 0)
     (fits : (runs : List Run) → StandsFor (state g old) runs → HasCleanDisk (state g mid) → (finish_refusal runs number ≡ None) × Fits runs) (may_change : MayChange g mid new Fits (finish number)) where
   can : (runs : List Run) → StandsFor (state g old) runs → HasCleanDisk (state g mid) → Fits runs
   can runs has clean = (fits runs has clean).1
 
   pub finish_called : (r : Result (Unit {0}) StoreFault) → OnOk r (Changes g mid new Fits (finish number)) → IfErr r IsStoreFault → OnErr r (KeepsRuns g mid new) → Serves (results g) (Finished number r) old new
   finish_called (Ok unit) ok failed more =
-      serves g (Finished number (Ok unit)) old new (done g old mid new kept only _ _ can may_change ok) (old_clean g old mid new kept only _ _ can may_change) (λ runs has clean. (fits runs has (mid_clean g old mid new kept only _ _ can may_change runs has clean)).0) (λ runs others has. lasting g old mid new kept only _ _ can may_change ok runs has)
+      serves g (Finished number (Ok unit)) old new (done g old mid new looked _ _ can may_change ok) (old_clean g old mid new looked _ _ can may_change) (λ runs has clean. (fits runs has (mid_clean g old mid new looked _ _ can may_change runs has clean)).0) (λ runs others has. lasting g old mid new looked _ _ can may_change ok runs has)
   finish_called (Err fault) ok failed more =
-      serves g (Finished number (Err fault)) old new (λ runs has. more runs (kept runs has)) (old_clean g old mid new kept only _ _ can may_change) (λ runs has clean. inl failed) (written g old mid new kept only _ _ can may_change)
+      serves g (Finished number (Err fault)) old new (λ runs has. more runs (looked.stands runs has)) (old_clean g old mid new looked _ _ can may_change) (λ runs has clean. inl failed) (written g old mid new looked _ _ can may_change)

@@ -1,6 +1,6 @@
 -- What the texts mean.
-use Rattle.std.proofs.Common.{◌≡◌, ℕ, pos, negsuc, List, [], ◌∷◌, codes, false, Some, None, refl, arith}
-use Rattle.kt_store.proofs.Common.{Null, Int, Text, Binary, Term, lit, col, op2, Query, inner, end, CountRows, ascending, Values, Command, Insert, Select, Update, understood, reads_listing, HasColumns, IsPlain, command_of, Compare, Eq, everything, schema_2, full_text, begin_text, run_text, count_text, finish_text, runs_text, there_text, put_text, outline_text, entries_text, meta_text, outputs_text, pairs_text, mark_text, raise_text, five_text, pair_text}
+use Rattle.std.proofs.Common.{◌≡◌, ℕ, pos, negsuc, List, [], ◌∷◌, codes, false, None, refl, arith}
+use Rattle.kt_store.proofs.Common.{Null, Int, Text, Binary, Term, lit, col, op2, Query, inner, end, ascending, Values, Command, Insert, Select, Update, understood, reads_listing, HasColumns, IsPlain, command_of, Compare, Eq, everything, schema_2, begin_text, run_text, finish_text, runs_text, there_text, put_text, entries_text, meta_text, pairs_text, mark_text, raise_text, pair_text}
 
 abbrev pub query : Query
 query = record { from = end; filter = []; group = None; project = []; distinct = false; collations = []; order = []; limit = lit (Int (negsuc 0)); offset = lit (Int (pos 0)) }
@@ -10,13 +10,6 @@ select q names = Select (record { lets = []; body = q }) names
 
 abbrev pub is : Term → Term → Term
 is a b = op2 (Compare Eq Binary) a b
-
-abbrev pub full_query : Query
-full_query = record query { from = inner 2 end; filter = is (col 1 0) (lit (Int (pos 1000000))) ∷ []; project = col 1 0 ∷ [] }
-
-pub full_is : (command_of (understood schema_2 full_text) ≡ select full_query (codes "id" ∷ [])) × (reads_listing schema_2 full_text ≡ false) × IsPlain (understood schema_2 full_text) × HasColumns 1 (understood schema_2 full_text)
-unfolding understood everything
-full_is = (refl, refl, (refl, refl), (omega arith, refl))
 
 abbrev pub begin_terms : List Term
 begin_terms = lit Null ∷ lit Null ∷ col 0 0 ∷ col 0 1 ∷ lit (Int (pos 0)) ∷ []
@@ -31,13 +24,6 @@ run_query = record query { from = inner 2 end; filter = is (col 1 0) (col 0 0) �
 pub run_is : (command_of (understood schema_2 run_text) ≡ select run_query (codes "total" ∷ codes "finished" ∷ [])) × (reads_listing schema_2 run_text ≡ false) × IsPlain (understood schema_2 run_text) × HasColumns 2 (understood schema_2 run_text)
 unfolding understood everything
 run_is = (refl, refl, (refl, refl), (omega arith, refl))
-
-abbrev pub count_query : Query
-count_query = record query { from = inner 3 end; filter = is (col 1 1) (col 0 0) ∷ []; group = Some (record { keys = []; collations = []; aggregates = record { op = CountRows; distinct = false; collation = Binary; argument = lit Null } ∷ []; having = [] }); project = col 1 0 ∷ [] }
-
-pub count_is : (command_of (understood schema_2 count_text) ≡ select count_query (codes "count(*)" ∷ [])) × (reads_listing schema_2 count_text ≡ false) × IsPlain (understood schema_2 count_text) × HasColumns 1 (understood schema_2 count_text)
-unfolding understood everything
-count_is = (refl, refl, (refl, refl), (omega arith, refl))
 
 abbrev pub finish_query : Query
 finish_query = record query { from = inner 2 end; filter = is (col 1 0) (col 0 0) ∷ []; project = col 1 0 ∷ col 1 0 ∷ lit Null ∷ col 1 2 ∷ col 1 3 ∷ lit (Int (pos 1)) ∷ [] }
@@ -54,7 +40,12 @@ unfolding understood everything
 runs_select_is = (refl, refl, (refl, refl), (omega arith, refl))
 
 abbrev pub there_query : Query
-there_query = record query { from = inner 3 end; filter = is (col 1 1) (col 0 0) ∷ is (col 1 2) (col 0 1) ∷ []; project = col 1 2 ∷ [] }
+there_query = record query {
+  from = inner 3 end;
+  filter = is (col 1 1) (col 0 0) ∷ is (col 1 2) (col 0 1) ∷ [];
+  project = col 1 2 ∷ [];
+  order = (col 1 2, ascending Binary) ∷ [];
+}
 
 pub there_is : (command_of (understood schema_2 there_text) ≡ select there_query (codes "position" ∷ [])) × (reads_listing schema_2 there_text ≡ false) × IsPlain (understood schema_2 there_text) × HasColumns 1 (understood schema_2 there_text)
 unfolding understood everything
@@ -74,15 +65,6 @@ pub pair_is : (command_of (understood schema_2 pair_text) ≡ Insert 3 (Values p
 unfolding understood everything
 pair_is = (refl, (refl, refl))
 
-abbrev pub five_terms : List Term
-five_terms =
-    lit Null ∷ col 0 0 ∷ col 0 1 ∷ col 0 2 ∷ col 0 3 ∷ col 0 4 ∷ lit Null ∷ col 0 0 ∷ col 0 1 ∷ col 0 5 ∷ col 0 6 ∷ col 0 7 ∷ lit Null ∷ col 0 0 ∷ col 0 1 ∷ col 0 8 ∷ col 0 9 ∷ col 0 10
-    ∷ lit Null ∷ col 0 0 ∷ col 0 1 ∷ col 0 11 ∷ col 0 12 ∷ col 0 13 ∷ lit Null ∷ col 0 0 ∷ col 0 1 ∷ col 0 14 ∷ col 0 15 ∷ col 0 16 ∷ []
-
-pub five_is : (command_of (understood schema_2 five_text) ≡ Insert 3 (Values five_terms 6)) × IsPlain (understood schema_2 five_text)
-unfolding understood everything
-five_is = (refl, (refl, refl))
-
 abbrev pub pairs_query : Query
 pairs_query = record query {
   from = inner 5 end;
@@ -96,36 +78,19 @@ pub pairs_select_is : (command_of (understood schema_2 pairs_text) ≡ select pa
 unfolding understood everything
 pairs_select_is = (refl, refl, (refl, refl), (omega arith, refl))
 
-abbrev pub outline_query : Query
-outline_query = record query {
+abbrev pub entries_query : Query
+entries_query = record query {
   from = inner 3 end;
   filter = is (col 1 1) (col 0 0) ∷ [];
-  project = col 1 2 ∷ col 1 3 ∷ col 1 4 ∷ col 1 5 ∷ col 1 6 ∷ col 1 7 ∷ col 1 8 ∷ [];
+  project = col 1 2 ∷ col 1 3 ∷ col 1 4 ∷ col 1 5 ∷ col 1 6 ∷ col 1 7 ∷ col 1 8 ∷ col 1 9 ∷ col 1 10 ∷ col 1 11 ∷ col 1 12 ∷ [];
   order = (col 1 2, ascending Binary) ∷ [];
 }
 
-pub outline_select_is : (command_of (understood schema_2 outline_text)
-    ≡ select outline_query (codes "position" ∷ codes "program" ∷ codes "case_name" ∷ codes "kind" ∷ codes "reason" ∷ codes "started" ∷ codes "millis" ∷ []))
-    × (reads_listing schema_2 outline_text ≡ false) × IsPlain (understood schema_2 outline_text) × HasColumns 7 (understood schema_2 outline_text)
+pub entries_select_is : (command_of (understood schema_2 entries_text)
+    ≡ select entries_query (codes "position" ∷ codes "program" ∷ codes "case_name" ∷ codes "kind" ∷ codes "reason" ∷ codes "started" ∷ codes "millis" ∷ codes "body_out" ∷ codes "body_err" ∷ codes "clean_out" ∷ codes "clean_err" ∷ []))
+    × (reads_listing schema_2 entries_text ≡ false) × IsPlain (understood schema_2 entries_text) × HasColumns 11 (understood schema_2 entries_text)
 unfolding understood everything
-outline_select_is = (refl, refl, (refl, refl), (omega arith, refl))
-
-abbrev pub outputs_query : Query
-outputs_query = record query {
-  from = inner 3 end;
-  filter = is (col 1 1) (col 0 0) ∷ is (col 1 2) (col 0 1) ∷ [];
-  project = col 1 9 ∷ col 1 10 ∷ col 1 11 ∷ col 1 12 ∷ [];
-  order = (col 1 2, ascending Binary) ∷ [];
-}
-
-pub outputs_select_is : (command_of (understood schema_2 outputs_text) ≡ select outputs_query (codes "body_out" ∷ codes "body_err" ∷ codes "clean_out" ∷ codes "clean_err" ∷ []))
-    × (reads_listing schema_2 outputs_text ≡ false) × IsPlain (understood schema_2 outputs_text) × HasColumns 4 (understood schema_2 outputs_text)
-unfolding understood everything
-outputs_select_is = (refl, refl, (refl, refl), (omega arith, refl))
-
-pub entries_is : IsPlain (understood schema_2 entries_text)
-unfolding understood everything
-entries_is = (refl, refl)
+entries_select_is = (refl, refl, (refl, refl), (omega arith, refl))
 
 pub number_is : IsPlain (understood schema_2 meta_text)
 unfolding understood everything

@@ -1,6 +1,6 @@
 -- Statements of a transaction, one after the other.
-use Rattle.std.proofs.Common.{◌≡◌, ◌≤◌, pos, ◌∙◌, ℕ, zero, suc, ◌+◌, ◌<◌, List, [], ◌∷◌, length, map, take, drop, refl, sym, ap, subst, arith, IsTrue, get_or}
-use Rattle.kt_store.proofs.Common.{Ghosts, Held, state, Trees, HasCleanDisk, KeepsCommit, Survives, keeps_then, survives_then, Variable, Statement, pair_statement, five_statement, pair_texts, pair_values, five_values, single_statements, pair_statements, plain_statements, Int, CommitsLater, RunsOne, RunInTurn}
+use Rattle.std.proofs.Common.{◌≡◌, ◌∙◌, ℕ, zero, suc, ◌+◌, ◌<◌, List, [], ◌∷◌, length, map, drop, refl, sym, ap, subst, arith, IsTrue, get_or}
+use Rattle.kt_store.proofs.Common.{Ghosts, Held, state, Trees, HasCleanDisk, KeepsCommit, Survives, keeps_then, survives_then, Variable, Statement, pair_statement, pair_statements, plain_statements, CommitsLater, RunsOne, RunInTurn}
 
 module _ {S : Type 0} (g : Ghosts S) where
   -- what is done now, and what the rest does to the whole
@@ -30,51 +30,8 @@ dropped : {T : Type 0} (vs : List T) (i : ℕ) (v : T) → i < length vs → v �
 dropped vs i v low is = dropped_or vs i v low ∙ ap (λ y. y ∷ drop (suc i) vs) (sym is)
 
 -- the pair at a place, and those after it
-pub pairs_at : (run position place i : ℕ) (vs : List Variable) (v : Variable) → i < length vs → v ≡ get_or vs i v → single_statements run position place (drop i vs) ≡ pair_statement run position place v ∷ single_statements run position (suc place) (drop (suc i) vs)
-pairs_at run position place i vs v low is = ap (single_statements run position place) (dropped vs i v low is)
-
--- the first five pairs, and those after them
-pub five_at : (run position place : ℕ) (vs : List Variable) → 5 ≤ length vs → pair_statements run position place vs ≡ five_statement run position place vs ∷ pair_statements run position (place + 5) (drop 5 vs)
-five_at run position place [] enough = absurd (omega (arith, enough))
-five_at run position place (a ∷ []) enough = absurd (omega (arith, enough))
-five_at run position place (a ∷ b ∷ []) enough = absurd (omega (arith, enough))
-five_at run position place (a ∷ b ∷ c ∷ []) enough = absurd (omega (arith, enough))
-five_at run position place (a ∷ b ∷ c ∷ d ∷ []) enough = absurd (omega (arith, enough))
-five_at run position place (a ∷ b ∷ c ∷ d ∷ e ∷ vs) enough =
-    let next : suc (suc (suc (suc (suc place)))) ≡ place + 5 = omega arith in
-    ap (λ k. five_statement run position place (a ∷ b ∷ c ∷ d ∷ e ∷ vs) ∷ pair_statements run position k vs) next
-
--- the values of the first five pairs
-pub values_at : (run position place : ℕ) (vs : List Variable) (a b c d e : Variable) → 5 ≤ length vs → a ≡ get_or vs 0 a → b ≡ get_or vs 1 b → c ≡ get_or vs 2 c → d ≡ get_or vs 3 d → e ≡ get_or vs 4 e
-    → Int (pos run) ∷ Int (pos position) ∷ pair_values place a (pair_values (place + 1) b (pair_values (place + 2) c (pair_values (place + 3) d (pair_values (place + 4) e [])))) ≡ five_values run position place vs
-values_at run position place [] a b c d e enough p q r s t = absurd (omega (arith, enough))
-values_at run position place (x ∷ []) a b c d e enough p q r s t = absurd (omega (arith, enough))
-values_at run position place (x ∷ y ∷ []) a b c d e enough p q r s t = absurd (omega (arith, enough))
-values_at run position place (x ∷ y ∷ z ∷ []) a b c d e enough p q r s t = absurd (omega (arith, enough))
-values_at run position place (x ∷ y ∷ z ∷ u ∷ []) a b c d e enough p q r s t = absurd (omega (arith, enough))
-values_at run position place (x ∷ y ∷ z ∷ u ∷ v ∷ vs) a b c d e enough p q r s t =
-    let one : a ≡ x = p in
-    let two : b ≡ y = q in
-    let three : c ≡ z = r in
-    let four : d ≡ u = s in
-    let five : e ≡ v = t in
-    rw (one, two, three, four, five) refl
-
--- the texts of the first five pairs
-pub pair_texts_at : (vs : List Variable) (a b c d e : Variable) → 5 ≤ length vs → a ≡ get_or vs 0 a → b ≡ get_or vs 1 b → c ≡ get_or vs 2 c → d ≡ get_or vs 3 d → e ≡ get_or vs 4 e
-    → pair_texts (a ∷ b ∷ c ∷ d ∷ e ∷ []) ≡ pair_texts (take 5 vs)
-pair_texts_at [] a b c d e enough p q r s t = absurd (omega (arith, enough))
-pair_texts_at (x ∷ []) a b c d e enough p q r s t = absurd (omega (arith, enough))
-pair_texts_at (x ∷ y ∷ []) a b c d e enough p q r s t = absurd (omega (arith, enough))
-pair_texts_at (x ∷ y ∷ z ∷ []) a b c d e enough p q r s t = absurd (omega (arith, enough))
-pair_texts_at (x ∷ y ∷ z ∷ u ∷ []) a b c d e enough p q r s t = absurd (omega (arith, enough))
-pair_texts_at (x ∷ y ∷ z ∷ u ∷ v ∷ vs) a b c d e enough p q r s t =
-    let one : a ≡ x = p in
-    let two : b ≡ y = q in
-    let three : c ≡ z = r in
-    let four : d ≡ u = s in
-    let five : e ≡ v = t in
-    rw (one, two, three, four, five) refl
+pub pairs_at : (run position place i : ℕ) (vs : List Variable) (v : Variable) → i < length vs → v ≡ get_or vs i v → pair_statements run position place (drop i vs) ≡ pair_statement run position place v ∷ pair_statements run position (suc place) (drop (suc i) vs)
+pairs_at run position place i vs v low is = ap (pair_statements run position place) (dropped vs i v low is)
 
 -- the text at a place, and those after it
 pub texts_at : {T : Type 0} (see : T → List ℕ) (i : ℕ) (vs : List T) (d : T) → i < length vs → plain_statements (map see (drop i vs)) ≡ (see (get_or vs i d), [], []) ∷ plain_statements (map see (drop (i + 1) vs))

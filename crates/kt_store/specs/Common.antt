@@ -21,21 +21,20 @@ pub use Rattle.kt_store.specs.Files.{AreOver, Ends, EndsIn, Finds, IsOver}
 pub use Rattle.kt_store.specs.Heads.{entry_at, head_of, no_output, outlined, outputs_of, with_pairs, without_outputs}
 pub use Rattle.kt_store.specs.Inner.Ask.{AreWide, Asked, HasColumns, MayShow, MayTell, ShowsOf, Told}
 pub use Rattle.kt_store.specs.Inner.Attaching.{HasNumber}
-pub use Rattle.kt_store.specs.Inner.Calls.{Statement, entry_statements, five_statement, pair_statement, pair_statements, plain_statements, single_statements}
+pub use Rattle.kt_store.specs.Inner.Calls.{Statement, entry_statements, pair_statement, pair_statements, plain_statements}
 pub use Rattle.kt_store.specs.Inner.Cursors.{CountsUnder, FindsUnder, Goes, HoldsCommit, Looks, LooksThrough, ShowsUnder, in_columns}
 pub use Rattle.kt_store.specs.Inner.Edits.{Fills, Obeys, PutsRows, Wrote, done_row, unnumbered}
 pub use Rattle.kt_store.specs.Inner.Fault.{Tells}
-pub use Rattle.kt_store.specs.Inner.Heads.{entry_columns, head_columns, output_columns, pair_columns, pairs_shown}
+pub use Rattle.kt_store.specs.Inner.Heads.{as_shown, entry_columns, head_columns, output_columns, pair_columns, pairs_shown, shown_columns, width_of}
 pub use Rattle.kt_store.specs.Inner.Opening.{ListsRuns, OpensOver}
 pub use Rattle.kt_store.specs.Inner.Places.{AreNamed, StandAt, places_2}
 pub use Rattle.kt_store.specs.Inner.Known.{HasRuns}
-pub use Rattle.kt_store.specs.Inner.Kept.{AsksNumber, Changes, CommitsNothing, FindsTables, KeepsRuns, LeavesSchema, MayChange, OnlyReads, WasClean}
+pub use Rattle.kt_store.specs.Inner.Kept.{AsksNumber, Changes, CommitsNothing, FindsTables, KeepsRuns, LeavesSchema, Looked, MayChange, WasClean}
 pub use Rattle.kt_store.specs.Inner.Runs.{CanAdd, IsBareIfPassed, IsComplete, entries_of}
 pub use Rattle.kt_store.specs.Inner.Transactions.{Commits, CommitsLater, MayCommit, RunsAll, RunsOne, Undoes}
-pub use Rattle.kt_store.specs.Inner.Whole.{AreAt}
 pub use Rattle.kt_store.specs.Runs.{AreNumbered, AreOrdered, AreRuns, IsEntry, IsPair, IsText, Keeps, KeepsOne, entry_row, finish, finish_refusal, flag, has_position, kind_code, new_run, pair_row, pair_rows, pair_rows_from, put_refusal, run_at, run_row, with_entry}
 pub use Rattle.kt_store.specs.Seeks.{HasCommitted, HoldsRuns, OpensRuns}
-pub use Rattle.kt_store.specs.Serving.{Agrees, Reads, Serves, changed_by}
+pub use Rattle.kt_store.specs.Serving.{Agrees, Reads, Serves, changed_by, results}
 pub use Rattle.kt_store.specs.Stands.{IsUnderstood, Leaves, SaysSchema, StandsFor}
 pub use Rattle.kt_store.specs.StoreCalls.{Began, Finished, Heads, Outline, Outputs, Put, seen_as}
 pub use Rattle.kt_store.specs.Tables.{entries_text, pairs_text, runs_text, schema_2}

@@ -14,4 +14,3 @@ pub mod Places
 pub mod Runs
 pub mod SupposedLaws
 pub mod Transactions
-pub mod Whole

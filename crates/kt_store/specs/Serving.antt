@@ -1,11 +1,15 @@
 -- What a call of a store does to its runs, by its answer.
 use Rattle.std.specs.Prelude.{suc, List, [], ◌∷◌, ◌++◌, ◌≡◌, ◌<◌, ◌≤◌, ◌⊎◌, Some, None, Ok, Err, length, map}
+use Rattle.sqlite.specs.Held.{Held, state}
+use Rattle.sqlite.specs.State.{HasCleanDisk}
+use Rattle.sqlite.specs.Store.{Ghosts}
 use Rattle.kt_base.specs.Limits.{last_run}
 use Rattle.kt_base.specs.declared.entry.Entry.{Entry}
 use Rattle.kt_base.specs.declared.entry.Run.{Run}
 use Rattle.kt_store.specs.Ask.{IsStoreFault}
 use Rattle.kt_store.specs.Heads.{head_of, outlined, outputs_of, entry_at}
-use Rattle.kt_store.specs.Runs.{new_run, run_at, with_entry, put_refusal, finish, finish_refusal}
+use Rattle.kt_store.specs.Runs.{AreNumbered, AreOrdered, KeepsOne, new_run, run_at, with_entry, put_refusal, finish, finish_refusal}
+use Rattle.kt_store.specs.Stands.{Leaves, StandsFor}
 use Rattle.kt_store.specs.StoreCalls.{StoreCall, Began, Put, Finished, Heads, Outline, Outputs}
 use Rattle.kt_store.specs.declared.result_store.Keeping as store
 use Rattle.kt_store.specs.declared.store_fault.StoreFault.TheVariants.{StoreFull, NoRun}
@@ -65,3 +69,14 @@ pub record Reads {R : Type 0} (r : store.Ghosts R) (old new : R) : Type 0 where
   pub stands : (runs : List Run) → r.stands old runs → r.stands new runs
   pub earlier : (runs : List Run) → r.stands old runs → r.sound new → r.sound old
   pub crash : (runs : List Run) (may : List (List Run)) → r.stands old runs → r.leaves old may → r.leaves new may
+
+-- what is known of the results of a connection; what each call returns is its own clause
+abbrev pub results : {S : Type 0} → Ghosts S → store.Ghosts (Held S)
+results g = record {
+  answers = λ _ _ _. Unit {0};
+  stands = λ s runs. StandsFor (state g s) runs × AreNumbered 1 runs × (HasCleanDisk (state g s) → AreOrdered runs);
+  sound = λ s. HasCleanDisk (state g s);
+  leaves = λ s may. Leaves (state g s) (KeepsOne may);
+  numbered = λ s runs h. h.1;
+  ordered = λ s runs h sound. h.2 sound;
+}

@@ -155,10 +155,6 @@ schema_2 = record { tables = meta_1 ∷ runs_1 ∷ entries_1 ∷ props_1 ∷ [];
 abbrev pub beside_meta : List Table → List Index → List View → Schema
 beside_meta others indexes views = record { tables = meta_1 ∷ others; indexes = indexes; views = views }
 
--- whether there are as many runs as there may be
-abbrev pub full_text : List ℕ
-full_text = codes "SELECT id FROM runs WHERE id = 1000000"
-
 -- a new run
 abbrev pub begin_text : List ℕ
 begin_text = codes "INSERT INTO runs (started, total, finished) VALUES (?1, ?2, 0)"
@@ -166,10 +162,6 @@ begin_text = codes "INSERT INTO runs (started, total, finished) VALUES (?1, ?2, 
 -- the total of a run, and whether it is finished
 abbrev pub run_text : List ℕ
 run_text = codes "SELECT total, finished FROM runs WHERE id = ?1"
-
--- how many entries a run has
-abbrev pub count_text : List ℕ
-count_text = codes "SELECT count(*) FROM entries WHERE run = ?1"
 
 -- a run is finished
 abbrev pub finish_text : List ℕ
@@ -181,23 +173,15 @@ runs_text = codes "SELECT id, started, total, finished FROM runs ORDER BY id"
 
 -- whether a run has an entry at a position
 abbrev pub there_text : List ℕ
-there_text = codes "SELECT position FROM entries WHERE run = ?1 AND position = ?2"
+there_text = codes "SELECT position FROM entries WHERE run = ?1 AND position = ?2 ORDER BY position"
 
 -- a new entry
 abbrev pub put_text : List ℕ
 put_text = codes "INSERT INTO entries (run, position, program, case_name, kind, reason, started, millis, body_out, body_err, clean_out, clean_err) VALUES (?1, ?2, ?3, ?4, ?5, ?6, ?7, ?8, ?9, ?10, ?11, ?12)"
 
--- the entries of a run by position, with all that `attach` looks for
+-- the entries of a run by position
 abbrev pub entries_text : List ℕ
 entries_text = codes "SELECT position, program, case_name, kind, reason, started, millis, body_out, body_err, clean_out, clean_err FROM entries WHERE run = ?1 ORDER BY position"
-
--- the entries of a run by position, without their outputs
-abbrev pub outline_text : List ℕ
-outline_text = codes "SELECT position, program, case_name, kind, reason, started, millis FROM entries WHERE run = ?1 ORDER BY position"
-
--- the outputs of the entry of a run at a position
-abbrev pub outputs_text : List ℕ
-outputs_text = codes "SELECT body_out, body_err, clean_out, clean_err FROM entries WHERE run = ?1 AND position = ?2 ORDER BY position"
 
 -- the pairs of a run by position and place
 abbrev pub pairs_text : List ℕ

@@ -1,5 +1,5 @@
-ghost use Rattle.std.specs.Prelude.{◌≡◌, ◌<◌, ◌≤◌, ◌^◌, length, map, List, IfOk, IfErr, ◌++◌, [], ◌∷◌, OnOk};
-ghost use Rattle.kt_store.specs.Common.{AllByRecursion, AreWide, HasCleanDisk, state, IsNoMemory, IsStoreFault, KeepsRuns, OnlyReads, head_columns, head_of, StandsFor};
+ghost use Rattle.std.specs.Prelude.{◌≡◌, ◌≤◌, length, map, List, IfOk, IfErr, ◌++◌, [], ◌∷◌, OnOk};
+ghost use Rattle.kt_store.specs.Common.{AreWide, HasCleanDisk, state, IsStoreFault, Looked, head_columns, head_of, StandsFor};
 ghost use Rattle.kt_base.specs.declared.entry.Run.{Run as Stored};
 
 use crate::store_fault::statements::query;
@@ -21,8 +21,6 @@ pub(crate) fn add<T: Drop>(items: &mut Vec<T>, item: T) -> Result<(), NoMemory>
 pub(crate) fn head_in(row: &Row) -> Result<RunHead, StoreFault>
     requires { 4 ≤ length row.now }
     ensures head { (r : Stored) → row.now ≡ head_columns r → IfOk result (λ h. h ≡ head_of r) }
-    ensures read { (r : Stored) → r.total < 2 ^ 32 → row.now ≡ head_columns r
-        → IfErr result IsNoMemory }
     ensures failed { IfErr result IsStoreFault }
 {
     let number = number_in(row, 0)?;
@@ -42,8 +40,6 @@ pub(crate) fn heads_in(alloc: Global, rows: &[Row]) -> Result<Vec<RunHead>, Stor
     requires { AreWide 4 rows.now }
     ensures heads { (runs : List Stored) → rows.now ≡ map head_columns runs
         → IfOk result (λ heads. heads.items ≡ map head_of runs) }
-    ensures read { (runs : List Stored) → AllByRecursion (λ (r : Stored). r.total < 2 ^ 32) runs
-        → rows.now ≡ map head_columns runs → IfErr result IsNoMemory }
     ensures failed { IfErr result IsStoreFault }
 {
     let mut heads = Vec::new(alloc);
@@ -63,8 +59,7 @@ pub(crate) fn all_heads<S: Alter>(
         → HasCleanDisk (state S.Store conn.new)
         → IfOk result (λ heads. heads.items ≡ map head_of runs) }
     ensures failed { IfErr result IsStoreFault }
-    ensures stands { KeepsRuns S.Store conn.old conn.new }
-    ensures crash { OnlyReads S.Store conn.old conn.new }
+    ensures looked { Looked S.Store conn.old conn.new }
 {
     let rows = query(
         conn,

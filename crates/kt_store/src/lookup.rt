@@ -1,10 +1,13 @@
 ghost use Rattle.std.specs.Prelude.{◌≡◌, ◌⊎◌, ◌<◌, ◌≤◌, ◌^◌, IfOk, IfErr, OnOk, Some, None, option_map, unsigned_abs};
-ghost use Rattle.kt_store.specs.Common.{HasCleanDisk, state, last_run, IsStoreFault, KeepsRuns, OnlyReads, entries_of, run_at, flag, AreRuns, has_position, StandsFor};
+ghost use Rattle.kt_store.specs.Common.{HasCleanDisk, state, last_run, IsStoreFault, Looked, entries_of, run_at, flag, AreRuns, has_position, StandsFor};
 
 use crate::StoreFault;
 use crate::store_fault::statements::{has_rows, query};
 use crate::value::{int, number_in};
 use sqlite::{Alter, Connection};
+
+/// How many runs this profile keeps.
+pub(crate) const MOST_RUNS: u64 = 1_000_000;
 
 /// The total of a run, and 1 where it is finished.
 pub(crate) fn find<S: Alter>(
@@ -13,10 +16,9 @@ pub(crate) fn find<S: Alter>(
 ) -> Result<Option<(u64, u64)>, StoreFault>
     requires { run < 2 ^ 63 }
     ensures failed { IfErr result IsStoreFault }
-    ensures crash { OnlyReads S.Store conn.old conn.new }
+    ensures looked { Looked S.Store conn.old conn.new }
     ensures valid { (runs : _) → StandsFor (state S.Store conn.old) runs
         → HasCleanDisk (state S.Store conn.new) → OnOk result (AreRuns runs) }
-    ensures kept { KeepsRuns S.Store conn.old conn.new }
     ensures found { (runs : _) → StandsFor (state S.Store conn.old) runs
         → HasCleanDisk (state S.Store conn.new)
         → IfOk result (λ o. o ≡ option_map (λ r. (r.total, unsigned_abs (flag r.finished)))
@@ -42,14 +44,13 @@ pub(crate) fn key(run: u64) -> u64
     ensures same { run ≤ last_run → result ≡ run }
     ensures none { last_run < run → result ≡ 0 }
 {
-    if run <= 1000000 { run } else { 0 }
+    if run <= MOST_RUNS { run } else { 0 }
 }
 
 /// The total of a run that is there, and whether it is finished.
 pub(crate) fn look<S: Alter>(conn: &mut Connection<S>, run: u64) -> Result<(u64, bool), StoreFault>
     ensures small { OnOk result (run ≤ last_run) }
-    ensures stands { KeepsRuns S.Store conn.old conn.new }
-    ensures crash { OnlyReads S.Store conn.old conn.new }
+    ensures looked { Looked S.Store conn.old conn.new }
     ensures found { (runs : _) → StandsFor (state S.Store conn.old) runs
         → HasCleanDisk (state S.Store conn.new)
         → IfOk result (λ p. (r : _) × (run_at runs run ≡ Some r) × (p.0 ≡ r.total)
@@ -76,15 +77,14 @@ pub(crate) fn there<S: Alter>(
 ) -> Result<bool, StoreFault>
     requires { run < 2 ^ 63 }
     ensures failed { IfErr result IsStoreFault }
-    ensures stands { KeepsRuns S.Store conn.old conn.new }
-    ensures crash { OnlyReads S.Store conn.old conn.new }
+    ensures looked { Looked S.Store conn.old conn.new }
     ensures found { (runs : _) → StandsFor (state S.Store conn.old) runs
         → HasCleanDisk (state S.Store conn.new)
         → IfOk result (λ b. b ≡ has_position position (entries_of (run_at runs run))) }
 {
     let rows = query(
         conn,
-        "SELECT position FROM entries WHERE run = ?1 AND position = ?2",
+        "SELECT position FROM entries WHERE run = ?1 AND position = ?2 ORDER BY position",
         1,
         &[int(run), int(u64::from(position))],
     )?;

@@ -1,5 +1,5 @@
 ghost use Rattle.std.specs.Prelude.{◌≡◌, ◌⊎◌, Some, None, IfOk, ◌<◌, ◌≤◌, ◌^◌, OnOk, OnErr, IfErr};
-ghost use Rattle.kt_store.specs.Common.{last_run, IsStorable, HasCleanDisk, state, IsNoMemory, IsStoreFault, KeepsRuns, OnlyReads, Changes, MayChange, CommitsLater, RunsAll, CanAdd, IsBareIfPassed, with_entry, kind_code, put_refusal, StandsFor, entry_statements};
+ghost use Rattle.kt_store.specs.Common.{last_run, IsStorable, HasCleanDisk, state, IsNoMemory, IsStoreFault, KeepsRuns, Looked, Changes, MayChange, CommitsLater, RunsAll, CanAdd, IsBareIfPassed, with_entry, kind_code, put_refusal, StandsFor, entry_statements};
 
 use crate::StoreFault;
 use crate::batch::Batch;
@@ -121,8 +121,7 @@ pub(crate) fn check<S: Alter>(
     entry: &Entry,
 ) -> Result<(), StoreFault>
     ensures small { OnOk result (run ≤ last_run) }
-    ensures stands { KeepsRuns S.Store conn.old conn.new }
-    ensures crash { OnlyReads S.Store conn.old conn.new }
+    ensures looked { Looked S.Store conn.old conn.new }
     ensures refused { (runs : _) → StandsFor (state S.Store conn.old) runs
         → HasCleanDisk (state S.Store conn.new)
         → IfErr result (λ e. IsStoreFault e ⊎ (put_refusal runs run entry.now ≡ Some e)) }

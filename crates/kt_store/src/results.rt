@@ -2,15 +2,13 @@ ghost use Rattle.std.specs.Prelude.{◌≡◌, ◌⊎◌, ◌<◌, IfOk, IfErr};
 ghost use Rattle.kt_store.specs.Common.{state, IsStoreFault, IsOf, Takes, Refuses};
 
 use crate::attach::settle;
+use crate::entries::all_entries;
 use crate::heads::all_heads;
-use crate::lookup::look;
 use crate::new_file::prepare;
-use crate::outlines::all_entries;
-use crate::outputs::find_outputs;
 use crate::put::{add_entry, check, reason_of};
 use crate::run_rows::{self, add_run, is_full, mark};
 use crate::store_fault::statements::open_file;
-use crate::{CaseOutputs, Keeping, ResultStore, RunHead, StoreFault};
+use crate::{RunHead, StoreFault};
 use kt_base::{Entry, Text};
 use sqlite::{Alter, Connection, FileFrom, FileStore, Start};
 use std::alloc::Global;
@@ -36,6 +34,9 @@ impl<S: Alter> Model for Results<S> {
 }
 
 impl<S: Alter> Results<S> {
+    ghost use Rattle.std.specs.Prelude.{◌≡◌, ◌⊎◌, Some, None, IfOk, IfErr};
+    ghost use Rattle.kt_store.specs.Common.{state, HasCleanDisk, IsMoment, IsStorable, IsStoreFault, IsOf, Takes, Refuses, Reads, Serves, StandsFor, Began, Put, Finished, Heads, results, run_at, seen_as};
+
     /// Takes the tables of a database; in an empty one it makes them, in one commit, and so it takes those of schema 1
     /// to schema 2. A refusal hands the connection back: `UnknownSchema` where the tables say a number other than 1 and
     /// 2, `Store` where the connection is in a transaction. Of a database with other tables nothing is said.
@@ -72,56 +73,56 @@ impl<S: Alter> Results<S> {
         let Results { conn, alloc: _ } = self;
         conn
     }
-}
 
-impl<S: Alter> Keeping for Results<S> {
-    ghost use Rattle.kt_store.specs.Common.{state, HasCleanDisk, AreNumbered, AreOrdered, KeepsOne, StandsFor, Leaves};
-
-    // What each call returns is its own clause.
-    ghost answers = { λ _ _ _. Unit {0} };
-
-    ghost stands = { λ s runs. StandsFor (state S.Store s) runs × AreNumbered 1 runs
-        × (HasCleanDisk (state S.Store s) → AreOrdered runs) };
-
-    ghost sound = { λ s. HasCleanDisk (state S.Store s) };
-
-    ghost leaves = { λ s may. Leaves (state S.Store s) (KeepsOne may) };
-
-    ghost numbered = { λ s runs h. h.1 };
-
-    ghost ordered = { λ s runs h sound. h.2 sound };
-}
-
-impl<S: Alter> ResultStore for Results<S> {
-    fn begin(&mut self, total: u32, moment: u64) -> Result<u64, StoreFault> {
+    /// Adds an unfinished run of `total` cases, and returns its number. The moment is in
+    /// milliseconds since 1970 in UTC. `StoreFull` where there are 1,000,000 runs.
+    pub fn begin(&mut self, total: u32, moment: u64) -> Result<u64, StoreFault>
+        requires { IsMoment moment }
+        ensures { Serves (results S.Store) (Began total moment result) self.old self.new }
+    {
         if is_full(&mut self.conn)? {
             return Err(StoreFault::StoreFull);
         }
         add_run(&mut self.conn, total, moment)
     }
 
-    fn put(&mut self, run: u64, entry: &Entry) -> Result<(), StoreFault> {
+    /// Adds an entry and its pairs to a run, with the refusals of `ResultStore::put`.
+    pub fn put(&mut self, run: u64, entry: &Entry) -> Result<(), StoreFault>
+        requires { IsStorable entry.now }
+        ensures { Serves (results S.Store) (Put run entry.now result) self.old self.new }
+    {
         let reason = reason_of(self.alloc, entry)?;
         check(&mut self.conn, run, entry)?;
         add_entry(&mut self.conn, run, entry, &reason)
     }
 
-    fn finish(&mut self, run: u64) -> Result<(), StoreFault> {
+    /// Finishes a run, with the refusals of `ResultStore::finish`.
+    pub fn finish(&mut self, run: u64) -> Result<(), StoreFault>
+        ensures { Serves (results S.Store) (Finished run result) self.old self.new }
+    {
         run_rows::check(&mut self.conn, run)?;
         mark(&mut self.conn, run)
     }
 
-    fn runs(&mut self) -> Result<Vec<RunHead>, StoreFault> {
+    /// All runs without their entries, by number.
+    pub fn runs(&mut self) -> Result<Vec<RunHead>, StoreFault>
+        ensures { Serves (results S.Store) (Heads (seen_as (λ heads. heads.items) result))
+            self.old self.new }
+    {
         all_heads(&mut self.conn, self.alloc)
     }
 
-    fn outline(&mut self, run: u64, pairs: bool) -> Result<Vec<Entry>, StoreFault> {
-        look(&mut self.conn, run)?;
-        all_entries(&mut self.conn, self.alloc, run, pairs)
-    }
-
-    fn outputs(&mut self, run: u64, position: u32) -> Result<CaseOutputs, StoreFault> {
-        find_outputs(&mut self.conn, run, position)
+    /// The entries of a run with their pairs and their outputs, by position. `NoRun` where no run has the number.
+    pub fn entries(&mut self, run: u64) -> Result<Vec<Entry>, StoreFault>
+        ensures reads { Reads (results S.Store) self.old self.new }
+        ensures entries { (runs : _) → StandsFor (state S.Store self.old) runs
+            → HasCleanDisk (state S.Store self.new) → IfOk result (λ found. (r : _)
+            × (run_at runs run ≡ Some r) × (found.items ≡ r.entries)) }
+        ensures refused { (runs : _) → StandsFor (state S.Store self.old) runs
+            → HasCleanDisk (state S.Store self.new) → IfErr result (λ e. IsStoreFault e
+            ⊎ ((e ≡ StoreFault.NoRun) × (run_at runs run ≡ None))) }
+    {
+        all_entries(&mut self.conn, self.alloc, run)
     }
 }
 

@@ -1,10 +1,11 @@
-ghost use Rattle.std.specs.Prelude.{◌≡◌, ◌<◌, ◌≤◌, ◌++◌, suc, [], ◌∷◌, length, true, false, IfOk, OnOk, OnErr, IfErr, ◌⊎◌, ◌^◌, min, Some, None};
-ghost use Rattle.kt_store.specs.Common.{last_run, IsMoment, HasCleanDisk, state, IsStoreFault, KeepsRuns, OnlyReads, Changes, MayChange, new_run, StandsFor, entries_of, IsComplete, run_at, finish, finish_refusal};
+ghost use Rattle.std.specs.Prelude.{◌≡◌, ◌<◌, ◌≤◌, ◌++◌, suc, [], ◌∷◌, length, true, false, IfOk, OnOk, OnErr, IfErr, ◌⊎◌, ◌^◌, Some, None};
+ghost use Rattle.kt_store.specs.Common.{last_run, IsMoment, HasCleanDisk, state, IsStoreFault, KeepsRuns, Looked, Changes, MayChange, new_run, StandsFor, IsComplete, finish, finish_refusal};
 
 use crate::StoreFault;
-use crate::lookup::look;
-use crate::store_fault::statements::{has_rows, query, tell};
-use crate::value::{int, number_in};
+use crate::entries::entry_rows;
+use crate::lookup::{MOST_RUNS, find, look};
+use crate::store_fault::statements::tell;
+use crate::value::int;
 use sqlite::{Alter, Connection};
 
 /// Whether there are as many runs as may be.
@@ -13,12 +14,10 @@ pub(crate) fn is_full<S: Alter>(conn: &mut Connection<S>) -> Result<bool, StoreF
         → HasCleanDisk (state S.Store conn.new)
         → IfOk result (λ full. (full ≡ true → last_run ≤ length runs)
         × (full ≡ false → length runs < last_run)) }
-    ensures stands { KeepsRuns S.Store conn.old conn.new }
+    ensures looked { Looked S.Store conn.old conn.new }
     ensures failed { IfErr result IsStoreFault }
-    ensures crash { OnlyReads S.Store conn.old conn.new }
 {
-    let rows = query(conn, "SELECT id FROM runs WHERE id = 1000000", 1, &[])?;
-    Ok(has_rows(&rows))
+    Ok(find(conn, MOST_RUNS)?.is_some())
 }
 
 /// Adds the run after the last one, and returns its number.
@@ -46,33 +45,10 @@ pub(crate) fn add_run<S: Alter>(
     Ok(conn.last_insert_rowid().unsigned_abs())
 }
 
-/// How many entries the run has, none without a row; SQL counts no further than its integers go.
-pub(crate) fn count<S: Alter>(conn: &mut Connection<S>, run: u64) -> Result<u64, StoreFault>
-    requires { run < 2 ^ 63 }
-    ensures failed { IfErr result IsStoreFault }
-    ensures stands { KeepsRuns S.Store conn.old conn.new }
-    ensures crash { OnlyReads S.Store conn.old conn.new }
-    ensures found { (runs : _) → StandsFor (state S.Store conn.old) runs
-        → HasCleanDisk (state S.Store conn.new)
-        → IfOk result (λ n. n ≡ min (length (entries_of (run_at runs run))) 9223372036854775807) }
-{
-    let rows = query(
-        conn,
-        "SELECT count(*) FROM entries WHERE run = ?1",
-        1,
-        &[int(run)],
-    )?;
-    let Some(row) = rows.first() else {
-        return Ok(0);
-    };
-    number_in(row, 0)
-}
-
 /// Asks whether the run may be finished.
 pub(crate) fn check<S: Alter>(conn: &mut Connection<S>, run: u64) -> Result<(), StoreFault>
     ensures small { OnOk result (run ≤ last_run) }
-    ensures stands { KeepsRuns S.Store conn.old conn.new }
-    ensures crash { OnlyReads S.Store conn.old conn.new }
+    ensures looked { Looked S.Store conn.old conn.new }
     ensures refused { (runs : _) → StandsFor (state S.Store conn.old) runs
         → HasCleanDisk (state S.Store conn.new)
         → IfErr result (λ e. IsStoreFault e ⊎ (finish_refusal runs run ≡ Some e)) }
@@ -84,8 +60,9 @@ pub(crate) fn check<S: Alter>(conn: &mut Connection<S>, run: u64) -> Result<(), 
     if finished {
         return Err(StoreFault::RunClosed);
     }
-    let entries = count(conn, run)?;
-    if entries < total {
+    let rows = entry_rows(conn, run)?;
+    let count = rows.as_slice().len() as u64;
+    if count < total {
         return Err(StoreFault::Incomplete);
     }
     Ok(())

@@ -168,10 +168,10 @@ fn all_entries<S: Store>(
         &[2, 3, 4, 5, 6, 7, 8],
     )?;
     if !pairs {
-        return entries_in(alloc, &rows, &[]);
+        return entries_in(alloc, &rows, &[], false);
     }
     let shown = rows_in(store, alloc, &pairs_at(places), run, &[2, 4, 5])?;
-    entries_in(alloc, &rows, &shown)
+    entries_in(alloc, &rows, &shown, false)
 }
 
 /// Whether a run with this head has so many entries: a finished one as many as its total, another no more.

@@ -1,5 +1,5 @@
 ghost use Rattle.std.specs.Prelude.{◌≡◌, ◌<◌, ◌^◌, pos, ℕ, length, IfOk, IfErr};
-ghost use Rattle.kt_store.specs.Common.{utf8, owned, Int, Blob, IsText, column, IsNoMemory, IsStoreFault};
+ghost use Rattle.kt_store.specs.Common.{utf8, owned, Int, Blob, IsText, column, IsStoreFault};
 ghost use Rattle.sqlite_value.specs.declared.value.Value.TheVariants.{Text as Words};
 
 use crate::StoreFault;
@@ -34,7 +34,6 @@ pub(crate) fn blob(bytes: &Bytes) -> ValueRef<'_>
 pub(crate) fn number_in(row: &Row, at: usize) -> Result<u64, StoreFault>
     requires { at < length row.now }
     ensures number { IfOk result (λ n. column row.now at ≡ Int (pos n)) }
-    ensures read { (n : ℕ) → column row.now at ≡ Int (pos n) → IfErr result IsNoMemory }
     ensures failed { IfErr result IsStoreFault }
 {
     value_in::<u64>(row, at)
@@ -44,8 +43,6 @@ pub(crate) fn number_in(row: &Row, at: usize) -> Result<u64, StoreFault>
 pub(crate) fn small_in(row: &Row, at: usize) -> Result<u32, StoreFault>
     requires { at < length row.now }
     ensures number { IfOk result (λ n. column row.now at ≡ Int (pos n)) }
-    ensures read { (n : ℕ) → n < 2 ^ 32 → column row.now at ≡ Int (pos n)
-        → IfErr result IsNoMemory }
     ensures failed { IfErr result IsStoreFault }
 {
     value_in::<u32>(row, at)

@@ -25,6 +25,11 @@ module _ {S : Type 0} (g : Ghosts S) (old new : Held S) where
   abbrev pub OnlyReads : Type 0
   OnlyReads = (runs : List Run) → StandsFor (state g old) runs → CommitsNothing
 
+  -- a call that only reads: the tables stand for the same runs, and a crash leaves only what it left before
+  pub record Looked : Type 0 where
+    pub stands : KeepsRuns
+    pub crash : OnlyReads
+
   -- a call that asks for the schema's number: if there is a number, it commits nothing and leaves the database as it was, or as its last
   -- commit left it
   pub record AsksNumber : Type 0 where

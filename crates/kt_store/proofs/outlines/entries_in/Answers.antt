@@ -1,9 +1,8 @@
 use Rattle.kt_store.specs.Inner.Heads.{pair_count}
-use Rattle.std.proofs.Common.{rules, pos, List, ◌≡◌, ◌∙◌, ◌<◌, ◌+◌, suc, [], ◌∷◌, ◌++◌, map, take, drop, get_or, length, sym, ap, subst, arith}
-use Rattle.kt_store.proofs.Common.{length-map, map-append, take_all, Entry, column, Int, IsNoMemory, without_outputs, entry_columns, pair_columns, pairs_shown}
-use Rattle.kt_store.proofs.EntriesLemmas.{one_sound}
-use Rattle.kt_store.proofs.FaultLemmas.{if_same, starved_err}
-use Rattle.kt_store.proofs.MergeLemmas.{Later, at, entry_position}
+use Rattle.std.proofs.Common.{rules, List, ◌≡◌, ◌∙◌, ◌<◌, ◌+◌, suc, [], ◌∷◌, ◌++◌, map, take, drop, get_or, length, sym, ap, subst, arith}
+use Rattle.kt_store.proofs.Common.{length-map, map-append, take_all, Entry, as_shown, shown_columns, pair_columns, pairs_shown}
+use Rattle.kt_store.proofs.FaultLemmas.{starved_err}
+use Rattle.kt_store.proofs.MergeLemmas.{Later, at, enough, entry_position}
 use Rattle.kt_store.proofs.WideLemmas.{one_wide}
 use Rattle.kt_store.proofs.outlines.entries_in.Goals as goal
 
@@ -13,27 +12,29 @@ counted [] e = omega arith
 counted (x ∷ es) e = ap (λ n. length x.meta + n) (counted es e) ∙ omega arith
 
 pub small_in-requires : goal.small_in-requires
-small_in-requires c = omega (arith, one_wide 7 c.args.rows.now c.loop-row.row-index c.row-item.result c.requires.rows (omega (arith, c.loop-row-test.true)) c.row-item.is)
+small_in-requires c = omega (arith, enough c.args.whole _ (one_wide _ c.args.rows.now c.loop-row.row-index c.row-item.result c.requires.rows (omega (arith, c.loop-row-test.true)) c.row-item.is))
 
 pub entry_in-requires : goal.entry_in-requires
-entry_in-requires c = one_wide 7 c.args.rows.now c.loop-row.row-index c.row-item.result c.requires.rows (omega (arith, c.loop-row-test.true)) c.row-item.is
+entry_in-requires c =
+    let wide = one_wide _ c.args.rows.now c.loop-row.row-index c.row-item.result c.requires.rows (omega (arith, c.loop-row-test.true)) c.row-item.is in
+    record { parts = enough c.args.whole _ wide; outputs = wide }
 
 pub loop-row-preserved : goal.loop-row-preserved
 loop-row-preserved c = (
   λ es sound up are pairs.
       let pushed : c.add.new.items.items ≡ c.loop-row.entries.items ++ c.in_ok-entry.entry ∷ [] = search rules in
       let i = c.loop-row.row-index in
-      let low : i < length es = omega (arith, c.loop-row-test.true, ap length are, length-map es entry_columns) in
-      let it = at es i c.row-item.result sound up low (subst (λ l. c.row-item.result ≡ get_or l i c.row-item.result) are c.row-item.is) in
-      let position : c.in_ok-small_in.field-0 ≡ it.entry.position = entry_position c.in_ok-small_in.field-0 it.entry c.row-item.result it.row c.in_ok-small_in.ensures.number in
+      let low : i < length es = omega (arith, c.loop-row-test.true, ap length are, length-map es (shown_columns c.args.whole)) in
+      let it = at c.args.whole es i c.row-item.result sound up low (subst (λ l. c.row-item.result ≡ get_or l i c.row-item.result) are c.row-item.is) in
+      let position : c.in_ok-small_in.field-0 ≡ it.entry.position = entry_position c.args.whole c.in_ok-small_in.field-0 it.entry c.row-item.result it.row c.in_ok-small_in.ensures.number in
       let rest : c.loop-row.rest.now ≡ map (pair_columns c.in_ok-small_in.field-0) it.entry.meta ++ pairs_shown (drop (suc i) es) =
       (c.loop-row.invariant.0 es sound up are pairs).1 ∙ ap pairs_shown it.behind ∙ ap (λ p. map (pair_columns p) it.entry.meta ++ pairs_shown (drop (suc i) es)) (sym position) in
       let later : Later c.in_ok-small_in.field-0 (drop (suc i) es) = subst (λ p. Later p (drop (suc i) es)) (sym position) it.later in
       let found = c.in_ok-meta.ensures.meta it.entry.meta (drop (suc i) es) it.sound.meta later rest in
-      let entry : c.in_ok-entry.entry ≡ without_outputs it.entry = c.in_ok-entry.ensures.entry it.entry it.sound it.row found.0 in
+      let entry : c.in_ok-entry.entry ≡ as_shown c.args.whole it.entry = c.in_ok-entry.ensures.entry it.entry it.sound it.row found.0 in
       let place : suc i ≡ i + 1 = omega arith in (
-        pushed ∙ ap (λ e. c.loop-row.entries.items ++ e ∷ []) entry ∙ ap (λ l. l ++ without_outputs it.entry ∷ []) (c.loop-row.invariant.0 es sound up are pairs).0
-            ∙ sym (map-append without_outputs (take i es) (it.entry ∷ [])) ∙ ap (map without_outputs) (sym it.before) ∙ ap (λ k. map without_outputs (take k es)) place,
+        pushed ∙ ap (λ e. c.loop-row.entries.items ++ e ∷ []) entry ∙ ap (λ l. l ++ as_shown c.args.whole it.entry ∷ []) (c.loop-row.invariant.0 es sound up are pairs).0
+            ∙ sym (map-append (as_shown c.args.whole) (take i es) (it.entry ∷ [])) ∙ ap (map (as_shown c.args.whole)) (sym it.before) ∙ ap (λ k. map (as_shown c.args.whole) (take k es)) place,
         found.1 ∙ ap (λ k. pairs_shown (drop k es)) place,
       ),
   c.in_ok-meta.ensures.wide,
@@ -48,33 +49,7 @@ loop-row-preserved c = (
 )
 
 pub returns-clause-entries : goal.returns-clause-entries
-returns-clause-entries c es sound up are pairs = (c.loop-row.invariant.0 es sound up are pairs).0 ∙ ap (map without_outputs) (take_all c.loop-row.row-index es (omega (arith, c.loop-row-test.false, ap length are, length-map es entry_columns)))
-
-pub returns-in_err-small_in-clause-read : goal.returns-in_err-small_in-clause-read
-returns-in_err-small_in-clause-read c es sound up small are pairs =
-    let i = c.loop-row.row-index in
-    let low : i < length es = omega (arith, c.loop-row-test.true, ap length are, length-map es entry_columns) in
-    let fits = one_sound (λ (e : Entry). e.position < 4294967296) entry_columns (λ (e : Entry). e) es i c.row-item.result small low (subst (λ l. c.row-item.result ≡ get_or l i c.row-item.result) are c.row-item.is) in
-    if_same IsNoMemory c.from_residual.result c.in_err-small_in.field-0.0 c.from_residual.ensures.1 (c.in_err-small_in.ensures.read fits.0.position fits.1 (ap (λ l. column l 0) fits.2))
-
-pub returns-in_err-meta-clause-read : goal.returns-in_err-meta-clause-read
-returns-in_err-meta-clause-read c es sound up small are pairs =
-    let i = c.loop-row.row-index in
-    let low : i < length es = omega (arith, c.loop-row-test.true, ap length are, length-map es entry_columns) in
-    let it = at es i c.row-item.result sound up low (subst (λ l. c.row-item.result ≡ get_or l i c.row-item.result) are c.row-item.is) in
-    let position : c.in_ok-small_in.field-0 ≡ it.entry.position = entry_position c.in_ok-small_in.field-0 it.entry c.row-item.result it.row c.in_ok-small_in.ensures.number in
-    let rest : c.loop-row.rest.now ≡ map (pair_columns c.in_ok-small_in.field-0) it.entry.meta ++ pairs_shown (drop (suc i) es) =
-    (c.loop-row.invariant.0 es sound up are pairs).1 ∙ ap pairs_shown it.behind ∙ ap (λ p. map (pair_columns p) it.entry.meta ++ pairs_shown (drop (suc i) es)) (sym position) in
-    let later : Later c.in_ok-small_in.field-0 (drop (suc i) es) = subst (λ p. Later p (drop (suc i) es)) (sym position) it.later in
-    if_same IsNoMemory c.from_residual-in_err-meta.result c.in_err-meta.field-0.0 c.from_residual-in_err-meta.ensures.1 (c.in_err-meta.ensures.read it.entry.meta (drop (suc i) es) it.sound.meta later rest)
-
-pub returns-in_err-entry-clause-read : goal.returns-in_err-entry-clause-read
-returns-in_err-entry-clause-read c es sound up small are pairs =
-    let i = c.loop-row.row-index in
-    let low : i < length es = omega (arith, c.loop-row-test.true, ap length are, length-map es entry_columns) in
-    let it = at es i c.row-item.result sound up low (subst (λ l. c.row-item.result ≡ get_or l i c.row-item.result) are c.row-item.is) in
-    let fits = one_sound (λ (e : Entry). e.position < 4294967296) entry_columns (λ (e : Entry). e) es i c.row-item.result small low (subst (λ l. c.row-item.result ≡ get_or l i c.row-item.result) are c.row-item.is) in
-    if_same IsNoMemory c.from_residual-in_err-entry.result c.in_err-entry.field-0.0 c.from_residual-in_err-entry.ensures.1 (c.in_err-entry.ensures.read it.entry it.sound (let q : Int (pos fits.0.position) ≡ Int (pos it.entry.position) = ap (λ l. column l 0) (sym fits.2 ∙ it.row) in let same : fits.0.position ≡ it.entry.position = cc in omega (arith, same, fits.1)) it.row)
+returns-clause-entries c es sound up are pairs = (c.loop-row.invariant.0 es sound up are pairs).0 ∙ ap (map (as_shown c.args.whole)) (take_all c.loop-row.row-index es (omega (arith, c.loop-row-test.false, ap length are, length-map es (shown_columns c.args.whole))))
 
 pub returns-in_err-add-clause-failed : goal.returns-in_err-add-clause-failed
 returns-in_err-add-clause-failed c = starved_err c.from_residual-in_err-add.result c.from_residual-in_err-add.ensures.1

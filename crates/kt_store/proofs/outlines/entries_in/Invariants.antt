@@ -1,8 +1,8 @@
 use Rattle.std.proofs.Common.{◌≡◌, ◌+◌, ◌<◌, List, length, map, take, drop}
-use Rattle.kt_store.proofs.Common.{AreWide, Entry, AllByRecursion, IsAscending, IsEntry, without_outputs, entry_columns, pairs_shown}
+use Rattle.kt_store.proofs.Common.{AreWide, Entry, AllByRecursion, IsAscending, IsEntry, as_shown, pairs_shown, shown_columns}
 use Rattle.kt_store.specs.Inner.Heads.{pair_count}
 use Rattle.kt_store.proofs.outlines.entries_in.Given as goal
 
 abbrev pub invariant-loop-row : goal.invariant-loop-row
-invariant-loop-row l = ((es : List Entry) → AllByRecursion IsEntry es → IsAscending (λ (a b : Entry). a.position < b.position) es → l.rows ≡ map entry_columns es → l.pairs ≡ pairs_shown es
-    → (l.entries.items ≡ map without_outputs (take l.row-index es)) × (l.rest ≡ pairs_shown (drop l.row-index es))) × AreWide 3 l.rest × (pair_count l.entries.items + length l.rest ≡ length l.pairs)
+invariant-loop-row l = ((es : List Entry) → AllByRecursion IsEntry es → IsAscending (λ (a b : Entry). a.position < b.position) es → l.rows ≡ map (shown_columns l.whole) es → l.pairs ≡ pairs_shown es
+    → (l.entries.items ≡ map (as_shown l.whole) (take l.row-index es)) × (l.rest ≡ pairs_shown (drop l.row-index es))) × AreWide 3 l.rest × (pair_count l.entries.items + length l.rest ≡ length l.pairs)

@@ -1,6 +1,6 @@
-use Rattle.std.proofs.Common.{[], ◌∷◌, ◌∙◌, sym, ap, subst, arith, rules, length, length-append}
+use Rattle.std.proofs.Common.{[], ◌∷◌, ◌∙◌, sym, ap, subst, arith, length, length-append}
 use Rattle.kt_store.proofs.Common.{AreWide}
-use Rattle.kt_store.proofs.MergeLemmas.{next_is, first_column, next_pair, one_read, all_read, no_more}
+use Rattle.kt_store.proofs.MergeLemmas.{one_read, all_read, no_more}
 use Rattle.kt_store.proofs.outlines.meta_in.Goals as goal
 
 pub number_in-requires : goal.number_in-requires
@@ -9,28 +9,12 @@ number_in-requires c = omega (arith, (subst (AreWide 3) c.in-Some.ensures.cases.
 pub pair_in-requires : goal.pair_in-requires
 pair_in-requires c = (subst (AreWide 3) c.in-Some.ensures.cases.0 c.loop-row.invariant.1).0
 
-pub returns-in_err-number_in-clause-read : goal.returns-in_err-number_in-clause-read
-returns-in_err-number_in-clause-read c vs others sound later are =
-    let it = c.loop-row.invariant.0 vs others sound later are in
-    let next = next_is c.args.position it.0 others c.in-Some.row.now c.in-Some.after.now later (sym c.in-Some.ensures.cases.0 ∙ it.2) in
-    let first = first_column c.args.position it.0 others c.in-Some.row.now c.in-Some.after.now next in
-    let memory = c.in_err-number_in.ensures.read first.0 first.1 in
-    search rules
-
 pub returns-then-branch-from-clause-meta : goal.returns-then-branch-from-clause-meta
 returns-then-branch-from-clause-meta c vs others sound later are =
     let it = c.loop-row.invariant.0 vs others sound later are in
     let none = no_more c.args.position c.in_ok-number_in.field-0 it.0 others c.in-Some.row.now c.loop-row.rest.now c.in-Some.after.now c.in-Some.ensures.cases.0 c.in_ok-number_in.ensures.number
     (λ e. c.if-branch-from.true (e ∙ sym c.from.ensures)) later it.2 in
     all_read c.args.position c.loop-row.meta vs it.0 others c.loop-row.rest.now it.1 none it.2
-
-pub returns-in_err-pair_in-clause-read : goal.returns-in_err-pair_in-clause-read
-returns-in_err-pair_in-clause-read c vs others sound later are =
-    let it = c.loop-row.invariant.0 vs others sound later are in
-    let next = next_is c.args.position it.0 others c.in-Some.row.now c.in-Some.after.now later (sym c.in-Some.ensures.cases.0 ∙ it.2) in
-    let pair = next_pair c.args.position c.in_ok-number_in.field-0 it.0 others c.in-Some.row.now c.in-Some.after.now next c.in_ok-number_in.ensures.number (c.if-branch-from.false ∙ c.from.ensures) it.3 in
-    let memory = c.in_err-pair_in.ensures.read c.args.position pair.0 pair.1 pair.2 in
-    search rules
 
 pub loop-row-preserved : goal.loop-row-preserved
 loop-row-preserved c = (

@@ -1,17 +1,18 @@
-use Rattle.std.proofs.Common.{◌+◌, drop, subst, sym, arith, rules}
-use Rattle.kt_store.proofs.Common.{pair_statements, five_statement}
-use Rattle.kt_store.proofs.TurnLemmas.{SoFar, one_done, five_at}
+use Rattle.std.proofs.Common.{◌≡◌, ◌+◌, ◌∷◌, suc, subst, arith, rules, drop}
+use Rattle.kt_store.proofs.Common.{pair_statements, pair_statement}
+use Rattle.kt_store.proofs.TurnLemmas.{SoFar, one_done, pairs_at}
 use Rattle.kt_store.proofs.pairs.add_pairs.Goals as goal
 
-pub loop-rest-preserved : goal.loop-rest-preserved
-loop-rest-preserved g c =
-    let rest = c.loop-rest.rest.now in
-    let place = c.loop-rest.place in
-    let start = c.args.tx.now.conn.now in
-    let now = c.loop-rest.tx.conn.now in
-    let next = c.add_five.new.tx.conn.now in
-    let all = pair_statements c.args.run c.args.position 0 c.args.pairs.now in
-    let so_far = subst (λ l. SoFar g.S.Store all l start now) (five_at c.args.run c.args.position place rest (omega (arith, c.loop-rest-test.true))) c.loop-rest.invariant.2 in
-    let more = one_done g.S.Store all (pair_statements c.args.run c.args.position (place + 5) (drop 5 rest)) (five_statement c.args.run c.args.position place rest) start now next so_far c.add_five.ensures.uncommitted
-    (λ clean inside. c.in_ok-add_five.ensures.runs clean inside) in
-    (omega (arith, c.loop-rest.invariant.0), search rules, subst (λ l. SoFar g.S.Store all (pair_statements c.args.run c.args.position (place + 5) l) start next) (sym c.split_at.ensures.back) more)
+pub loop-pair-preserved : goal.loop-pair-preserved
+loop-pair-preserved g c =
+    let i = c.loop-pair.pair-index in
+    let vs = c.args.pairs.now in
+    let statement = pair_statement c.args.run c.args.position i c.pair-item.result in
+    let all = pair_statements c.args.run c.args.position 0 vs in
+    let rest = pair_statements c.args.run c.args.position (suc i) (drop (suc i) vs) in
+    let so_far : SoFar g.S.Store all (statement ∷ rest) c.args.tx.now.conn.now c.loop-pair.tx.conn.now =
+    subst (λ l. SoFar g.S.Store all l c.args.tx.now.conn.now c.loop-pair.tx.conn.now) (pairs_at c.args.run c.args.position i i vs c.pair-item.result c.loop-pair-test.true c.pair-item.is) c.loop-pair.invariant.2 in
+    let more = one_done g.S.Store all rest statement c.args.tx.now.conn.now c.loop-pair.tx.conn.now c.add_pair.new.tx.conn.now so_far c.add_pair.ensures.uncommitted
+    (λ clean inside. rw c.loop-pair.invariant.0 at (c.in_ok-add_pair.ensures.runs clean inside)) in
+    let next : suc i ≡ i + 1 = omega arith in
+    (omega (arith, c.loop-pair.invariant.0), search rules, subst (λ j. SoFar g.S.Store all (pair_statements c.args.run c.args.position j (drop j vs)) c.args.tx.now.conn.now c.add_pair.new.tx.conn.now) next more)

@@ -1,6 +1,7 @@
 use Rattle.std.proofs.Common.{arith}
-use Rattle.kt_store.proofs.Common.{bound}
+use Rattle.kt_store.proofs.Common.{Tables, bound, state}
 use Rattle.kt_store.proofs.AskLemmas.{asked_mid, asked_stands, asked_survives}
+use Rattle.kt_store.proofs.StepLemmas.{rests_hold}
 use Rattle.kt_store.proofs.store_fault.statements.query.Goals as goal
 
 pub returns-clause-shown : goal.returns-clause-shown
@@ -12,22 +13,20 @@ returns-clause-shown g c runs has clean =
       shown = it.shown;
     }
 
-pub returns-clause-stands : goal.returns-clause-stands
-returns-clause-stands g c runs has =
-    asked_stands g.S.Store c.args.conn.now c.ask.new.conn runs has (λ k. omega (arith, k, c.ask.ensures.survives.clean)) c.args.sql.now c.requires.plain (bound c.args.params.now) c.in_ok-rows.rows.items (λ clean. c.in_ok-rows.ensures.rows clean)
+pub returns-in_err-rows-clause-looked : goal.returns-in_err-rows-clause-looked
+returns-in_err-rows-clause-looked g c = record {
+  stands = λ runs has. rests_hold (λ db. Tables db runs) (state g.S.Store c.args.conn.now) (state g.S.Store c.ask.new.conn) has (λ k. omega (arith, k, c.ask.ensures.survives.clean)) c.in_err-rows.ensures.rests;
+  crash = λ runs has. asked_survives g.S.Store c.args.conn.now c.ask.new.conn runs has (λ k. omega (arith, k, c.ask.ensures.survives.clean)) c.args.sql.now c.requires.plain (bound c.args.params.now) c.ask.ensures.survives;
+}
 
-pub returns-in_err-have_columns-clause-stands : goal.returns-in_err-have_columns-clause-stands
-returns-in_err-have_columns-clause-stands g c runs has =
-    asked_stands g.S.Store c.args.conn.now c.ask.new.conn runs has (λ k. omega (arith, k, c.ask.ensures.survives.clean)) c.args.sql.now c.requires.plain (bound c.args.params.now) c.in_ok-rows.rows.items (λ clean. c.in_ok-rows.ensures.rows clean)
+pub returns-in_err-have_columns-clause-looked : goal.returns-in_err-have_columns-clause-looked
+returns-in_err-have_columns-clause-looked g c = record {
+  stands = λ runs has. asked_stands g.S.Store c.args.conn.now c.ask.new.conn runs has (λ k. omega (arith, k, c.ask.ensures.survives.clean)) c.args.sql.now c.requires.plain (bound c.args.params.now) c.in_ok-rows.rows.items (λ clean. c.in_ok-rows.ensures.rows clean);
+  crash = λ runs has. asked_survives g.S.Store c.args.conn.now c.ask.new.conn runs has (λ k. omega (arith, k, c.ask.ensures.survives.clean)) c.args.sql.now c.requires.plain (bound c.args.params.now) c.ask.ensures.survives;
+}
 
-pub returns-in_err-have_columns-clause-crash : goal.returns-in_err-have_columns-clause-crash
-returns-in_err-have_columns-clause-crash g c runs has =
-    asked_survives g.S.Store c.args.conn.now c.ask.new.conn runs has (λ k. omega (arith, k, c.ask.ensures.survives.clean)) c.args.sql.now c.requires.plain (bound c.args.params.now) c.ask.ensures.survives
-
-pub returns-in_err-rows-clause-crash : goal.returns-in_err-rows-clause-crash
-returns-in_err-rows-clause-crash g c runs has =
-    asked_survives g.S.Store c.args.conn.now c.ask.new.conn runs has (λ k. omega (arith, k, c.ask.ensures.survives.clean)) c.args.sql.now c.requires.plain (bound c.args.params.now) c.ask.ensures.survives
-
-pub returns-clause-crash : goal.returns-clause-crash
-returns-clause-crash g c runs has =
-    asked_survives g.S.Store c.args.conn.now c.ask.new.conn runs has (λ k. omega (arith, k, c.ask.ensures.survives.clean)) c.args.sql.now c.requires.plain (bound c.args.params.now) c.ask.ensures.survives
+pub returns-clause-looked : goal.returns-clause-looked
+returns-clause-looked g c = record {
+  stands = λ runs has. asked_stands g.S.Store c.args.conn.now c.ask.new.conn runs has (λ k. omega (arith, k, c.ask.ensures.survives.clean)) c.args.sql.now c.requires.plain (bound c.args.params.now) c.in_ok-rows.rows.items (λ clean. c.in_ok-rows.ensures.rows clean);
+  crash = λ runs has. asked_survives g.S.Store c.args.conn.now c.ask.new.conn runs has (λ k. omega (arith, k, c.ask.ensures.survives.clean)) c.args.sql.now c.requires.plain (bound c.args.params.now) c.ask.ensures.survives;
+}

@@ -1,11 +1,11 @@
 use Rattle.std.proofs.lemmas.Result.{IfOk-weaker}
 use Rattle.kt_store.proofs.Common.{state}
-use Rattle.kt_store.proofs.SqlFacts.{outline_select_is}
+use Rattle.kt_store.proofs.SqlFacts.{entries_select_is}
 use Rattle.kt_store.proofs.EntriesLemmas.{tells_entries}
-use Rattle.kt_store.proofs.outlines.all_rows.Goals as goal
+use Rattle.kt_store.proofs.entries.entry_rows.Goals as goal
 
 pub query-requires : goal.query-requires
-query-requires g c = record { plain = outline_select_is.2; width = outline_select_is.3 }
+query-requires g c = record { plain = entries_select_is.2; width = entries_select_is.3 }
 
 pub returns-clause-all : goal.returns-clause-all
 returns-clause-all g c runs has clean = IfOk-weaker c.query.result _ _ (λ rows are.

@@ -2,19 +2,19 @@ use Rattle.std.proofs.Common.{inl, refl}
 use Rattle.kt_store.proofs.Common.{Put, CanAdd}
 use Rattle.kt_store.proofs.ServeLemmas.{failed_at, seen_at, survives_self, put_refused, put_called}
 use Rattle.kt_store.proofs.FaultLemmas.{starved}
-use Rattle.kt_store.proofs.results.ResultsResultStore.put.Goals as goal
+use Rattle.kt_store.proofs.results.Results.put.Goals as goal
 
 pub returns-in_err-reason : goal.returns-in_err-reason
 returns-in_err-reason g c =
     failed_at g.S.Store (λ r. Put c.args.run c.args.entry.now r) c.args.self.now c.args.self.now c.args.self.now refl c.from_residual.result c.in_err-reason.field-0.0 c.from_residual.ensures.1
-    (put_refused g.S.Store c.args.self.now c.args.self.now (λ runs has. has) (λ runs has. survives_self _) _ c.args.run c.args.entry.now (λ runs has clean. inl (starved _ c.in_err-reason.ensures.failed)))
+    (put_refused g.S.Store c.args.self.now c.args.self.now (record { stands = λ runs has. has; crash = λ runs has. survives_self _ }) _ c.args.run c.args.entry.now (λ runs has clean. inl (starved _ c.in_err-reason.ensures.failed)))
 
 pub returns-in_err-check : goal.returns-in_err-check
 returns-in_err-check g c =
     failed_at g.S.Store (λ r. Put c.args.run c.args.entry.now r) c.self.inside.conn c.args.self.now c.check.new.conn c.self.view_is c.from_residual-in_err-check.result c.in_err-check.field-0.0 c.from_residual-in_err-check.ensures.1
-    (put_refused g.S.Store c.self.inside.conn c.check.new.conn c.check.ensures.stands c.check.ensures.crash _ c.args.run c.args.entry.now (λ runs has clean. c.in_err-check.ensures.refused runs has clean))
+    (put_refused g.S.Store c.self.inside.conn c.check.new.conn c.check.ensures.looked _ c.args.run c.args.entry.now (λ runs has clean. c.in_err-check.ensures.refused runs has clean))
 
 pub returns : goal.returns
 returns g c =
     seen_at g.S.Store _ c.self.inside.conn c.args.self.now c.add_entry.new.conn c.self.view_is
-    (put_called g.S.Store c.self.inside.conn c.check.new.conn c.add_entry.new.conn c.check.ensures.stands c.check.ensures.crash c.args.run c.args.entry.now (CanAdd c.args.run c.args.entry.now) (λ runs has clean. c.in_ok-check.ensures.taken runs has clean c.in_ok-reason.ensures.passed) c.add_entry.ensures.crash c.add_entry.result c.add_entry.ensures.added c.add_entry.ensures.failed c.add_entry.ensures.kept)
+    (put_called g.S.Store c.self.inside.conn c.check.new.conn c.add_entry.new.conn c.check.ensures.looked c.args.run c.args.entry.now (CanAdd c.args.run c.args.entry.now) (λ runs has clean. c.in_ok-check.ensures.taken runs has clean c.in_ok-reason.ensures.passed) c.add_entry.ensures.crash c.add_entry.result c.add_entry.ensures.added c.add_entry.ensures.failed c.add_entry.ensures.kept)

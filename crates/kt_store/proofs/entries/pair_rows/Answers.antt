@@ -1,0 +1,13 @@
+use Rattle.std.proofs.lemmas.Result.{IfOk-weaker}
+use Rattle.kt_store.proofs.Common.{state}
+use Rattle.kt_store.proofs.SqlFacts.{pairs_select_is}
+use Rattle.kt_store.proofs.PairsLemmas.{tells_pairs}
+use Rattle.kt_store.proofs.entries.pair_rows.Goals as goal
+
+pub query-requires : goal.query-requires
+query-requires g c = record { plain = pairs_select_is.2; width = pairs_select_is.3 }
+
+pub returns-clause-all : goal.returns-clause-all
+returns-clause-all g c runs has clean = IfOk-weaker c.query.result _ _ (λ rows are.
+    let it = rw c.int.ensures at are in
+    tells_pairs (state g.S.Store it.mid) (state g.S.Store c.query.new.conn) runs c.args.run rows.items it.stored it.shown) (c.query.ensures.shown runs has clean)

@@ -1,8 +1,0 @@
-use Rattle.kt_store.proofs.AloneLemmas.{heads_agree}
-use Rattle.kt_store.proofs.ServeLemmas.{seen_at, heads_read}
-use Rattle.kt_store.proofs.results.ResultsResultStore.runs.Goals as goal
-
-pub returns-clause-served : goal.returns-clause-served
-returns-clause-served g c =
-    seen_at g.S.Store _ c.self.inside.conn c.args.self.now c.all_heads.new.conn c.self.view_is
-    (heads_read g.S.Store c.self.inside.conn c.all_heads.new.conn c.all_heads.ensures.stands c.all_heads.ensures.crash _ (λ runs has clean. heads_agree c.all_heads.result _ runs (c.all_heads.ensures.all runs has clean) c.all_heads.ensures.failed))
