@@ -203,6 +203,26 @@ if entry.position > 4096 { return Err(SinkFault::Memory); }
 if self.written.is_err() {
 BODY
 
+# The store failed where SQLite, a tree or the system says so, or where a test of what was read fails.
+rule 'makes a failed store' paths 'DAMAGED|NOT_OPENED|(FailedStatement|Shortage)[(]|Trouble::[A-Z][A-Za-z]*[(][A-Z]' <<'PLACES'
+# The values, and the functions that take an error.
+kt_store/src/store_fault/mod.rt
+kt_store/src/store_fault/rules.rt
+kt_store/src/store_fault/statements.rt
+kt_store/src/store_fault/trees.rt
+PLACES
+body kt_store/src/heads.rt 'let head = head_in(row)?;' <<'BODY'
+if rows.len() > 500 { return Err(Trouble::Failed(FailedStatement(Cause::Damaged))); }
+let head = head_in(row)?;
+BODY
+
+rule 'fails a test of its own' lines '(^|[^a-z_])(sure|present)[(](true|false|None|Some)' <<'PLACES'
+PLACES
+body kt_store/src/heads.rt 'let head = head_in(row)?;' <<'BODY'
+if rows.len() > 500 { crate::store_fault::trees::sure(false)?; }
+let head = head_in(row)?;
+BODY
+
 # The text itself, or a piece of it.
 rule 'has the text of a refusal' lines \
   '"[^"]*([Mm]emory|out of( "|"))|(=|>|[(&])[ ]?OUT_OF_MEMORY|"[{]OUT_OF_MEMORY|OUT_OF_MEMORY([.]|$)' <<'PLACES'

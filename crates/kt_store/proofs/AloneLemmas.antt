@@ -1,8 +1,8 @@
 -- How a store that is only read serves the calls of a store of runs.
-use Rattle.std.proofs.Common.{◌≡◌, ◌⊎◌, Result, Ok, Err, IfOk, IfErr, Some, None, Bool, inl, ℕ, List, map, sym, ap, ◌∙◌}
+use Rattle.std.proofs.Common.{◌≡◌, ◌⊎◌, Result, Ok, Err, IfOk, IfErr, Some, None, Bool, ℕ, List, sym, ap, ◌∙◌}
 use Rattle.kt_store.specs.declared.store_fault.StoreFault.TheVariants.{NoRun}
-use Rattle.kt_store.specs.Heads.{head_of, outputs_of}
-use Rattle.kt_store.proofs.Common.{entries_of, entry_at, outlined, run_at, seen_as, Ghosts, Entry, Run, IsStoreFault, Serves, Agrees, Heads, Outline, Outputs, StoreFault}
+use Rattle.kt_store.specs.Heads.{outputs_of}
+use Rattle.kt_store.proofs.Common.{entry_at, run_at, Ghosts, Entry, Run, IsStoreFault, Serves, Agrees, Heads, Outline, Outputs, StoreFault}
 use Rattle.sqlite_trees.specs.View.{View, IsClean, KeepsSchema}
 use Rattle.kt_store.specs.declared.result_store.CaseOutputs.{CaseOutputs}
 use Rattle.kt_store.specs.declared.result_store.RunHead.{RunHead}
@@ -10,16 +10,6 @@ use Rattle.kt_store.specs.Inner.Known.{readings}
 use Rattle.kt_store.specs.Inner.Cursors.{HoldsCommit, Looks}
 use Rattle.kt_store.specs.Inner.Known.{HasRuns}
 use Rattle.kt_store.proofs.SeenLemmas.{still_has}
-
--- an answer agrees with the runs if what was read is theirs, and a fault one of the store
-pub heads_agree : {T : Type 0} (r : Result T StoreFault) (see : T → List RunHead) (runs : List Run) → IfOk r (λ x. see x ≡ map head_of runs) → IfErr r IsStoreFault → Agrees runs (Heads (seen_as see r))
-heads_agree (Ok x) see runs ok err = ok
-heads_agree (Err fault) see runs ok err = err
-
-pub outline_agree : {T : Type 0} (r : Result T StoreFault) (see : T → List Entry) (runs : List Run) (number : ℕ) (pairs : Bool) (one : Run) → run_at runs number ≡ Some one
-    → IfOk r (λ x. see x ≡ map (outlined pairs) (entries_of (run_at runs number))) → IfErr r IsStoreFault → Agrees runs (Outline number pairs (seen_as see r))
-outline_agree (Ok x) see runs number pairs one is ok err = (one, is, ok ∙ ap (λ o. map (outlined pairs) (entries_of o)) is)
-outline_agree (Err fault) see runs number pairs one is ok err = inl err
 
 pub outputs_agree : (r : Result CaseOutputs StoreFault) (runs : List Run) (number position : ℕ) → IfOk r (λ o. (e : Entry) × (entry_at (run_at runs number) position ≡ Some e) × (o ≡ outputs_of e))
     → IfErr r (λ e. IsStoreFault e ⊎ ((e ≡ NoRun) × (entry_at (run_at runs number) position ≡ None))) → Agrees runs (Outputs number position r)

@@ -1,5 +1,5 @@
 -- A cursor goes over the places of a key, one by one.
-use Rattle.std.proofs.Common.{append-nil, ◌≡◌, ℕ, ℤ, List, [], ◌∷◌, ◌++◌, map, drop, take, filter, Some, None, slice_get, true, false, true≢false, refl, sym, ap, subst, ◌∙◌}
+use Rattle.std.proofs.Common.{append-nil, ◌≡◌, ℕ, ℤ, List, [], ◌∷◌, ◌++◌, map, drop, take, filter, Some, None, slice_get, true, false, true≢false, sym, ap, subst, ◌∙◌}
 use Rattle.kt_store.proofs.Common.{AllByRecursion, append_assoc, map-append, Int, Row, column, plain, has_rowid}
 use Rattle.sqlite_sql.specs.Catalog.{entry_of}
 use Rattle.sqlite_trees.specs.Tree.{from_key}
@@ -15,9 +15,6 @@ module _ (columns cs : List ℕ) (key : Row) (mine table index : List Row) (p : 
     pub hits : AllByRecursion (λ e. begins key e ≡ true) (map (entry_of cs) left)
     pub now_is : now ≡ map (entry_of cs) left ++ p.rest
     pub shown_is : shown ≡ map (in_columns columns) done
-
-  pub halfway_start : (now : List Row) → now ≡ from_key plain key index → Halfway now []
-  halfway_start now is = record { done = []; left = p.rows; split = refl; each = p.each; hits = p.hits; now_is = is ∙ p.found; shown_is = refl }
 
   none_past : (rest : List Row) (place : Row) (new : List Row) → AllByRecursion (λ e. begins key e ≡ false) rest → rest ≡ place ∷ new → begins key place ≡ true → ⊥
   none_past rest place new past is hit = true≢false (sym hit ∙ (subst (AllByRecursion (λ e. begins key e ≡ false)) is past).0)

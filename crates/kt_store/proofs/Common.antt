@@ -70,7 +70,7 @@ unfoldable pub use Rattle.sqlite_value.specs.Order.{value_cmp}
 pub use Rattle.kt_store.specs.Ask.{IsNoMemory, IsStoreFault, Rests}
 pub use Rattle.kt_store.specs.Heads.{entry_at, head_of, outlined, with_pairs, without_outputs}
 pub use Rattle.kt_store.specs.Inner.Ask.{AreWide, Asked, HasColumns, MayShow, MayTell, ShowsOf, Told}
-pub use Rattle.kt_store.specs.Inner.Calls.{Statement, entry_statements, make_statements, pair_statement, pair_statements, pair_text, plain_statements, raise_statements}
+pub use Rattle.kt_store.specs.Inner.Calls.{IsOurs, Statement, entry_statements, make_statements, pair_statement, pair_statements, pair_text, plain_statements, raise_statements}
 pub use Rattle.kt_store.specs.Inner.Heads.{as_shown, entry_columns, head_columns, output_columns, pair_columns, pairs_shown, shown_columns, width_of}
 pub use Rattle.kt_store.specs.Inner.Kept.{AsksNumber, Changes, CommitsNothing, KeepsRuns, Looked, MayChange, OnlyReads}
 pub use Rattle.kt_store.specs.Inner.Runs.{CanAdd, HasTexts, IsBareIfPassed, IsComplete, entries_of}

@@ -30,9 +30,6 @@ module _ (old new : View) (back : IsRolledBack old new) (clean : IsClean new) wh
   pub rolled_held : HoldsCommit old new
   rolled_held opened = ((back.kept clean).was_open opened, (back.kept clean).committed opened)
 
-  pub rolled_settled : IsTrue new.is_open → new.trees ≡ new.committed
-  rolled_settled opened = (back.undone opened).0 ∙ sym ((back.kept clean).committed opened)
-
 -- what a store that is settled shows obeys its schema
 pub sound_of : (v : View) (schema : Schema) → (v.is_open ≡ false → IsTrue v.is_broken) → IsSettledStore v schema → IsClean v → v.is_broken ≡ false → IsSound schema v.trees
 sound_of v schema law is clean sound = subst (IsSound schema) (sym (is.settled clean sound)) (is.sound (open_of v.is_open v.is_broken law sound))

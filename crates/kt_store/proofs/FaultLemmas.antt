@@ -1,5 +1,8 @@
 -- What a refusal is reported as.
 use Rattle.std.proofs.Common.{◌≡◌, sym, subst, Result, Ok, Err, IsErrAnd, IfErr, IfOk, OnErr, OnOk}
+use Rattle.kt_store.specs.Inner.Fault.{IsFailure, IsShort}
+use Rattle.kt_store.specs.declared.store_fault.Trouble.{Trouble}
+use Rattle.kt_store.specs.declared.store_fault.Trouble.TheVariants.{NoMemory as Short, Failed}
 use Rattle.kt_store.proofs.Common.{StoreFault, NoMemory, Store, IsNoMemory, IsStoreFault}
 
 -- what is known of a fault is known of the answer that hands it on
@@ -16,10 +19,6 @@ on_err (Err e) p = p
 pub if_both : {T E : Type 0} (P Q R : T → Type 0) (r : Result T E) → ((x : T) → P x → Q x → R x) → IfOk r P → IfOk r Q → IfOk r R
 if_both P Q R (Ok x) f p q = f x p q
 if_both P Q R (Err e) f p q = tt
-
-pub err_both : {T E Q : Type 0} (P R : E → Type 0) (r : Result T E) → ((e : E) → P e → Q → R e) → IfErr r P → OnErr r Q → IfErr r R
-err_both P R (Ok x) f p q = tt
-err_both P R (Err e) f p q = f e p q
 
 -- what holds of a result under a premise holds of it with the premise
 pub ok_later : {T E A : Type 0} (P : Type 0) (r : Result T E) → (A → OnOk r P) → OnOk r (A → P)
@@ -49,6 +48,12 @@ starved (NoMemory refusal) h = tt
 starved (Store statement) h = absurd h
 starved _ h = absurd h
 
-pub starved_err : {T : Type 0} (r : Result T StoreFault) → IsErrAnd r IsNoMemory → IfErr r IsStoreFault
-starved_err (Ok x) h = absurd h
-starved_err (Err fault) h = starved fault h
+-- what is known of each fault is known of the one that is handed on
+pub if_trouble : {T : Type 0} (Q : StoreFault → Type 0) (r : Result T StoreFault) → IsErrAnd r IsStoreFault → ((e : StoreFault) → IsStoreFault e → Q e) → IfErr r Q
+if_trouble Q (Ok x) h each = absurd h
+if_trouble Q (Err fault) h each = each fault h
+
+-- memory that ran out is no failed statement
+pub never_both : (trouble : Trouble) → IsShort trouble → IsFailure trouble → ⊥
+never_both (Short shortage) short failed = failed
+never_both (Failed statement) short failed = short

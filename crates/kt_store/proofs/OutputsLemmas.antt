@@ -1,5 +1,5 @@
 -- The entry of a run at a position, by its stored row.
-use Rattle.std.proofs.Common.{◌≢◌, length, ◌<◌, ◌≤◌, zero, suc, subst, arith, ◌≡◌, ◌==◌, ℕ, List, [], ◌∷◌, map, filter, Bool, true, false, cond, Some, None, Option, slice_get, refl, sym, ap, ◌∙◌, inl, inr}
+use Rattle.std.proofs.Common.{◌≢◌, length, ◌<◌, ◌≤◌, zero, suc, subst, arith, ◌≡◌, ◌==◌, ℕ, List, [], ◌∷◌, map, filter, Bool, true, false, cond, Some, None, Option, slice_get, refl, sym, ap, inl, inr}
 use Rattle.kt_store.proofs.Common.{cases_lt, slice_get_past, find, last_run, Row, Run, Entry, entry_at, entry_row, entries_of, run_at}
 
 -- an entry has this position

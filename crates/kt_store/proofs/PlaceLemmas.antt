@@ -17,9 +17,6 @@ pub record Passed (key : Row) (index now : List Row) (n : ℕ) : Type 0 where
   pub hits : AllByRecursion (λ e. begins key e ≡ true) done
   pub many : n ≡ length done
 
-pub passed_none : (key : Row) (index now : List Row) → now ≡ from_key plain key index → Passed key index now 0
-passed_none key index now is = record { done = []; split = sym is; hits = tt; many = refl }
-
 more_hits : (key place : Row) (done : List Row) → AllByRecursion (λ e. begins key e ≡ true) done → begins key place ≡ true → AllByRecursion (λ e. begins key e ≡ true) (done ++ place ∷ [])
 more_hits key place [] all hit = (hit, tt)
 more_hits key place (d ∷ done) all hit = (all.0, more_hits key place done all.1 hit)

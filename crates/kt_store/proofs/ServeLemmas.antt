@@ -41,6 +41,12 @@ module _ {S : Type 0} (g : Ghosts S) where
   failed_at call inside now new is (Ok x) e h s = absurd h
   failed_at call inside now new is (Err fault) e h s = subst (λ o. Serves (results g) (call (Err fault)) o new) is (subst (λ f. Serves (results g) (call (Err f)) inside new) (sym h) s)
 
+  -- the same of a refusal of which only this is known
+  pub troubled_at : {T : Type 0} {P : StoreFault → Type 0} (call : Result T StoreFault → StoreCall) (inside now new : Held S) → inside ≡ now → (r : Result T StoreFault) → IsErrAnd r P
+      → ((e : StoreFault) → P e → Serves (results g) (call (Err e)) inside new) → Serves (results g) (call r) now new
+  troubled_at call inside now new is (Ok x) h each = absurd h
+  troubled_at call inside now new is (Err fault) h each = subst (λ o. Serves (results g) (call (Err fault)) o new) is (each fault h)
+
   pub seen_at : (call : StoreCall) (inside now new : Held S) → inside ≡ now → Serves (results g) call inside new → Serves (results g) call now new
   seen_at call inside now new is s = subst (λ o. Serves (results g) call o new) is s
 

@@ -13,11 +13,6 @@ abbrev pub IsNoMemory : StoreFault → Type 0
 IsNoMemory (NoMemory refusal) = ⊤
 IsNoMemory _ = ⊥
 
--- a statement failed, and not because memory ran out
-abbrev pub IsFailure : StoreFault → Type 0
-IsFailure (Store statement) = ⊤
-IsFailure _ = ⊥
-
 -- memory ran out or a statement failed
 abbrev pub IsStoreFault : StoreFault → Type 0
 IsStoreFault (NoMemory refusal) = ⊤

@@ -3,6 +3,7 @@ ghost use Rattle.kt_store.specs.Common.{HasCleanDisk, IsLive, IsUnchanged, state
 
 use crate::StoreFault;
 use crate::batch::Texts;
+use crate::store_fault::Trouble;
 use crate::store_fault::statements::{ask, commit, probe, value_in};
 use sqlite::{Alter, Connection};
 
@@ -43,7 +44,7 @@ pub(crate) fn create<S: Alter>(conn: &mut Connection<S>) -> Result<(), StoreFaul
         CREATE_PROPS,
         "INSERT INTO meta (name, value) VALUES ('schema', 2)",
     ];
-    commit(conn, &Texts { texts: &makes })
+    Ok(commit(conn, &Texts { texts: &makes })?)
 }
 
 /// Whether there is no table yet.
@@ -98,12 +99,11 @@ pub(crate) fn says_old<S: Alter>(conn: &mut Connection<S>) -> Result<bool, Store
 
 /// Asks whether the queries of a store can be prepared: for runs, for entries and, where the tables
 /// are not those of schema 1, for pairs.
-pub(crate) fn find_tables<S: Alter>(conn: &mut Connection<S>, old: bool) -> Result<(), StoreFault>
+pub(crate) fn find_tables<S: Alter>(conn: &mut Connection<S>, old: bool) -> Result<(), Trouble>
     ensures same { HasCleanDisk (state S.Store conn.new)
         → OnOk result (IsUnchanged (state S.Store conn.old) (state S.Store conn.new)) }
     ensures rests { HasCleanDisk (state S.Store conn.new)
         → OnErr result (Rests (state S.Store conn.old) (state S.Store conn.new)) }
-    ensures failed { IfErr result IsStoreFault }
     ensures understood { HasCleanDisk (state S.Store conn.new)
         → OnOk result (IsUnderstood (state S.Store conn.old) runs_text
         × IsUnderstood (state S.Store conn.old) entries_text
@@ -159,7 +159,7 @@ pub(crate) fn renew<S: Alter>(conn: &mut Connection<S>) -> Result<(), StoreFault
         CREATE_PROPS,
         "UPDATE meta SET value = 2 WHERE name = 'schema'",
     ];
-    commit(conn, &Texts { texts: &raises })
+    Ok(commit(conn, &Texts { texts: &raises })?)
 }
 
 /// Takes the tables of a database that has some, and those of schema 1 to schema 2.

@@ -9,9 +9,11 @@ ghost use Rattle.sqlite_catalog.specs.Listing.{IsSound};
 use crate::StoreFault;
 use crate::ends::check_last;
 use crate::heads::add;
+use crate::lookup::MOST_RUNS;
 use crate::places::Places;
 use crate::put::{code, reason_of};
 use crate::seeks::{entries_at, last_number, stored_head, stored_run};
+use crate::store_fault::Trouble;
 use crate::store_fault::rules::put_rows;
 use crate::store_fault::trees::{add_number, count_under, number_row};
 use crate::value::{blob, int, text};
@@ -22,9 +24,6 @@ use sqlite_trees::store::Alter;
 use sqlite_value::row::Row;
 use sqlite_value::value::ValueRef;
 use std::alloc::Global;
-
-/// How many runs this profile keeps.
-const MOST_RUNS: u64 = 1_000_000;
 
 /// A row of these values.
 fn row_of(alloc: Global, values: &[ValueRef<'_>]) -> Result<Row, NoMemory>
@@ -48,14 +47,13 @@ fn put_one<S: Alter>(
     rowids: Rowids,
     from: usize,
     row: Row,
-) -> Result<(), StoreFault>
+) -> Result<(), Trouble>
     requires obeys { IsClean (S.Store.view store.old)
         → Obeys (S.Store.view store.old) schema.now }
     requires short { from ≡ 0 ⊎ from ≡ 1 }
     ensures puts { IsClean (S.Store.view store.new)
         → OnOk result (PutsRows schema.now place gone.now rowids from (row ∷ [])
         (S.Store.view store.old).trees (S.Store.view store.new).trees) }
-    ensures failed { IfErr result IsStoreFault }
     ensures obeys { IsClean (S.Store.view store.new)
         → OnOk result (Obeys (S.Store.view store.new) schema.now) }
     ensures held { IsClean (S.Store.view store.new)
@@ -277,7 +275,7 @@ fn fill<S: Alter>(
     run: u64,
     entry: &Entry,
     reason: &Text,
-) -> Result<(), StoreFault>
+) -> Result<(), Trouble>
     requires run { run < 2 ^ 63 }
     requires reason { reason.now ≡ entry.now.verdict.reason }
     requires moments { IsStorable entry.now }
@@ -293,7 +291,6 @@ fn fill<S: Alter>(
     ensures clean { IsClean (S.Store.view store.new) → IsClean (S.Store.view store.old) }
     ensures outcomes { (db : Trees) → S.Store.recovers store.new db
         → S.Store.recovers store.old db }
-    ensures failed { IfErr result IsStoreFault }
 {
     let row = row_of_entry(alloc, run, entry, reason)?;
     put_one(

@@ -1,17 +1,18 @@
 //! What is looked at before runs are shown or a run begins: the ends of the tables and of their indexes agree.
 //! So a page that the disk lost, or of an earlier moment, seldom hides a result, whatever the size of the file.
 
-ghost use Rattle.std.specs.Prelude.{◌<◌, ◌^◌, IfErr, OnOk};
-ghost use Rattle.kt_store.specs.Common.{IsStoreFault, Looks, LooksThrough};
+ghost use Rattle.std.specs.Prelude.{◌<◌, ◌^◌, OnOk};
+ghost use Rattle.kt_store.specs.Common.{Looks, LooksThrough};
 ghost use Rattle.sqlite_trees.specs.View.{IsClean};
 
+use crate::RunHead;
 use crate::lookup::key;
 use crate::places::Places;
 use crate::seeks::{entries_at, pairs_at, stored_head};
+use crate::store_fault::Trouble;
 use crate::store_fault::trees::{
-    DAMAGED, Found, Table, add_number, are_shaped, columns_of, count_under, next_row, number_row,
+    Found, Table, add_number, are_shaped, columns_of, count_under, next_row, number_row, sure,
 };
-use crate::{RunHead, StoreFault};
 use kt_base::NoMemory;
 use sqlite_trees::store::{Direction, Shape, Store};
 use sqlite_value::keys::Order;
@@ -29,13 +30,10 @@ pub(crate) const NO_RUN: RunHead = RunHead {
 };
 
 /// The run and the position of the last place of a table's index, whose row is there; both are NULL if it has none.
-fn last_place<S: Store>(store: &mut S, alloc: Global, table: &Table) -> Result<Row, StoreFault>
-    ensures failed { IfErr result IsStoreFault }
+fn last_place<S: Store>(store: &mut S, alloc: Global, table: &Table) -> Result<Row, Trouble>
     ensures looks { Looks S.Store store.old store.new }
 {
-    if !are_shaped(store, table) {
-        return Err(DAMAGED);
-    }
+    sure(are_shaped(store, table))?;
     let all = Row::new(alloc);
     store.seek(0, table.index, &all, Direction::Backward)?;
     let mut found = Found::new(alloc);
@@ -48,13 +46,10 @@ fn is_last_row_placed<S: Store>(
     store: &mut S,
     alloc: Global,
     table: &Table,
-) -> Result<bool, StoreFault>
-    ensures failed { IfErr result IsStoreFault }
+) -> Result<bool, Trouble>
     ensures looks { Looks S.Store store.old store.new }
 {
-    if !are_shaped(store, table) {
-        return Err(DAMAGED);
-    }
+    sure(are_shaped(store, table))?;
     let mut row = Row::new(alloc);
     store.seek(0, table.tree, &row, Direction::Backward)?;
     if !store.next(0, &mut row)? {
@@ -66,13 +61,10 @@ fn is_last_row_placed<S: Store>(
 }
 
 /// The same, of a table whose last row has a place. Else it is damaged.
-fn end_of<S: Store>(store: &mut S, alloc: Global, table: &Table) -> Result<Row, StoreFault>
-    ensures failed { IfErr result IsStoreFault }
+fn end_of<S: Store>(store: &mut S, alloc: Global, table: &Table) -> Result<Row, Trouble>
     ensures looks { Looks S.Store store.old store.new }
 {
-    if !is_last_row_placed(store, alloc, table)? {
-        return Err(DAMAGED);
-    }
+    sure(is_last_row_placed(store, alloc, table)?)?;
     last_place(store, alloc, table)
 }
 
@@ -103,10 +95,9 @@ fn has_entry<S: Store>(
     alloc: Global,
     places: Places,
     pair: &Row,
-) -> Result<bool, StoreFault>
+) -> Result<bool, Trouble>
     ensures through { IsClean (S.Store.view store.new)
         → OnOk result (LooksThrough (S.Store.view store.old) (S.Store.view store.new)) }
-    ensures failed { IfErr result IsStoreFault }
     ensures looks { Looks S.Store store.old store.new }
 {
     let count = count_under(store, alloc, &entries_at(places), pair)?;
@@ -119,19 +110,14 @@ pub(crate) fn check_ends<S: Store>(
     alloc: Global,
     places: Places,
     last: RunHead,
-) -> Result<(), StoreFault>
+) -> Result<(), Trouble>
     ensures through { IsClean (S.Store.view store.new)
         → OnOk result (LooksThrough (S.Store.view store.old) (S.Store.view store.new)) }
-    ensures failed { IfErr result IsStoreFault }
     ensures looks { Looks S.Store store.old store.new }
 {
     let end = end_of(store, alloc, &entries_at(places))?;
     let pair = end_of(store, alloc, &pairs_at(places))?;
-    if is_end(alloc, &end, last)? && has_entry(store, alloc, places, &pair)? {
-        Ok(())
-    } else {
-        Err(DAMAGED)
-    }
+    sure(is_end(alloc, &end, last)? && has_entry(store, alloc, places, &pair)?)
 }
 
 /// The head of the last run, by its number.
@@ -140,20 +126,15 @@ fn last_head<S: Store>(
     alloc: Global,
     places: Places,
     last: u64,
-) -> Result<RunHead, StoreFault>
-    ensures failed { IfErr result IsStoreFault }
+) -> Result<RunHead, Trouble>
     ensures looks { Looks S.Store store.old store.new }
 {
     if last == 0 {
         return Ok(NO_RUN);
     }
-    if store.shape(places.runs.tree) != Shape::Table {
-        return Err(DAMAGED);
-    }
+    sure(store.shape(places.runs.tree) == Shape::Table)?;
     let mut row = Row::new(alloc);
-    if !store.get(places.runs.tree, key(last) as i64, &mut row)? {
-        return Err(DAMAGED);
-    }
+    sure(store.get(places.runs.tree, key(last) as i64, &mut row)?)?;
     stored_head(alloc, &row)
 }
 
@@ -163,10 +144,9 @@ pub(crate) fn check_last<S: Store>(
     alloc: Global,
     places: Places,
     last: u64,
-) -> Result<(), StoreFault>
+) -> Result<(), Trouble>
     ensures through { IsClean (S.Store.view store.new)
         → OnOk result (LooksThrough (S.Store.view store.old) (S.Store.view store.new)) }
-    ensures failed { IfErr result IsStoreFault }
     ensures looks { Looks S.Store store.old store.new }
 {
     let head = last_head(store, alloc, places, last)?;

@@ -4,6 +4,7 @@ ghost use Rattle.kt_store.specs.Common.{AreWide, AreRuns, HasCleanDisk, IsStoreF
 use crate::StoreFault;
 use crate::lookup::look;
 use crate::outlines::entries_in;
+use crate::store_fault::Trouble;
 use crate::store_fault::statements::query;
 use crate::value::int;
 use kt_base::Entry;
@@ -11,10 +12,7 @@ use sqlite::{Alter, Connection, Row};
 use std::alloc::Global;
 
 /// The rows of a run's entries, by position.
-pub(crate) fn entry_rows<S: Alter>(
-    conn: &mut Connection<S>,
-    run: u64,
-) -> Result<Vec<Row>, StoreFault>
+pub(crate) fn entry_rows<S: Alter>(conn: &mut Connection<S>, run: u64) -> Result<Vec<Row>, Trouble>
     requires { run < 2 ^ 63 }
     ensures all { (runs : _) → StandsFor (state S.Store conn.old) runs
         → HasCleanDisk (state S.Store conn.new) → IfOk result (λ rows. rows.items
@@ -22,7 +20,6 @@ pub(crate) fn entry_rows<S: Alter>(
     ensures wide { IfOk result (λ rows. AreWide 11 rows.items) }
     ensures valid { (runs : _) → StandsFor (state S.Store conn.old) runs
         → HasCleanDisk (state S.Store conn.new) → OnOk result (AreRuns runs) }
-    ensures failed { IfErr result IsStoreFault }
     ensures looked { Looked S.Store conn.old conn.new }
 {
     query(
@@ -34,13 +31,12 @@ pub(crate) fn entry_rows<S: Alter>(
 }
 
 /// The rows of the pairs of a run's entries, by position and place.
-fn pair_rows<S: Alter>(conn: &mut Connection<S>, run: u64) -> Result<Vec<Row>, StoreFault>
+fn pair_rows<S: Alter>(conn: &mut Connection<S>, run: u64) -> Result<Vec<Row>, Trouble>
     requires { run < 2 ^ 63 }
     ensures all { (runs : _) → StandsFor (state S.Store conn.old) runs
         → HasCleanDisk (state S.Store conn.new)
         → IfOk result (λ rows. rows.items ≡ pairs_shown (entries_of (run_at runs run))) }
     ensures wide { IfOk result (λ rows. AreWide 3 rows.items) }
-    ensures failed { IfErr result IsStoreFault }
     ensures looked { Looked S.Store conn.old conn.new }
 {
     query(
@@ -68,5 +64,5 @@ pub(crate) fn all_entries<S: Alter>(
     look(conn, run)?;
     let rows = entry_rows(conn, run)?;
     let pairs = pair_rows(conn, run)?;
-    entries_in(alloc, &rows, &pairs, true)
+    Ok(entries_in(alloc, &rows, &pairs, true)?)
 }

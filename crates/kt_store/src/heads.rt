@@ -1,10 +1,11 @@
-ghost use Rattle.std.specs.Prelude.{◌≡◌, ◌≤◌, length, map, List, IfOk, IfErr, ◌++◌, [], ◌∷◌, OnOk};
-ghost use Rattle.kt_store.specs.Common.{AreWide, HasCleanDisk, state, IsStoreFault, Looked, head_columns, head_of, StandsFor};
+ghost use Rattle.std.specs.Prelude.{◌≡◌, ◌≤◌, length, map, List, IfOk, ◌++◌, [], ◌∷◌, OnOk};
+ghost use Rattle.kt_store.specs.Common.{AreWide, HasCleanDisk, state, Looked, head_columns, head_of, StandsFor};
 ghost use Rattle.kt_base.specs.declared.entry.Run.{Run as Stored};
 
+use crate::RunHead;
+use crate::store_fault::Trouble;
 use crate::store_fault::statements::query;
 use crate::value::{number_in, small_in};
-use crate::{RunHead, StoreFault};
 use kt_base::NoMemory;
 use sqlite::{Alter, Connection, Row};
 use std::alloc::Global;
@@ -18,10 +19,9 @@ pub(crate) fn add<T: Drop>(items: &mut Vec<T>, item: T) -> Result<(), NoMemory>
 }
 
 /// The head in a row.
-pub(crate) fn head_in(row: &Row) -> Result<RunHead, StoreFault>
+pub(crate) fn head_in(row: &Row) -> Result<RunHead, Trouble>
     requires { 4 ≤ length row.now }
     ensures head { (r : Stored) → row.now ≡ head_columns r → IfOk result (λ h. h ≡ head_of r) }
-    ensures failed { IfErr result IsStoreFault }
 {
     let number = number_in(row, 0)?;
     let started = number_in(row, 1)?;
@@ -36,11 +36,10 @@ pub(crate) fn head_in(row: &Row) -> Result<RunHead, StoreFault>
 }
 
 /// The heads in the rows.
-pub(crate) fn heads_in(alloc: Global, rows: &[Row]) -> Result<Vec<RunHead>, StoreFault>
+pub(crate) fn heads_in(alloc: Global, rows: &[Row]) -> Result<Vec<RunHead>, Trouble>
     requires { AreWide 4 rows.now }
     ensures heads { (runs : List Stored) → rows.now ≡ map head_columns runs
         → IfOk result (λ heads. heads.items ≡ map head_of runs) }
-    ensures failed { IfErr result IsStoreFault }
 {
     let mut heads = Vec::new(alloc);
     for row in rows {
@@ -54,11 +53,10 @@ pub(crate) fn heads_in(alloc: Global, rows: &[Row]) -> Result<Vec<RunHead>, Stor
 pub(crate) fn all_heads<S: Alter>(
     conn: &mut Connection<S>,
     alloc: Global,
-) -> Result<Vec<RunHead>, StoreFault>
+) -> Result<Vec<RunHead>, Trouble>
     ensures all { (runs : _) → StandsFor (state S.Store conn.old) runs
         → HasCleanDisk (state S.Store conn.new)
         → IfOk result (λ heads. heads.items ≡ map head_of runs) }
-    ensures failed { IfErr result IsStoreFault }
     ensures looked { Looked S.Store conn.old conn.new }
 {
     let rows = query(

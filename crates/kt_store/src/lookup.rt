@@ -2,6 +2,7 @@ ghost use Rattle.std.specs.Prelude.{◌≡◌, ◌⊎◌, ◌<◌, ◌≤◌, �
 ghost use Rattle.kt_store.specs.Common.{HasCleanDisk, state, last_run, IsStoreFault, Looked, entries_of, run_at, flag, AreRuns, has_position, StandsFor};
 
 use crate::StoreFault;
+use crate::store_fault::Trouble;
 use crate::store_fault::statements::{has_rows, query};
 use crate::value::{int, number_in};
 use sqlite::{Alter, Connection};
@@ -13,9 +14,8 @@ pub(crate) const MOST_RUNS: u64 = 1_000_000;
 pub(crate) fn find<S: Alter>(
     conn: &mut Connection<S>,
     run: u64,
-) -> Result<Option<(u64, u64)>, StoreFault>
+) -> Result<Option<(u64, u64)>, Trouble>
     requires { run < 2 ^ 63 }
-    ensures failed { IfErr result IsStoreFault }
     ensures looked { Looked S.Store conn.old conn.new }
     ensures valid { (runs : _) → StandsFor (state S.Store conn.old) runs
         → HasCleanDisk (state S.Store conn.new) → OnOk result (AreRuns runs) }
@@ -74,9 +74,8 @@ pub(crate) fn there<S: Alter>(
     conn: &mut Connection<S>,
     run: u64,
     position: u32,
-) -> Result<bool, StoreFault>
+) -> Result<bool, Trouble>
     requires { run < 2 ^ 63 }
-    ensures failed { IfErr result IsStoreFault }
     ensures looked { Looked S.Store conn.old conn.new }
     ensures found { (runs : _) → StandsFor (state S.Store conn.old) runs
         → HasCleanDisk (state S.Store conn.new)

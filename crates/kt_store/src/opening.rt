@@ -16,14 +16,15 @@ ghost use Rattle.sqlite_trees.specs.View.{IsClean};
 ghost use Rattle.sqlite_store.specs.Unopened.{AreUsable, HasFile, Opens, files_of, image, state_of, wanted_by};
 ghost use Rattle.sqlite.specs.Files.{HoldsDatabase, image_of};
 
+use crate::Access;
 use crate::attach::{CREATE_ENTRIES, CREATE_META, CREATE_PROPS, CREATE_RUNS};
 use crate::new_file::may_have_frames;
 use crate::runs_file::{RunsFile, over};
 use crate::seeks::PLACES_2;
+use crate::store_fault::Trouble;
 use crate::store_fault::statements::open_both;
 use crate::store_fault::trees::all_shown;
 use crate::supposed::Supposed;
-use crate::{Access, StoreFault};
 use kt_base::Text;
 use sqlite::{FileFrom, Start};
 use sqlite_disk::{Disk, Files};
@@ -268,9 +269,8 @@ fn known<D: Disk + Drop>(
 }
 
 /// Copies the log into the database file, and closes both. What is not committed is lost.
-pub(crate) fn close_store<D: Disk + Drop>(mut store: FileStore<D>) -> Result<(), StoreFault>
+pub(crate) fn close_store<D: Disk + Drop>(mut store: FileStore<D>) -> Result<(), Trouble>
     ensures closed { OnOk result (Ends store) }
-    ensures failed { IfErr result IsStoreFault }
 {
     store.rollback();
     match store.checkpoint() {
@@ -278,7 +278,7 @@ pub(crate) fn close_store<D: Disk + Drop>(mut store: FileStore<D>) -> Result<(),
             let _files = store.close();
             Ok(())
         }
-        Err(error) => Err(StoreFault::from(error)),
+        Err(error) => Err(Trouble::from(error)),
     }
 }
 
@@ -312,13 +312,12 @@ pub(crate) fn open_known<S: Supposed>(
     file: &Text,
     access: Access,
     start: S,
-) -> Result<Option<RunsFile<FileStore<FileFrom<S>>>>, StoreFault>
+) -> Result<Option<RunsFile<FileStore<FileFrom<S>>>>, Trouble>
     ensures opens { IfOk result (λ found. IfSome found (OpensRuns (image_at S.Start))) }
     ensures lists { IfOk result (λ found. IfSome found (λ r. IsClean (view r)
         → ListsTables (image_at S.Start))) }
     ensures says { IfOk result (λ found. IfSome found (λ r. IsTrue (view r).is_open
         → SaysIn (pos 2) (view r).committed)) }
-    ensures failed { IfErr result IsStoreFault }
 {
     if !is_path(file.as_str()) {
         return Ok(None);

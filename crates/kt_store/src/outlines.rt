@@ -1,5 +1,5 @@
-ghost use Rattle.std.specs.Prelude.{◌≡◌, ◌<◌, ◌≤◌, pos, ℕ, length, map, List, ◌++◌, ◌+◌, IfOk, IfErr};
-ghost use Rattle.kt_store.specs.Common.{utf8, AllByRecursion, AreWide, Blob, Int, column, IsStoreFault, no_output, outputs_of, IsAscending, IsEntry, IsPair, IsText, kind_code, as_shown, shown_columns, width_of, pair_columns, pairs_shown};
+ghost use Rattle.std.specs.Prelude.{◌≡◌, ◌<◌, ◌≤◌, pos, ℕ, length, map, List, ◌++◌, ◌+◌, IfOk};
+ghost use Rattle.kt_store.specs.Common.{utf8, AllByRecursion, AreWide, Blob, Int, column, no_output, outputs_of, IsAscending, IsEntry, IsPair, IsText, kind_code, as_shown, shown_columns, width_of, pair_columns, pairs_shown};
 ghost use Rattle.kt_base.specs.declared.entry.Entry.{Entry as Stored};
 ghost use Rattle.kt_store.specs.Inner.Heads.{pair_count};
 ghost use Rattle.kt_base.specs.declared.verdict.Kind.{Kind as Sort};
@@ -7,43 +7,41 @@ ghost use Rattle.sqlite_value.specs.declared.value.Value.TheVariants.{Text as Wo
 ghost use Rattle.kt_base.specs.declared.entry.Output.{Output as Pair};
 ghost use Rattle.kt_base.specs.declared.variable.Variable.{Variable as StoredPair};
 
+use crate::CaseOutputs;
 use crate::heads::add;
+use crate::store_fault::Trouble;
 use crate::store_fault::statements::value_in;
-use crate::store_fault::trees::DAMAGED;
+use crate::store_fault::trees::sure;
 use crate::stored_kind::StoredKind;
 use crate::value::{number_in, small_in};
-use crate::{CaseOutputs, StoreFault};
 use kt_base::{Bytes, Entry, Kind, Output, Text, Variable, Variables, Verdict};
 use sqlite::Row;
 use std::alloc::Global;
 
-fn text_in(row: &Row, at: usize) -> Result<Text, StoreFault>
+fn text_in(row: &Row, at: usize) -> Result<Text, Trouble>
     requires { at < length row.now }
     ensures text { (t : List ℕ) → IsText t → column row.now at ≡ Words (utf8 t)
         → IfOk result (λ x. x ≡ t) }
-    ensures failed { IfErr result IsStoreFault }
 {
     let string = value_in::<String>(row, at)?;
     Ok(Text::from_string(string))
 }
 
 /// The kind in a row.
-fn kind_in(row: &Row, at: usize) -> Result<Kind, StoreFault>
+fn kind_in(row: &Row, at: usize) -> Result<Kind, Trouble>
     requires { at < length row.now }
     ensures kind { (k : Sort) → column row.now at ≡ Int (pos (kind_code k))
         → IfOk result (λ x. x ≡ k) }
-    ensures failed { IfErr result IsStoreFault }
 {
     let stored = value_in::<StoredKind>(row, at)?;
     Ok(stored.kind)
 }
 
 /// The pair in a row.
-fn pair_in(row: &Row) -> Result<Variable, StoreFault>
+fn pair_in(row: &Row) -> Result<Variable, Trouble>
     requires { 3 ≤ length row.now }
     ensures pair { (n : ℕ) (v : StoredPair) → IsPair v → row.now ≡ pair_columns n v
         → IfOk result (λ x. x ≡ v) }
-    ensures failed { IfErr result IsStoreFault }
 {
     let name = text_in(row, 1)?;
     let value = text_in(row, 2)?;
@@ -51,7 +49,7 @@ fn pair_in(row: &Row) -> Result<Variable, StoreFault>
 }
 
 /// The pairs of the entry at this position, which are the first of the rows, and the rows after them.
-fn meta_in(alloc: Global, rows: &[Row], position: u32) -> Result<(Variables, &[Row]), StoreFault>
+fn meta_in(alloc: Global, rows: &[Row], position: u32) -> Result<(Variables, &[Row]), Trouble>
     requires { AreWide 3 rows.now }
     ensures wide { IfOk result (λ found. AreWide 3 found.1.now) }
     ensures split { IfOk result (λ found. length found.0 + length found.1.now ≡ length rows.now) }
@@ -59,7 +57,6 @@ fn meta_in(alloc: Global, rows: &[Row], position: u32) -> Result<(Variables, &[R
         → AllByRecursion (λ (e : Stored). position < e.position) others
         → rows.now ≡ map (pair_columns position) vs ++ pairs_shown others
         → IfOk result (λ found. (found.0 ≡ vs) × (found.1.now ≡ pairs_shown others)) }
-    ensures failed { IfErr result IsStoreFault }
 {
     let mut meta = Variables::new(alloc);
     let mut rest = rows;
@@ -83,21 +80,19 @@ pub fn no_output(alloc: Global) -> Output
     }
 }
 
-fn bytes_in(row: &Row, at: usize) -> Result<Bytes, StoreFault>
+fn bytes_in(row: &Row, at: usize) -> Result<Bytes, Trouble>
     requires { at < length row.now }
     ensures bytes { IfOk result (λ b. column row.now at ≡ Blob b) }
-    ensures failed { IfErr result IsStoreFault }
 {
     let items = value_in::<Vec<u8>>(row, at)?;
     Ok(Bytes::from_vec(items))
 }
 
 /// An output in two columns of a row.
-fn output_in(row: &Row, out: usize, err: usize) -> Result<Output, StoreFault>
+fn output_in(row: &Row, out: usize, err: usize) -> Result<Output, Trouble>
     requires { (out < length row.now) × (err < length row.now) }
     ensures output { (o : Pair) → column row.now out ≡ Blob o.out → column row.now err ≡ Blob o.err
         → IfOk result (λ x. x ≡ o) }
-    ensures failed { IfErr result IsStoreFault }
 {
     let out = bytes_in(row, out)?;
     let err = bytes_in(row, err)?;
@@ -105,11 +100,10 @@ fn output_in(row: &Row, out: usize, err: usize) -> Result<Output, StoreFault>
 }
 
 /// The outputs behind the other columns of an entry, if they are shown.
-fn outputs_behind(alloc: Global, row: &Row, whole: bool) -> Result<CaseOutputs, StoreFault>
+fn outputs_behind(alloc: Global, row: &Row, whole: bool) -> Result<CaseOutputs, Trouble>
     requires { width_of whole ≤ length row.now }
     ensures outputs { (e : Stored) → row.now ≡ shown_columns whole e
         → IfOk result (λ o. o ≡ outputs_of (as_shown whole e)) }
-    ensures failed { IfErr result IsStoreFault }
 {
     if !whole {
         return Ok(CaseOutputs {
@@ -123,13 +117,12 @@ fn outputs_behind(alloc: Global, row: &Row, whole: bool) -> Result<CaseOutputs, 
 }
 
 /// The entry in a row, with these pairs, and with its outputs if they are shown.
-fn entry_in(alloc: Global, row: &Row, meta: Variables, whole: bool) -> Result<Entry, StoreFault>
+fn entry_in(alloc: Global, row: &Row, meta: Variables, whole: bool) -> Result<Entry, Trouble>
     requires parts { 7 ≤ length row.now }
     requires outputs { width_of whole ≤ length row.now }
     ensures entry { (e : Stored) → IsEntry e → row.now ≡ shown_columns whole e → meta ≡ e.meta
         → IfOk result (λ x. x ≡ as_shown whole e) }
     ensures pairs { IfOk result (λ x. x.meta ≡ meta) }
-    ensures failed { IfErr result IsStoreFault }
 {
     let position = small_in(row, 0)?;
     let kind = kind_in(row, 3)?;
@@ -158,7 +151,7 @@ pub(crate) fn entries_in(
     rows: &[Row],
     pairs: &[Row],
     whole: bool,
-) -> Result<Vec<Entry>, StoreFault>
+) -> Result<Vec<Entry>, Trouble>
     requires rows { AreWide (width_of whole) rows.now }
     requires pairs { AreWide 3 pairs.now }
     // Of any rows.
@@ -167,7 +160,6 @@ pub(crate) fn entries_in(
         → IsAscending (λ (a b : Stored). a.position < b.position) es
         → rows.now ≡ map (shown_columns whole) es → pairs.now ≡ pairs_shown es
         → IfOk result (λ found. found.items ≡ map (as_shown whole) es) }
-    ensures failed { IfErr result IsStoreFault }
 {
     let mut entries = Vec::new(alloc);
     let mut rest = pairs;
@@ -177,8 +169,6 @@ pub(crate) fn entries_in(
         add(&mut entries, entry)?;
         rest = after;
     }
-    if !rest.is_empty() {
-        return Err(DAMAGED);
-    }
+    sure(rest.is_empty())?;
     Ok(entries)
 }

@@ -1,7 +1,7 @@
-ghost use Rattle.std.specs.Prelude.{◌≡◌, ◌<◌, ◌^◌, OnOk, IfErr};
-ghost use Rattle.kt_store.specs.Common.{IsStoreFault, CommitsLater, RunsAll, RunsOne, pair_statement, pair_statements};
+ghost use Rattle.std.specs.Prelude.{◌≡◌, ◌<◌, ◌^◌, OnOk};
+ghost use Rattle.kt_store.specs.Common.{CommitsLater, RunsAll, RunsOne, pair_statement, pair_statements};
 
-use crate::StoreFault;
+use crate::store_fault::Trouble;
 use crate::store_fault::statements::step;
 use crate::value::{int, text};
 use kt_base::Variable;
@@ -14,13 +14,12 @@ fn add_pair<S: Alter>(
     position: u32,
     place: u64,
     pair: &Variable,
-) -> Result<(), StoreFault>
+) -> Result<(), Trouble>
     requires { (run < 2 ^ 63) × (place < 2 ^ 63) }
     ensures same_reference { tx.new.conn.ghost_name ≡ tx.old.conn.ghost_name }
     ensures runs { OnOk result (RunsOne S.Store (pair_statement run position place pair.now)
         tx.old.conn.now tx.new.conn.now) }
     ensures uncommitted { CommitsLater S.Store tx.old.conn.now tx.new.conn.now }
-    ensures failed { IfErr result IsStoreFault }
 {
     step(
         tx,
@@ -41,13 +40,12 @@ pub(crate) fn add_pairs<S: Alter>(
     run: u64,
     position: u32,
     pairs: &[Variable],
-) -> Result<(), StoreFault>
+) -> Result<(), Trouble>
     requires { run < 2 ^ 63 }
     ensures same_reference { tx.new.conn.ghost_name ≡ tx.old.conn.ghost_name }
     ensures runs { OnOk result (RunsAll S.Store (pair_statements run position 0 pairs.now)
         tx.old.conn.now tx.new.conn.now) }
     ensures uncommitted { CommitsLater S.Store tx.old.conn.now tx.new.conn.now }
-    ensures failed { IfErr result IsStoreFault }
 {
     let mut place = 0;
     for pair in pairs {

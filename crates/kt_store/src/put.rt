@@ -1,13 +1,14 @@
 ghost use Rattle.std.specs.Prelude.{◌≡◌, ◌⊎◌, Some, None, IfOk, ◌<◌, ◌≤◌, ◌^◌, OnOk, OnErr, IfErr};
-ghost use Rattle.kt_store.specs.Common.{last_run, IsStorable, HasCleanDisk, state, IsNoMemory, IsStoreFault, KeepsRuns, Looked, Changes, MayChange, CommitsLater, RunsAll, CanAdd, IsBareIfPassed, with_entry, kind_code, put_refusal, StandsFor, entry_statements};
+ghost use Rattle.kt_store.specs.Common.{last_run, IsStorable, HasCleanDisk, state, IsStoreFault, KeepsRuns, Looked, Changes, MayChange, CommitsLater, RunsAll, CanAdd, IsBareIfPassed, with_entry, kind_code, put_refusal, StandsFor, entry_statements};
 
 use crate::StoreFault;
 use crate::batch::Batch;
 use crate::lookup::{look, there};
 use crate::pairs::add_pairs;
+use crate::store_fault::Trouble;
 use crate::store_fault::statements::{commit, step};
 use crate::value::{blob, int, text};
-use kt_base::{Entry, Kind, Text};
+use kt_base::{Entry, Kind, NoMemory, Text};
 use sqlite::{Alter, Connection, Transaction};
 use std::alloc::Global;
 
@@ -25,10 +26,9 @@ pub(crate) fn code(kind: Kind) -> u64
 }
 
 /// The text of the reason.
-pub(crate) fn reason_of(alloc: Global, entry: &Entry) -> Result<Text, StoreFault>
+pub(crate) fn reason_of(alloc: Global, entry: &Entry) -> Result<Text, NoMemory>
     ensures text { IfOk result (λ t. t ≡ entry.now.verdict.reason) }
     ensures passed { OnOk result (IsBareIfPassed entry.now) }
-    ensures failed { IfErr result IsNoMemory }
 {
     let mut reason = Text::new(alloc);
     entry.verdict.write_reason(&mut reason)?;
@@ -41,7 +41,7 @@ pub(crate) fn fill<S: Alter>(
     run: u64,
     entry: &Entry,
     reason: &Text,
-) -> Result<(), StoreFault>
+) -> Result<(), Trouble>
     requires run { run < 2 ^ 63 }
     requires reason { reason.now ≡ entry.now.verdict.reason }
     requires moments { IsStorable entry.now }
@@ -49,7 +49,6 @@ pub(crate) fn fill<S: Alter>(
     ensures runs { OnOk result (RunsAll S.Store (entry_statements run entry.now)
         tx.old.conn.now tx.new.conn.now) }
     ensures uncommitted { CommitsLater S.Store tx.old.conn.now tx.new.conn.now }
-    ensures failed { IfErr result IsStoreFault }
 {
     step(
         tx,
@@ -89,7 +88,7 @@ impl Batch for NewEntry<'_> {
     ghost is_ready = { λ n. (n.run < 2 ^ 63) × (n.reason.now ≡ n.entry.now.verdict.reason)
         × IsStorable n.entry.now };
 
-    fn fill<S: Alter>(&self, tx: &mut Transaction<'_, S>) -> Result<(), StoreFault> {
+    fn fill<S: Alter>(&self, tx: &mut Transaction<'_, S>) -> Result<(), Trouble> {
         fill(tx, self.run, self.entry, self.reason)
     }
 }
@@ -100,14 +99,13 @@ pub(crate) fn add_entry<S: Alter>(
     run: u64,
     entry: &Entry,
     reason: &Text,
-) -> Result<(), StoreFault>
+) -> Result<(), Trouble>
     requires run { run < 2 ^ 63 }
     requires reason { reason.now ≡ entry.now.verdict.reason }
     requires moments { IsStorable entry.now }
     ensures added { OnOk result (Changes S.Store conn.old conn.new
         (CanAdd run entry.now) (with_entry run entry.now)) }
     ensures kept { OnErr result (KeepsRuns S.Store conn.old conn.new) }
-    ensures failed { IfErr result IsStoreFault }
     ensures crash { MayChange S.Store conn.old conn.new
         (CanAdd run entry.now) (with_entry run entry.now) }
 {

@@ -83,7 +83,7 @@ impl<S: Alter> Results<S> {
         if is_full(&mut self.conn)? {
             return Err(StoreFault::StoreFull);
         }
-        add_run(&mut self.conn, total, moment)
+        Ok(add_run(&mut self.conn, total, moment)?)
     }
 
     /// Adds an entry and its pairs to a run, with the refusals of `ResultStore::put`.
@@ -93,7 +93,7 @@ impl<S: Alter> Results<S> {
     {
         let reason = reason_of(self.alloc, entry)?;
         check(&mut self.conn, run, entry)?;
-        add_entry(&mut self.conn, run, entry, &reason)
+        Ok(add_entry(&mut self.conn, run, entry, &reason)?)
     }
 
     /// Finishes a run, with the refusals of `ResultStore::finish`.
@@ -101,7 +101,7 @@ impl<S: Alter> Results<S> {
         ensures { Serves (results S.Store) (Finished run result) self.old self.new }
     {
         run_rows::check(&mut self.conn, run)?;
-        mark(&mut self.conn, run)
+        Ok(mark(&mut self.conn, run)?)
     }
 
     /// All runs without their entries, by number.
@@ -109,7 +109,7 @@ impl<S: Alter> Results<S> {
         ensures { Serves (results S.Store) (Heads (seen_as (λ heads. heads.items) result))
             self.old self.new }
     {
-        all_heads(&mut self.conn, self.alloc)
+        Ok(all_heads(&mut self.conn, self.alloc)?)
     }
 
     /// The entries of a run with their pairs and their outputs, by position. `NoRun` where no run has the number.

@@ -4,18 +4,18 @@ ghost use Rattle.kt_store.specs.Common.{last_run, IsMoment, HasCleanDisk, state,
 use crate::StoreFault;
 use crate::entries::entry_rows;
 use crate::lookup::{MOST_RUNS, find, look};
+use crate::store_fault::Trouble;
 use crate::store_fault::statements::tell;
 use crate::value::int;
 use sqlite::{Alter, Connection};
 
 /// Whether there are as many runs as may be.
-pub(crate) fn is_full<S: Alter>(conn: &mut Connection<S>) -> Result<bool, StoreFault>
+pub(crate) fn is_full<S: Alter>(conn: &mut Connection<S>) -> Result<bool, Trouble>
     ensures full { (runs : _) → StandsFor (state S.Store conn.old) runs
         → HasCleanDisk (state S.Store conn.new)
         → IfOk result (λ full. (full ≡ true → last_run ≤ length runs)
         × (full ≡ false → length runs < last_run)) }
     ensures looked { Looked S.Store conn.old conn.new }
-    ensures failed { IfErr result IsStoreFault }
 {
     Ok(find(conn, MOST_RUNS)?.is_some())
 }
@@ -25,7 +25,7 @@ pub(crate) fn add_run<S: Alter>(
     conn: &mut Connection<S>,
     total: u32,
     moment: u64,
-) -> Result<u64, StoreFault>
+) -> Result<u64, Trouble>
     requires { IsMoment moment }
     ensures number { (runs : _) → StandsFor (state S.Store conn.old) runs
         → (HasCleanDisk (state S.Store conn.old) → length runs < last_run)
@@ -33,7 +33,6 @@ pub(crate) fn add_run<S: Alter>(
     ensures added { OnOk result (Changes S.Store conn.old conn.new
         (λ runs. length runs < last_run) (λ runs. runs ++ new_run runs total moment ∷ [])) }
     ensures kept { OnErr result (KeepsRuns S.Store conn.old conn.new) }
-    ensures failed { IfErr result IsStoreFault }
     ensures crash { MayChange S.Store conn.old conn.new
         (λ runs. length runs < last_run) (λ runs. runs ++ new_run runs total moment ∷ []) }
 {
@@ -69,11 +68,10 @@ pub(crate) fn check<S: Alter>(conn: &mut Connection<S>, run: u64) -> Result<(), 
 }
 
 /// Sets the state of a run that has all its entries.
-pub(crate) fn mark<S: Alter>(conn: &mut Connection<S>, run: u64) -> Result<(), StoreFault>
+pub(crate) fn mark<S: Alter>(conn: &mut Connection<S>, run: u64) -> Result<(), Trouble>
     requires { run < 2 ^ 63 }
     ensures marked { OnOk result (Changes S.Store conn.old conn.new (IsComplete run) (finish run)) }
     ensures kept { OnErr result (KeepsRuns S.Store conn.old conn.new) }
-    ensures failed { IfErr result IsStoreFault }
     ensures crash { MayChange S.Store conn.old conn.new (IsComplete run) (finish run) }
 {
     tell(

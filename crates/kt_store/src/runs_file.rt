@@ -11,7 +11,8 @@ use crate::edits::{ended, write_entry, write_finish, write_run};
 use crate::opening::{close_store, open_known};
 use crate::places::Places;
 use crate::seeks::{find_outputs, heads, outline};
-use crate::store_fault::trees::DAMAGED;
+use crate::store_fault::Trouble;
+use crate::store_fault::trees::{present, sure};
 use crate::supposed::Contents;
 use crate::{Access, CaseOutputs, Keeping, ResultStore, Results, RunHead, StoreFault};
 use kt_base::{Entry, NoMemory, Text};
@@ -61,23 +62,16 @@ fn listed<S: Alter>(store: &S, alloc: Global) -> Result<Option<Schema>, NoMemory
 }
 
 /// The results in a store that shows its last commit, if that obeys the schema that it lists, with the tables of results.
-pub(crate) fn over<S: Alter + Drop>(alloc: Global, store: S) -> Result<RunsFile<S>, StoreFault>
+pub(crate) fn over<S: Alter + Drop>(alloc: Global, store: S) -> Result<RunsFile<S>, Trouble>
     requires settled { IsClean (S.Store.view store) → (S.Store.view store).is_broken ≡ false
         → (S.Store.view store).trees ≡ (S.Store.view store).committed }
     requires sound { IsTrue (S.Store.view store).is_open
         → (schema : Tables) × IsSound schema (S.Store.view store).committed }
     ensures same { IfOk result (λ r. r ≡ store) }
-    ensures failed { IfErr result IsStoreFault }
 {
-    if store.is_broken() {
-        return Err(DAMAGED);
-    }
-    let Some(schema) = listed(&store, alloc)? else {
-        return Err(DAMAGED);
-    };
-    let Some(places) = places_in(&schema) else {
-        return Err(DAMAGED);
-    };
+    sure(!store.is_broken())?;
+    let schema = present(listed(&store, alloc)?)?;
+    let places = present(places_in(&schema))?;
     Ok(RunsFile {
         store,
         schema,
@@ -104,7 +98,7 @@ impl<S: Alter + Drop> RunsFile<S> {
     {
         let (alloc, connection) = results.into_parts();
         lives(&connection);
-        over(alloc, connection.into_store())
+        Ok(over(alloc, connection.into_store())?)
     }
 
     /// The store of the results.
@@ -136,7 +130,7 @@ impl<D: Disk + Drop> RunsFile<FileStore<D>> {
             places: _,
             alloc: _,
         } = self;
-        close_store(store)
+        Ok(close_store(store)?)
     }
 }
 

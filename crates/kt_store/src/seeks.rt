@@ -10,16 +10,17 @@ use crate::heads::{head_in, heads_in};
 use crate::lookup::key;
 use crate::outlines::entries_in;
 use crate::places::{Place, Places};
+use crate::store_fault::Trouble;
 use crate::store_fault::trees::{
-    DAMAGED, Table, add_number, all_shown, number_row, row_behind, rows_in, shown,
+    Table, add_number, all_shown, number_of, number_row, row_behind, rows_in, shown, stored_bytes,
+    sure,
 };
 use crate::{CaseOutputs, RunHead, StoreFault};
-use kt_base::{Bytes, Entry, Output};
+use kt_base::{Entry, Output};
 use sqlite_exec::check::all_rows;
 use sqlite_exec::work::Workspace;
 use sqlite_trees::store::{Direction, Shape, Store};
 use sqlite_value::row;
-use sqlite_value::value::ValueRef;
 use std::alloc::Global;
 
 /// Where the tables stand in a file that plainly lists schema 2.
@@ -82,27 +83,22 @@ pub(crate) fn last_number<S: Store>(
     store: &mut S,
     alloc: Global,
     places: Places,
-) -> Result<u64, StoreFault>
+) -> Result<u64, Trouble>
     requires { StandAt places (S.Store.view store.old) }
     ensures last { (runs : List Run) → HasRuns (S.Store.view store.old) runs
         → IsClean (S.Store.view store.new) → IfOk result (λ n. n ≡ length runs) }
     ensures through { IsClean (S.Store.view store.new)
         → OnOk result (LooksThrough (S.Store.view store.old) (S.Store.view store.new)) }
-    ensures failed { IfErr result IsStoreFault }
     ensures looks { Looks S.Store store.old store.new }
 {
-    if store.shape(places.runs.tree) != Shape::Table {
-        return Err(DAMAGED);
-    }
+    sure(store.shape(places.runs.tree) == Shape::Table)?;
     let mut row = row::Row::new(alloc);
     store.seek(0, places.runs.tree, &row, Direction::Backward)?;
     if !store.next(0, &mut row)? {
         return Ok(0);
     }
-    match row.get(0) {
-        ValueRef::Int(number) if number > 0 => Ok(number.unsigned_abs()),
-        _ => Err(DAMAGED),
-    }
+    let number = number_of(&row)?;
+    Ok(number)
 }
 
 /// The row of a run. `NoRun` where no run has the number.
@@ -125,9 +121,7 @@ pub(crate) fn stored_run<S: Store>(
     ensures looks { Looks S.Store store.old store.new }
 {
     let number = key(run);
-    if store.shape(places.runs.tree) != Shape::Table {
-        return Err(DAMAGED);
-    }
+    sure(store.shape(places.runs.tree) == Shape::Table)?;
     let mut row = row::Row::new(alloc);
     if !store.get(places.runs.tree, number as i64, &mut row)? || number != run {
         return Err(StoreFault::NoRun);
@@ -136,9 +130,8 @@ pub(crate) fn stored_run<S: Store>(
 }
 
 /// The head in the row of a run.
-pub(crate) fn stored_head(alloc: Global, row: &row::Row) -> Result<RunHead, StoreFault>
+pub(crate) fn stored_head(alloc: Global, row: &row::Row) -> Result<RunHead, Trouble>
     ensures head { (r : Run) → row.now ≡ run_row r → IfOk result (λ h. h ≡ head_of r) }
-    ensures failed { IfErr result IsStoreFault }
 {
     let shown = shown(alloc, row, &[0, 2, 3, 4])?;
     head_in(&shown)
@@ -151,13 +144,12 @@ fn all_entries<S: Store>(
     places: Places,
     run: u64,
     pairs: bool,
-) -> Result<Vec<Entry>, StoreFault>
+) -> Result<Vec<Entry>, Trouble>
     requires run { run < 2 ^ 63 }
     requires placed { StandAt places (S.Store.view store.old) }
     ensures all { (runs : _) → HasRuns (S.Store.view store.old) runs
         → IsClean (S.Store.view store.new) → IfOk result (λ found. found.items
         ≡ map (outlined pairs) (entries_of (run_at runs run))) }
-    ensures failed { IfErr result IsStoreFault }
     ensures looks { Looks S.Store store.old store.new }
 {
     let rows = rows_in(
@@ -201,36 +193,14 @@ pub(crate) fn outline<S: Store>(
     let row = stored_run(store, alloc, places, run)?;
     let head = stored_head(alloc, &row)?;
     let found = all_entries(store, alloc, places, run, pairs)?;
-    if !has_as_many(head, found.len()) {
-        return Err(DAMAGED);
-    }
+    sure(has_as_many(head, found.len()))?;
     Ok(found)
 }
 
-/// The bytes in a column of a stored row. This is the one copy of an output that is made here.
-fn stored_bytes(alloc: Global, row: &row::Row, at: usize) -> Result<Bytes, StoreFault>
-    ensures bytes { (b : List ℕ) → column row.now at ≡ Blob b → IfOk result (λ x. x ≡ b) }
-    ensures failed { IfErr result IsStoreFault }
-{
-    match row.get(at) {
-        ValueRef::Blob(bytes) => {
-            let copy = Bytes::from_slice(alloc, bytes)?;
-            Ok(copy)
-        }
-        _ => Err(DAMAGED),
-    }
-}
-
 /// What was printed, in two columns of a stored row.
-fn stored_output(
-    alloc: Global,
-    row: &row::Row,
-    out: usize,
-    err: usize,
-) -> Result<Output, StoreFault>
+fn stored_output(alloc: Global, row: &row::Row, out: usize, err: usize) -> Result<Output, Trouble>
     ensures output { (o : Pair) → column row.now out ≡ Blob o.out → column row.now err ≡ Blob o.err
         → IfOk result (λ x. x ≡ o) }
-    ensures failed { IfErr result IsStoreFault }
 {
     let out = stored_bytes(alloc, row, out)?;
     let err = stored_bytes(alloc, row, err)?;

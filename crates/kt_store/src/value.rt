@@ -1,8 +1,8 @@
-ghost use Rattle.std.specs.Prelude.{◌≡◌, ◌<◌, ◌^◌, pos, ℕ, length, IfOk, IfErr};
-ghost use Rattle.kt_store.specs.Common.{utf8, owned, Int, Blob, IsText, column, IsStoreFault};
+ghost use Rattle.std.specs.Prelude.{◌≡◌, ◌<◌, ◌^◌, pos, ℕ, length, IfOk};
+ghost use Rattle.kt_store.specs.Common.{utf8, owned, Int, Blob, IsText, column};
 ghost use Rattle.sqlite_value.specs.declared.value.Value.TheVariants.{Text as Words};
 
-use crate::StoreFault;
+use crate::store_fault::Trouble;
 use crate::store_fault::statements::value_in;
 use kt_base::{Bytes, Text};
 use sqlite::Row;
@@ -31,19 +31,17 @@ pub(crate) fn blob(bytes: &Bytes) -> ValueRef<'_>
 }
 
 /// A number of a row. A negative one is refused.
-pub(crate) fn number_in(row: &Row, at: usize) -> Result<u64, StoreFault>
+pub(crate) fn number_in(row: &Row, at: usize) -> Result<u64, Trouble>
     requires { at < length row.now }
     ensures number { IfOk result (λ n. column row.now at ≡ Int (pos n)) }
-    ensures failed { IfErr result IsStoreFault }
 {
     value_in::<u64>(row, at)
 }
 
 /// A number of a row, 0 to 4,294,967,295. Any other is refused.
-pub(crate) fn small_in(row: &Row, at: usize) -> Result<u32, StoreFault>
+pub(crate) fn small_in(row: &Row, at: usize) -> Result<u32, Trouble>
     requires { at < length row.now }
     ensures number { IfOk result (λ n. column row.now at ≡ Int (pos n)) }
-    ensures failed { IfErr result IsStoreFault }
 {
     value_in::<u32>(row, at)
 }

@@ -1,14 +1,20 @@
 -- The statements of the calls that write more than one.
-use Rattle.std.specs.Prelude.{ℕ, suc, List, [], ◌∷◌, codes}
+use Rattle.std.specs.Prelude.{◌≡◌, ◌⊎◌, ℕ, suc, List, [], ◌∷◌, codes}
+use Rattle.sqlite.specs.Given.{IsPlain}
+use Rattle.sqlite.specs.Listing.{understood}
 use Rattle.sqlite.specs.Order.{Row}
 use Rattle.kt_base.specs.declared.entry.Entry.{Entry}
 use Rattle.kt_base.specs.declared.variable.Variable.{Variable}
 use Rattle.kt_store.specs.Runs.{entry_row, pair_row}
-use Rattle.kt_store.specs.Tables.{put_text, create_meta, create_runs, create_entries, create_props, mark_text, raise_text}
+use Rattle.kt_store.specs.Tables.{schema_2, put_text, create_meta, create_runs, create_entries, create_props, mark_text, raise_text}
 
 -- a text of SQL, the values of its parameters, and the texts among them
 abbrev pub Statement : Type 0
 Statement = List ℕ × Row × List (List ℕ)
+
+-- a text of one of our statements: it makes a table, or is one that SQLite understands over those of schema 2
+abbrev pub IsOurs : List ℕ → Type 0
+IsOurs sql = (sql ≡ create_meta) ⊎ (sql ≡ create_runs) ⊎ (sql ≡ create_entries) ⊎ (sql ≡ create_props) ⊎ IsPlain (understood schema_2 sql)
 
 -- a new pair of an entry
 abbrev pub pair_text : List ℕ

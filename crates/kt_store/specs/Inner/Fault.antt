@@ -1,11 +1,33 @@
--- The refusal that an error of SQLite becomes.
-use Rattle.std.specs.Prelude.{◌≡◌, ◌≢◌, ◌⊎◌}
+-- Why a part of a call fails.
+use Rattle.std.specs.Prelude.{◌≡◌, ◌≢◌, ◌⊎◌, ⊤}
 use Rattle.sqlite.specs.declared.error.ErrorCode.TheVariants as code
 use Rattle.sqlite.specs.declared.error.Error.{Error}
 use Rattle.sqlite.specs.declared.error.Error.TheVariants.{SqliteFailure}
-use Rattle.kt_store.specs.declared.store_fault.StoreFault.{StoreFault}
-use Rattle.kt_store.specs.Ask.{IsNoMemory, IsFailure}
+use Rattle.sqlite_rules.specs.declared.error.WriteError.{WriteError}
+use Rattle.sqlite_rules.specs.declared.error.WriteError.TheVariants as write
+use Rattle.sqlite_trees.specs.declared.error.StoreError.{StoreError}
+use Rattle.sqlite_trees.specs.declared.error.StoreError.TheVariants.{OutOfMemory}
+use Rattle.kt_store.specs.declared.store_fault.Trouble.{Trouble}
+use Rattle.kt_store.specs.declared.store_fault.Trouble.TheVariants.{NoMemory, Failed}
+
+-- memory ran out
+abbrev pub IsShort : Trouble → Type 0
+IsShort (NoMemory shortage) = ⊤
+IsShort (Failed statement) = ⊥
+
+-- a statement or a tree failed
+abbrev pub IsFailure : Trouble → Type 0
+IsFailure (NoMemory shortage) = ⊥
+IsFailure (Failed statement) = ⊤
 
 -- an error is a lack of memory if that is what SQLite says, and else a failed statement
-abbrev pub Tells : Error → StoreFault → Type 0
-Tells error fault = (IsNoMemory fault × (error ≡ SqliteFailure code.OutOfMemory)) ⊎ (IsFailure fault × (error ≢ SqliteFailure code.OutOfMemory))
+abbrev pub Tells : Error → Trouble → Type 0
+Tells error trouble = (IsShort trouble × (error ≡ SqliteFailure code.OutOfMemory)) ⊎ (IsFailure trouble × (error ≢ SqliteFailure code.OutOfMemory))
+
+-- the same of an error of a tree
+abbrev pub TellsOf : StoreError → Trouble → Type 0
+TellsOf error trouble = (IsShort trouble × (error ≡ OutOfMemory)) ⊎ (IsFailure trouble × (error ≢ OutOfMemory))
+
+-- an error of a write is told as a lack of memory only if that is what a tree says
+abbrev pub TellsOfWrite : WriteError → Trouble → Type 0
+TellsOfWrite error trouble = IsShort trouble → error ≡ write.Failed OutOfMemory

@@ -49,6 +49,26 @@ impl StoreFault {
     }
 }
 
+/// Why a part of a call fails. A call of the store has refusals of its own beside these.
+#[derive(Clone, Copy)]
+pub(crate) enum Trouble {
+    NoMemory(Shortage),
+    Failed(FailedStatement),
+}
+
+impl From<Trouble> for StoreFault {
+    ghost use Rattle.kt_store.specs.Ask.{IsStoreFault};
+
+    ghost from_gives = { λ _ fault. IsStoreFault fault };
+
+    fn from(trouble: Trouble) -> StoreFault {
+        match trouble {
+            Trouble::NoMemory(shortage) => StoreFault::NoMemory(shortage),
+            Trouble::Failed(failed) => StoreFault::Store(failed),
+        }
+    }
+}
+
 /// Memory ran out. Only a refusal of the allocator, or of SQLite, makes this value.
 #[derive(Clone, Copy, Debug)]
 pub struct Shortage(Refusal);

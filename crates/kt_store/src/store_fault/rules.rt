@@ -1,9 +1,8 @@
 ghost use Rattle.std.specs.Prelude.{◌≡◌, ◌⊎◌, OnOk};
-ghost use Rattle.kt_store.specs.Common.{IsStoreFault, Obeys, HoldsCommit, PutsRows};
+ghost use Rattle.kt_store.specs.Common.{TellsOfWrite, Obeys, HoldsCommit, PutsRows};
 ghost use Rattle.sqlite_trees.specs.View.{IsClean, IsQuiet, OnlyWrites};
 
-use crate::StoreFault;
-use crate::store_fault::{Cause, FailedStatement};
+use crate::store_fault::{Cause, FailedStatement, Trouble};
 use sqlite_exec::work::Workspace;
 use sqlite_items::Items;
 use sqlite_rules::error::{Refusal, Rowids, WriteError};
@@ -14,13 +13,13 @@ use sqlite_trees::store::Alter;
 use sqlite_value::row::Row;
 use std::alloc::Global;
 
-impl From<WriteError> for StoreFault {
-    ghost from_gives = { λ _ fault. IsStoreFault fault };
+impl From<WriteError> for Trouble {
+    ghost from_gives = { TellsOfWrite };
 
-    fn from(error: WriteError) -> StoreFault {
+    fn from(error: WriteError) -> Trouble {
         match error {
-            WriteError::Failed(error) => StoreFault::from(error),
-            WriteError::Refused(_) => StoreFault::Store(FailedStatement(Cause::Refused)),
+            WriteError::Failed(error) => Trouble::from(error),
+            WriteError::Refused(_) => Trouble::Failed(FailedStatement(Cause::Refused)),
         }
     }
 }

@@ -1,10 +1,10 @@
-ghost use Rattle.std.specs.Prelude.{◌≡◌, ◌<◌, Ok, IfOk, OnOk, OnErr, IfErr, IsTrue, true, false, nat_lt, length, []};
-ghost use Rattle.kt_store.specs.Common.{bound, IsPlain, understood, HasCleanDisk, Survives, IsUnchanged, state, column, Tells, CommitsNothing, Looked, Asked, AreWide, HasColumns, MayShow, MayTell, ShowsOf, Told, Commits, CommitsLater, MayCommit, RunsOne, Undoes, Rests, IsNoMemory, IsStoreFault, image_at, IsOver, IsUnderstood, StandsFor, schema_2};
+ghost use Rattle.std.specs.Prelude.{◌≡◌, ◌<◌, Ok, IfOk, OnOk, OnErr, IsTrue, true, false, nat_lt, length, []};
+ghost use Rattle.kt_store.specs.Common.{bound, IsPlain, understood, HasCleanDisk, Survives, IsUnchanged, state, column, Tells, CommitsNothing, Looked, Asked, AreWide, HasColumns, MayShow, MayTell, ShowsOf, Told, Commits, CommitsLater, IsOurs, MayCommit, RunsOne, Undoes, Rests, IsNoMemory, IsShort, image_at, IsOver, IsUnderstood, StandsFor, schema_2};
 ghost use Rattle.sqlite_std_file.specs.File.{file_is_usable, IsFresh};
 
 use crate::batch::Batch;
 use crate::opening::{is_path, options};
-use crate::store_fault::{Cause, FailedStatement, Refusal, Shortage};
+use crate::store_fault::{Cause, FailedStatement, Refusal, Shortage, Trouble};
 use crate::{Access, StoreFault};
 use kt_base::{NoMemory, Text};
 use sqlite::types::FromSql;
@@ -24,43 +24,50 @@ impl From<NoMemory> for StoreFault {
     }
 }
 
-/// The fault that an error of SQLite is.
-fn fault_of(error: SqlError) -> StoreFault
-    ensures { Tells error result }
-{
-    match error {
-        SqlError::SqliteFailure(ErrorCode::OutOfMemory) => StoreFault::NoMemory(Shortage(Refusal)),
-        _ => StoreFault::Store(FailedStatement(Cause::Reported)),
+impl From<NoMemory> for Trouble {
+    ghost from_gives = { λ _ trouble. IsShort trouble };
+
+    fn from(_refusal: NoMemory) -> Trouble {
+        Trouble::NoMemory(Shortage(Refusal))
+    }
+}
+
+impl From<SqlError> for Trouble {
+    ghost from_gives = { Tells };
+
+    fn from(error: SqlError) -> Trouble {
+        match error {
+            SqlError::SqliteFailure(ErrorCode::OutOfMemory) => Trouble::NoMemory(Shortage(Refusal)),
+            _ => Trouble::Failed(FailedStatement(Cause::Reported)),
+        }
     }
 }
 
 /// A value of a row that has this column.
-pub(crate) fn value_in<T: FromSql>(row: &Row, at: usize) -> Result<T, StoreFault>
+pub(crate) fn value_in<T: FromSql>(row: &Row, at: usize) -> Result<T, Trouble>
     requires { at < length row.now }
     ensures value { IfOk result (T.FromSql.reads_as (column row.now at)) }
-    ensures failed { IfErr result IsStoreFault }
 {
     match row.get::<T>(at) {
         Ok(value) => Ok(value),
-        Err(error) => Err(fault_of(error)),
+        Err(error) => Err(Trouble::from(error)),
     }
 }
 
 /// Asks whether the connection is open, and its tables those of a statement.
-pub(crate) fn probe<S: Alter>(conn: &mut Connection<S>, sql: &str) -> Result<(), StoreFault>
+pub(crate) fn probe<S: Alter>(conn: &mut Connection<S>, sql: &str) -> Result<(), Trouble>
     requires { IsPlain (understood schema_2 sql.now) }
     ensures same { HasCleanDisk (state S.Store conn.new)
         → OnOk result (IsUnchanged (state S.Store conn.old) (state S.Store conn.new)) }
     ensures rests { HasCleanDisk (state S.Store conn.new)
         → OnErr result (Rests (state S.Store conn.old) (state S.Store conn.new)) }
-    ensures failed { IfErr result IsStoreFault }
     ensures understood { HasCleanDisk (state S.Store conn.new)
         → OnOk result (IsUnderstood (state S.Store conn.old) sql.now) }
     ensures survives { CommitsNothing S.Store conn.old conn.new }
 {
     match conn.prepare(sql) {
         Ok(_statement) => Ok(()),
-        Err(error) => Err(fault_of(error)),
+        Err(error) => Err(Trouble::from(error)),
     }
 }
 
@@ -69,37 +76,35 @@ pub(crate) fn ask<S: Alter>(
     conn: &mut Connection<S>,
     sql: &str,
     params: &[ValueRef<'_>],
-) -> Result<Vec<Row>, StoreFault>
+) -> Result<Vec<Row>, Trouble>
     requires { IsPlain (understood schema_2 sql.now) }
     ensures rows { HasCleanDisk (state S.Store conn.new)
         → IfOk result (λ rows. Asked S.Store sql.now
         (bound params.now) conn.old conn.new rows.items) }
     ensures rests { HasCleanDisk (state S.Store conn.new)
         → OnErr result (Rests (state S.Store conn.old) (state S.Store conn.new)) }
-    ensures failed { IfErr result IsStoreFault }
     ensures survives { Survives (state S.Store conn.old) (state S.Store conn.new)
         (MayShow S.Store sql.now (bound params.now) conn.old) }
 {
     let statement = match conn.prepare(sql) {
         Ok(statement) => statement,
-        Err(error) => return Err(fault_of(error)),
+        Err(error) => return Err(Trouble::from(error)),
     };
     match statement.query_all(conn, params) {
         Ok(rows) => Ok(rows),
-        Err(error) => Err(fault_of(error)),
+        Err(error) => Err(Trouble::from(error)),
     }
 }
 
 /// Asks for the last of so many columns in each row.
-fn have_columns(rows: &[Row], width: usize) -> Result<(), StoreFault>
+fn have_columns(rows: &[Row], width: usize) -> Result<(), Trouble>
     requires { 0 < width }
     ensures wide { OnOk result (AreWide width rows.now) }
-    ensures failed { IfErr result IsStoreFault }
 {
     let mut rest = rows;
     while let Some((row, after)) = rest.split_first() {
         if let Err(error) = row.get_ref(width - 1) {
-            return Err(fault_of(error));
+            return Err(Trouble::from(error));
         }
         rest = after;
     }
@@ -112,7 +117,7 @@ pub(crate) fn query<S: Alter>(
     sql: &str,
     width: usize,
     params: &[ValueRef<'_>],
-) -> Result<Vec<Row>, StoreFault>
+) -> Result<Vec<Row>, Trouble>
     requires plain { IsPlain (understood schema_2 sql.now) }
     requires width { HasColumns width (understood schema_2 sql.now) }
     ensures shown { (runs : _) → StandsFor (state S.Store conn.old) runs
@@ -121,7 +126,6 @@ pub(crate) fn query<S: Alter>(
         conn.new rows.items) }
     ensures wide { IfOk result (λ rows. AreWide width rows.items) }
     ensures looked { Looked S.Store conn.old conn.new }
-    ensures failed { IfErr result IsStoreFault }
 {
     let rows = ask(conn, sql, params)?;
     have_columns(&rows, width)?;
@@ -133,22 +137,22 @@ pub(crate) fn tell<S: Alter>(
     conn: &mut Connection<S>,
     sql: &str,
     params: &[ValueRef<'_>],
-) -> Result<(), StoreFault>
+) -> Result<(), Trouble>
+    requires { IsPlain (understood schema_2 sql.now) }
     ensures told { HasCleanDisk (state S.Store conn.new)
         → OnOk result (Told S.Store sql.now (bound params.now) conn.old conn.new) }
     ensures rests { HasCleanDisk (state S.Store conn.new)
         → OnErr result (Rests (state S.Store conn.old) (state S.Store conn.new)) }
-    ensures failed { IfErr result IsStoreFault }
     ensures survives { Survives (state S.Store conn.old) (state S.Store conn.new)
         (MayTell S.Store sql.now (bound params.now) conn.old) }
 {
     let statement = match conn.prepare(sql) {
         Ok(statement) => statement,
-        Err(error) => return Err(fault_of(error)),
+        Err(error) => return Err(Trouble::from(error)),
     };
     match statement.execute(conn, params) {
         Ok(_count) => Ok(()),
-        Err(error) => Err(fault_of(error)),
+        Err(error) => Err(Trouble::from(error)),
     }
 }
 
@@ -157,72 +161,65 @@ pub(crate) fn step<S: Alter>(
     tx: &mut Transaction<'_, S>,
     sql: &str,
     params: &[ValueRef<'_>],
-) -> Result<(), StoreFault>
+) -> Result<(), Trouble>
+    requires { IsOurs sql.now }
     ensures same_reference { tx.new.conn.ghost_name ≡ tx.old.conn.ghost_name }
     ensures runs { OnOk result (RunsOne S.Store (sql.now, bound params.now, [])
         tx.old.conn.now tx.new.conn.now) }
     ensures uncommitted { CommitsLater S.Store tx.old.conn.now tx.new.conn.now }
-    ensures failed { IfErr result IsStoreFault }
 {
     match tx.execute(sql, params) {
         Ok(_count) => Ok(()),
-        Err(error) => Err(fault_of(error)),
+        Err(error) => Err(Trouble::from(error)),
     }
 }
 
 /// Runs statements in one transaction, and commits them. A connection that is in a transaction is refused.
-pub(crate) fn commit<S: Alter, B: Batch>(
-    conn: &mut Connection<S>,
-    batch: &B,
-) -> Result<(), StoreFault>
+pub(crate) fn commit<S: Alter, B: Batch>(conn: &mut Connection<S>, batch: &B) -> Result<(), Trouble>
     requires { B.is_ready batch.now }
     ensures done { HasCleanDisk (state S.Store conn.new)
         → OnOk result (Commits S.Store (B.statements batch.now) conn.old conn.new) }
     ensures undone { HasCleanDisk (state S.Store conn.new)
         → OnErr result (Undoes S.Store conn.old conn.new) }
-    ensures failed { IfErr result IsStoreFault }
     ensures crash { Survives (state S.Store conn.old) (state S.Store conn.new)
         (MayCommit S.Store (B.statements batch.now) conn.old) }
 {
     if !conn.is_autocommit() {
-        return Err(StoreFault::Store(FailedStatement(Cause::InTransaction)));
+        return Err(Trouble::Failed(FailedStatement(Cause::InTransaction)));
     }
     let mut tx = conn.transaction();
     batch.fill(&mut tx)?;
     match tx.commit() {
         Ok(()) => Ok(()),
-        Err(error) => Err(fault_of(error)),
+        Err(error) => Err(Trouble::from(error)),
     }
 }
 
 /// A database that can't be opened.
-const NOT_OPENED: StoreFault = StoreFault::Store(FailedStatement(Cause::Reported));
+const NOT_OPENED: Trouble = Trouble::Failed(FailedStatement(Cause::Reported));
 
 /// The fault of files that can't be opened.
-fn unopened(error: &OpenError) -> StoreFault
-    ensures { IsStoreFault result }
-{
+fn unopened(error: &OpenError) -> Trouble {
     let is_short = match error {
         OpenError::OutOfMemory => true,
         OpenError::Io(error) => error.kind() == ErrorKind::OutOfMemory,
-        OpenError::Busy => return StoreFault::Store(FailedStatement(Cause::InUse)),
+        OpenError::Busy => return Trouble::Failed(FailedStatement(Cause::InUse)),
         OpenError::HotJournal => false,
     };
     if is_short {
-        StoreFault::NoMemory(Shortage(Refusal))
+        Trouble::NoMemory(Shortage(Refusal))
     } else {
         NOT_OPENED
     }
 }
 
 /// What a call returned that gives back what it took if it fails.
-fn done<T, L: Drop>(returned: Result<T, (SqlError, L)>) -> Result<T, StoreFault>
+fn done<T, L: Drop>(returned: Result<T, (SqlError, L)>) -> Result<T, Trouble>
     ensures ok { IfOk result (λ it. returned ≡ Ok it) }
-    ensures failed { IfErr result IsStoreFault }
 {
     match returned {
         Ok(it) => Ok(it),
-        Err((error, _left)) => Err(fault_of(error)),
+        Err((error, _left)) => Err(Trouble::from(error)),
     }
 }
 
@@ -231,11 +228,10 @@ pub(crate) fn open_both<S: Start>(
     rt: &HostRuntime,
     file: &Text,
     start: S,
-) -> Result<Files<FileFrom<S>>, StoreFault>
+) -> Result<Files<FileFrom<S>>, Trouble>
     ensures log { IfOk result (λ files. IsTrue (file_is_usable S.Start files.log)) }
     ensures db { IfOk result (λ files. IsTrue (file_is_usable S.Start files.db)) }
     ensures fresh { IfOk result (λ files. IsFresh true files.log × IsFresh false files.db) }
-    ensures failed { IfErr result IsStoreFault }
 {
     match sqlite_std_file::open(rt, file.as_str(), start) {
         Ok(files) => Ok(files),
@@ -248,9 +244,8 @@ pub(crate) fn open_file<S: Start>(
     rt: &HostRuntime,
     file: &Text,
     start: S,
-) -> Result<Connection<FileStore<FileFrom<S>>>, StoreFault>
+) -> Result<Connection<FileStore<FileFrom<S>>>, Trouble>
     ensures opened { IfOk result (IsOver (image_at S.Start)) }
-    ensures failed { IfErr result IsStoreFault }
 {
     if !is_path(file.as_str()) {
         return Err(NOT_OPENED);

@@ -1,7 +1,8 @@
-ghost use Rattle.std.specs.Prelude.{◌≡◌, ◌++◌, ◌<◌, ◌^◌, ℤ, pos, List, [], ◌∷◌, map, length, false, Some, IsSome, IsTrue, IfOk, IfErr, OnOk};
-ghost use Rattle.kt_store.specs.Common.{AllByRecursion, filter, column, Int, AreWide, IsStoreFault, FindsUnder, Goes, Looks, LooksThrough, ShowsUnder, CountsUnder, in_columns};
+ghost use Rattle.std.specs.Prelude.{◌≡◌, ◌++◌, ◌<◌, ◌^◌, ℕ, ℤ, pos, List, [], ◌∷◌, map, length, true, false, Some, None, IsSome, IsTrue, IfOk, OnOk, OnErr};
+ghost use Rattle.kt_store.specs.Common.{AllByRecursion, Blob, filter, column, Int, AreWide, IsStoreFault, TellsOf, FindsUnder, Goes, Looks, LooksThrough, ShowsUnder, CountsUnder, in_columns};
 ghost use Rattle.sqlite_exec.specs.Calls.{OnlyReads};
 ghost use Rattle.sqlite_exec.specs.Loops.{left_of};
+ghost use Rattle.sqlite_trees.specs.Tree.{rowid};
 ghost use Rattle.sqlite_trees.specs.View.{IsClean};
 ghost use Rattle.sqlite_trees.specs.declared.store.Shape.TheVariants as kind;
 ghost use Rattle.sqlite_value.specs.Keys.{plain};
@@ -9,9 +10,9 @@ ghost use Rattle.sqlite_value.specs.Order.{Row as Values};
 
 use crate::StoreFault;
 use crate::heads::add;
-use crate::store_fault::{Cause, FailedStatement, Refusal, Shortage};
+use crate::store_fault::{Cause, FailedStatement, Refusal, Shortage, Trouble};
 use crate::value::int;
-use kt_base::NoMemory;
+use kt_base::{Bytes, NoMemory};
 use sqlite::Row;
 use sqlite_exec::work::FromRow;
 use sqlite_trees::error::StoreError;
@@ -23,7 +24,26 @@ use std::alloc::Global;
 use std::cmp::Ordering;
 
 /// A tree has another shape than that of its number, or a place of an index has no row.
-pub(crate) const DAMAGED: StoreFault = StoreFault::Store(FailedStatement(Cause::Damaged));
+const DAMAGED: Trouble = Trouble::Failed(FailedStatement(Cause::Damaged));
+
+/// Damage, where a test of what was read fails.
+pub(crate) fn sure(is_sound: bool) -> Result<(), Trouble>
+    ensures sound { OnOk result (is_sound ≡ true) }
+    ensures damaged { OnErr result (is_sound ≡ false) }
+{
+    if is_sound { Ok(()) } else { Err(DAMAGED) }
+}
+
+/// What has to be there; damage where it isn't.
+pub(crate) fn present<T>(found: Option<T>) -> Result<T, Trouble>
+    ensures there { IfOk result (λ it. found ≡ Some it) }
+    ensures damaged { OnErr result (found ≡ None) }
+{
+    match found {
+        Some(it) => Ok(it),
+        None => Err(DAMAGED),
+    }
+}
 
 /// A table and the index of its key, with the columns of the key and those that are blobs.
 #[derive(Clone, Copy)]
@@ -62,14 +82,45 @@ impl Drop for Found {
     }
 }
 
+impl From<StoreError> for Trouble {
+    ghost from_gives = { TellsOf };
+
+    fn from(error: StoreError) -> Trouble {
+        match error {
+            StoreError::OutOfMemory => Trouble::NoMemory(Shortage(Refusal)),
+            _ => Trouble::Failed(FailedStatement(Cause::Reported)),
+        }
+    }
+}
+
 impl From<StoreError> for StoreFault {
     ghost from_gives = { λ _ fault. IsStoreFault fault };
 
     fn from(error: StoreError) -> StoreFault {
-        match error {
-            StoreError::OutOfMemory => StoreFault::NoMemory(Shortage(Refusal)),
-            _ => StoreFault::Store(FailedStatement(Cause::Reported)),
+        StoreFault::from(Trouble::from(error))
+    }
+}
+
+/// The bytes in a column of a stored row. This is the one copy of an output that is made here.
+pub(crate) fn stored_bytes(alloc: Global, row: &row::Row, at: usize) -> Result<Bytes, Trouble>
+    ensures bytes { (b : List ℕ) → column row.now at ≡ Blob b → IfOk result (λ x. x ≡ b) }
+{
+    match row.get(at) {
+        ValueRef::Blob(bytes) => {
+            let copy = Bytes::from_slice(alloc, bytes)?;
+            Ok(copy)
         }
+        _ => Err(DAMAGED),
+    }
+}
+
+/// The rowid of a row, which is above 0.
+pub(crate) fn number_of(row: &row::Row) -> Result<u64, Trouble>
+    ensures { (n : ℕ) → rowid row.now ≡ Int (pos n) → IfOk result (λ number. number ≡ n) }
+{
+    match row.get(0) {
+        ValueRef::Int(number) if number > 0 => Ok(number.unsigned_abs()),
+        _ => Err(DAMAGED),
     }
 }
 
@@ -170,7 +221,7 @@ pub(crate) fn next_row<S: Store>(
     table: &Table,
     key: &row::Row,
     found: &mut Found,
-) -> Result<bool, StoreFault>
+) -> Result<bool, Trouble>
     requires cursor { IsSome ((S.Store.view store.old).cursors 0) }
     requires table { (S.Store.view store.old).shape table.now.tree ≡ kind.Table }
     ensures goes { IfOk result (λ is_ours. IsClean (S.Store.view store.new)
@@ -180,19 +231,14 @@ pub(crate) fn next_row<S: Store>(
     ensures live { OnOk result (IsSome ((S.Store.view store.new).cursors 0)) }
     ensures reads { OnOk result (IsClean (S.Store.view store.new)
         → OnlyReads (S.Store.view store.old) (S.Store.view store.new)) }
-    ensures failed { IfErr result IsStoreFault }
     ensures looks { Looks S.Store store.old store.new }
 {
     let Found { place, row } = found;
     if !store.next(0, place)? {
         return Ok(false);
     }
-    let Some(id) = rowid_of(place) else {
-        return Err(DAMAGED);
-    };
-    if !store.get(table.tree, id, row)? {
-        return Err(DAMAGED);
-    }
+    let id = present(rowid_of(place))?;
+    sure(store.get(table.tree, id, row)?)?;
     let own = columns_of(alloc, row, table.key)?;
     if place.cmp_prefix(Order::PLAIN, &own) != Ordering::Equal || !has_blobs(row, table.blobs) {
         return Err(DAMAGED);
@@ -206,18 +252,15 @@ pub(crate) fn row_behind<S: Store>(
     alloc: Global,
     table: &Table,
     key: &row::Row,
-) -> Result<Option<row::Row>, StoreFault>
+) -> Result<Option<row::Row>, Trouble>
     ensures found { IfOk result (λ found. IsClean (S.Store.view store.new)
         → FindsUnder table.now.tree table.now.index key.now
         (S.Store.view store.old).trees found) }
     ensures sound { OnOk result (IsClean (S.Store.view store.new)
         → (S.Store.view store.old).is_broken ≡ false) }
-    ensures failed { IfErr result IsStoreFault }
     ensures looks { Looks S.Store store.old store.new }
 {
-    if !are_shaped(store, table) {
-        return Err(DAMAGED);
-    }
+    sure(are_shaped(store, table))?;
     store.seek(0, table.index, key, Direction::Forward)?;
     let mut found = Found::new(alloc);
     if !next_row(store, alloc, table, key, &mut found)? {
@@ -234,19 +277,16 @@ pub(crate) fn rows_behind<S: Store>(
     table: &Table,
     key: &row::Row,
     columns: &[usize],
-) -> Result<Vec<Row>, StoreFault>
+) -> Result<Vec<Row>, Trouble>
     ensures all { IfOk result (λ rows. IsClean (S.Store.view store.new)
         → ShowsUnder table.now.tree table.now.index key.now columns.now
         (S.Store.view store.old).trees rows.items) }
     ensures wide { IfOk result (λ rows. AreWide (length columns.now) rows.items) }
     ensures sound { OnOk result (IsClean (S.Store.view store.new)
         → (S.Store.view store.old).is_broken ≡ false) }
-    ensures failed { IfErr result IsStoreFault }
     ensures looks { Looks S.Store store.old store.new }
 {
-    if !are_shaped(store, table) {
-        return Err(DAMAGED);
-    }
+    sure(are_shaped(store, table))?;
     store.seek(0, table.index, key, Direction::Forward)?;
     let mut found = Found::new(alloc);
     let mut rows = Vec::new(alloc);
@@ -269,7 +309,7 @@ pub(crate) fn rows_in<S: Store>(
     table: &Table,
     run: u64,
     columns: &[usize],
-) -> Result<Vec<Row>, StoreFault>
+) -> Result<Vec<Row>, Trouble>
     requires { run < 2 ^ 63 }
     ensures all { IfOk result (λ rows. IsClean (S.Store.view store.new)
         → ShowsUnder table.now.tree table.now.index (Int (pos run) ∷ []) columns.now
@@ -277,12 +317,9 @@ pub(crate) fn rows_in<S: Store>(
     ensures wide { IfOk result (λ rows. AreWide (length columns.now) rows.items) }
     ensures sound { OnOk result (IsClean (S.Store.view store.new)
         → (S.Store.view store.old).is_broken ≡ false) }
-    ensures failed { IfErr result IsStoreFault }
     ensures looks { Looks S.Store store.old store.new }
 {
-    if !are_shaped(store, table) {
-        return Err(DAMAGED);
-    }
+    sure(are_shaped(store, table))?;
     let before = number_row(alloc, run.saturating_sub(1))?;
     store.seek(0, table.index, &before, Direction::Backward)?;
     let mut found = Found::new(alloc);
@@ -298,18 +335,15 @@ pub(crate) fn count_under<S: Store>(
     alloc: Global,
     table: &Table,
     key: &row::Row,
-) -> Result<u64, StoreFault>
+) -> Result<u64, Trouble>
     ensures counted { IfOk result (λ n. IsClean (S.Store.view store.new)
         → CountsUnder table.now.tree table.now.index key.now
         (S.Store.view store.old).trees n) }
     ensures through { IsClean (S.Store.view store.new)
         → OnOk result (LooksThrough (S.Store.view store.old) (S.Store.view store.new)) }
-    ensures failed { IfErr result IsStoreFault }
     ensures looks { Looks S.Store store.old store.new }
 {
-    if !are_shaped(store, table) {
-        return Err(DAMAGED);
-    }
+    sure(are_shaped(store, table))?;
     store.seek(0, table.index, key, Direction::Forward)?;
     let mut place = row::Row::new(alloc);
     // A disk that lies could keep a cursor going, so the loop counts.

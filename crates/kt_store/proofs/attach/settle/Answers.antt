@@ -1,7 +1,7 @@
 use Rattle.std.proofs.lemmas.Result.{on_ok_weaker, IfErr-weaker}
 use Rattle.kt_store.proofs.Common.{state}
 use Rattle.kt_store.proofs.AttachLemmas.{all_due, look_refuses, create_refuses, create_takes, take_refuses, take_takes}
-use Rattle.kt_store.proofs.FaultLemmas.{if_same, ok_later, fault_later, ok_of, fault_of}
+use Rattle.kt_store.proofs.FaultLemmas.{if_trouble, ok_later, fault_later, ok_of, fault_of}
 use Rattle.kt_store.proofs.SqlFacts.{nothing_is}
 use Rattle.kt_store.proofs.attach.settle.Goals as goal
 
@@ -10,9 +10,8 @@ probe-requires g c = nothing_is
 
 pub returns-in_err-probe-clause-refused : goal.returns-in_err-probe-clause-refused
 returns-in_err-probe-clause-refused g c was is =
-    if_same _ c.from_residual.result c.in_err-probe.field-0.0 c.from_residual.ensures.1
-    (look_refuses g.S.Store c.args.conn.now c.probe.new.conn (λ db opened may. g.met.S.Store.settled c.args.conn.now.store db opened may) c.lives.ensures c.probe.ensures.survives
-    c.in_err-probe.field-0.0 (λ clean. c.in_err-probe.ensures.rests clean) was (λ clean. all_due was c.in_err-probe.field-0.0 c.in_err-probe.ensures.failed) is)
+    if_trouble _ c.from_residual.result c.from_residual.ensures.1 (λ e failed.
+    look_refuses g.S.Store c.args.conn.now c.probe.new.conn (λ db opened may. g.met.S.Store.settled c.args.conn.now.store db opened may) c.lives.ensures c.probe.ensures.survives e (λ clean. c.in_err-probe.ensures.rests clean) was (λ clean. all_due was e failed) is)
 
 pub returns-then-is_blank-clause-refused : goal.returns-then-is_blank-clause-refused
 returns-then-is_blank-clause-refused g c was is =

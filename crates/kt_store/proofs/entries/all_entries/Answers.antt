@@ -1,6 +1,5 @@
-use Rattle.std.proofs.lemmas.Result.{IfOk-weaker, IfErr-weaker}
 use Rattle.std.proofs.lemmas.List.{map-id}
-use Rattle.std.proofs.Common.{◌∙◌, inl, ap}
+use Rattle.std.proofs.Common.{◌∙◌, ap}
 use Rattle.kt_store.proofs.Common.{entries_of}
 use Rattle.kt_store.proofs.EntriesLemmas.{sound_of, up_of}
 use Rattle.kt_store.proofs.AskLemmas.{looked-then, was_clean}
@@ -19,11 +18,11 @@ returns-clause-entries g c runs has clean =
     let late = was_clean c.pair_rows.ensures.looked runs stands clean in
     let found = c.in_ok-look.ensures.found runs has (was_clean c.entry_rows.ensures.looked runs stood late) in
     let valid = c.in_ok-rows.ensures.valid runs stood late in
-    IfOk-weaker c.entries_in.result _ _ (λ all are. (found.0, found.1, are ∙ map-id _ ∙ ap entries_of found.1)) (c.entries_in.ensures.entries _ (sound_of runs c.args.run valid) (up_of runs c.args.run valid)
-    (c.deref.ensures.value ∙ c.in_ok-rows.ensures.all runs stood late) (c.deref-2.ensures.value ∙ c.in_ok-pairs.ensures.all runs stands clean))
+    let are = c.in_ok-entries_in.ensures.entries _ (sound_of runs c.args.run valid) (up_of runs c.args.run valid) (c.deref.ensures.value ∙ c.in_ok-rows.ensures.all runs stood late) (c.deref-2.ensures.value ∙ c.in_ok-pairs.ensures.all runs stands clean) in
+    (found.0, found.1, are ∙ map-id _ ∙ ap entries_of found.1)
 
-pub returns-clause-refused : goal.returns-clause-refused
-returns-clause-refused g c runs has clean = IfErr-weaker c.entries_in.result _ _ (λ e failed. inl failed) c.entries_in.ensures.failed
+pub returns-in_err-entries_in-clause-looked : goal.returns-in_err-entries_in-clause-looked
+returns-in_err-entries_in-clause-looked g c = looked-then c.look.ensures.looked (looked-then c.entry_rows.ensures.looked c.pair_rows.ensures.looked)
 
 pub returns-clause-looked : goal.returns-clause-looked
 returns-clause-looked g c = looked-then c.look.ensures.looked (looked-then c.entry_rows.ensures.looked c.pair_rows.ensures.looked)

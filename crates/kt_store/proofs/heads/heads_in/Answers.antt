@@ -17,5 +17,5 @@ loop-row-preserved c runs are =
     let place : suc c.loop-row.row-index ≡ c.loop-row.row-index + 1 = omega arith in
     pushed ∙ sym more ∙ ap (λ k. map head_of (take k runs)) place
 
-pub returns-clause-heads : goal.returns-clause-heads
-returns-clause-heads c runs are = c.loop-row.invariant runs are ∙ ap (map head_of) (take_all c.loop-row.row-index runs (omega (arith, c.loop-row-test.false, ap length are, length-map runs head_columns)))
+pub returns : goal.returns
+returns c = record { heads = λ runs are. c.loop-row.invariant runs are ∙ ap (map head_of) (take_all c.loop-row.row-index runs (omega (arith, c.loop-row-test.false, ap length are, length-map runs head_columns))) }

@@ -1,7 +1,6 @@
 use Rattle.kt_store.specs.Inner.Heads.{pair_count}
 use Rattle.std.proofs.Common.{rules, List, ◌≡◌, ◌∙◌, ◌<◌, ◌+◌, suc, [], ◌∷◌, ◌++◌, map, take, drop, get_or, length, sym, ap, subst, arith}
 use Rattle.kt_store.proofs.Common.{length-map, map-append, take_all, Entry, as_shown, shown_columns, pair_columns, pairs_shown}
-use Rattle.kt_store.proofs.FaultLemmas.{starved_err}
 use Rattle.kt_store.proofs.MergeLemmas.{Later, at, enough, entry_position}
 use Rattle.kt_store.proofs.WideLemmas.{one_wide}
 use Rattle.kt_store.proofs.outlines.entries_in.Goals as goal
@@ -50,6 +49,3 @@ loop-row-preserved c = (
 
 pub returns-clause-entries : goal.returns-clause-entries
 returns-clause-entries c es sound up are pairs = (c.loop-row.invariant.0 es sound up are pairs).0 ∙ ap (map (as_shown c.args.whole)) (take_all c.loop-row.row-index es (omega (arith, c.loop-row-test.false, ap length are, length-map es (shown_columns c.args.whole))))
-
-pub returns-in_err-add-clause-failed : goal.returns-in_err-add-clause-failed
-returns-in_err-add-clause-failed c = starved_err c.from_residual-in_err-add.result c.from_residual-in_err-add.ensures.1

@@ -18,5 +18,4 @@ returns g c = record {
         (λ db opened may. g.met.S.Store.settled c.commit.new.conn.store db opened may) (λ clean. done clean);
   }) (ok_later _ c.commit.result c.commit.ensures.done);
   crash = λ runs has fits. commit_crash g.S.Store (entry_statements c.args.run c.args.entry.now) c.args.conn.now c.commit.new.conn (with_entry c.args.run c.args.entry.now runs) c.commit.ensures.crash (entry_made g.S.Store runs c.args.entry.now c.args.run c.args.conn.now has fits);
-  failed = c.commit.ensures.failed;
 }

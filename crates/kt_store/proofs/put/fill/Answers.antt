@@ -1,7 +1,11 @@
 use Rattle.std.proofs.lemmas.Result.{on_ok_weaker}
-use Rattle.std.proofs.Common.{arith}
+use Rattle.std.proofs.Common.{inr, arith}
 use Rattle.kt_store.proofs.Common.{state, HasCleanDisk}
+use Rattle.kt_store.proofs.SqlFacts.{put_is}
 use Rattle.kt_store.proofs.put.fill.Goals as goal
+
+pub step-requires : goal.step-requires
+step-requires g c = inr (inr (inr (inr put_is.1)))
 
 pub returns-clause-runs : goal.returns-clause-runs
 returns-clause-runs g c = on_ok_weaker c.add_pairs.result (λ added clean inside.

@@ -3,7 +3,11 @@ use Rattle.kt_store.proofs.Common.{to_z-of_z, state, survives_weaker, Keeps, Tab
 use Rattle.kt_store.proofs.BeginLemmas.{told_begin, crash_begin, leaves_commit}
 use Rattle.kt_store.proofs.FaultLemmas.{on_err}
 use Rattle.kt_store.proofs.StepLemmas.{rests_hold}
+use Rattle.kt_store.proofs.SqlFacts.{begin_is}
 use Rattle.kt_store.proofs.run_rows.add_run.Goals as goal
+
+pub tell-requires : goal.tell-requires
+tell-requires g c = begin_is.1
 
 pub returns-in_err-tell-clause-crash : goal.returns-in_err-tell-clause-crash
 returns-in_err-tell-clause-crash g c runs has room =

@@ -4,7 +4,11 @@ use Rattle.std.proofs.Common.{arith}
 use Rattle.kt_store.proofs.Common.{state, survives_weaker, Keeps, finish}
 use Rattle.kt_store.proofs.BeginLemmas.{leaves_commit}
 use Rattle.kt_store.proofs.CloseLemmas.{told_finish, crash_finish}
+use Rattle.kt_store.proofs.SqlFacts.{finish_is}
 use Rattle.kt_store.proofs.run_rows.mark.Goals as goal
+
+pub tell-requires : goal.tell-requires
+tell-requires g c = finish_is.1
 
 pub returns-clause-marked : goal.returns-clause-marked
 returns-clause-marked g c = on_ok_weaker c.tell.result (λ told. record {

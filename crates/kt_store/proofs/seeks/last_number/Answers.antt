@@ -1,5 +1,5 @@
-use Rattle.std.proofs.Common.{rules, arith, ◌≡◌, ◌∙◌, pos, length, unsigned_abs, w64, SFits, sym, ap}
-use Rattle.kt_store.proofs.Common.{Int, plain, rowid, to_z-of_z}
+use Rattle.std.proofs.Common.{rules, arith, ◌≡◌, pos, length}
+use Rattle.kt_store.proofs.Common.{Int, plain, rowid}
 use Rattle.sqlite_trees.specs.View.{IsClean}
 use Rattle.sqlite_trees.specs.declared.store.Shape.TheVariants.{Table}
 use Rattle.kt_store.proofs.PlaceLemmas.{last_is, none_is, sought_none, sought_one}
@@ -21,8 +21,8 @@ returns-then-not-branch-clause-last g c runs has clean =
     let sought = rw (shape, c.new-row.ensures) at (c.in_ok-seek.ensures.ok early) in
     none_is runs ((g.S.Store.view c.args.store.now).trees tree) are (sought_none (g.S.Store.view c.args.store.now) (g.S.Store.view c.seek.new.self) (g.S.Store.view c.next.new.self) plain ((g.S.Store.view c.args.store.now).trees tree) c.next.new.row sought end)
 
-pub returns-in-Int-clause-last : goal.returns-in-Int-clause-last
-returns-in-Int-clause-last g c runs has clean =
+pub returns-clause-last : goal.returns-clause-last
+returns-clause-last g c runs has clean =
     let falls = c.next.ensures.quiet.clean in
     let falls2 = c.seek.ensures.quiet.clean in
     let early : IsClean (g.S.Store.view c.seek.new.self) = omega arith in
@@ -36,6 +36,4 @@ returns-in-Int-clause-last g c runs has clean =
     let sought = rw (shape, c.new-row.ensures) at (c.in_ok-seek.ensures.ok early) in
     let found = sought_one (g.S.Store.view c.args.store.now) (g.S.Store.view c.seek.new.self) (g.S.Store.view c.next.new.self) plain ((g.S.Store.view c.args.store.now).trees tree) c.next.new.row sought one in
     let last : rowid c.next.new.row ≡ Int (pos (length runs)) = last_is runs ((g.S.Store.view c.args.store.now).trees tree) found.0 c.next.new.row keeps.3.valid.numbered are found.1 in
-    let read : rowid c.next.new.row ≡ Int c.in-Int.number = search rules in
-    let number : c.in-Int.number ≡ pos (length runs) = let e : Int c.in-Int.number ≡ Int (pos (length runs)) = sym read ∙ last in cc in
-    c.unsigned_abs.ensures.value ∙ ap unsigned_abs (to_z-of_z w64 c.in-Int.number (let fits : SFits w64 c.in-Int.number = search rules in fits) ∙ number)
+    c.in_ok-number.ensures (length runs) last

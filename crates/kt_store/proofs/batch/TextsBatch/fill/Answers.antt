@@ -1,7 +1,15 @@
-use Rattle.std.proofs.Common.{◌∙◌, ◌+◌, [], drop, map, subst}
-use Rattle.kt_store.proofs.Common.{plain_statements}
+use Rattle.std.proofs.Common.{◌∙◌, ◌+◌, ◌<◌, ℕ, zero, suc, List, [], ◌∷◌, drop, get_or, length, map, subst, arith}
+use Rattle.kt_store.proofs.Common.{AllByRecursion, IsOurs, plain_statements}
 use Rattle.kt_store.proofs.TurnLemmas.{SoFar, one_done, texts_at}
 use Rattle.kt_store.proofs.batch.TextsBatch.fill.Goals as goal
+
+each_is : {T : Type 0} (see : T → List ℕ) (i : ℕ) (vs : List T) (d : T) → AllByRecursion IsOurs (map see vs) → i < length vs → IsOurs (see (get_or vs i d))
+each_is see i [] d all low = absurd (omega (arith, low))
+each_is see zero (v ∷ vs) d all low = all.0
+each_is see (suc i) (v ∷ vs) d all low = each_is see i vs d all.1 (omega (arith, low))
+
+pub step-requires : goal.step-requires
+step-requires g c = each_is (λ sql. sql.now) c.loop-text.text-index c.args.self.now.texts.now _ c.requires c.loop-text-test.true
 
 pub loop-text-preserved : goal.loop-text-preserved
 loop-text-preserved g c =

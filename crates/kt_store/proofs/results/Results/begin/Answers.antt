@@ -1,20 +1,25 @@
-use Rattle.std.proofs.Common.{Err, inl, inr, refl}
+use Rattle.std.proofs.Common.{Ok, Err, inl, inr, refl}
 use Rattle.kt_store.proofs.Common.{Began, StoreFull}
-use Rattle.kt_store.proofs.ServeLemmas.{failed_at, seen_at, begin_refused, begin_called}
+use Rattle.kt_store.proofs.ServeLemmas.{seen_at, troubled_at, begin_refused, begin_called}
 use Rattle.kt_store.proofs.results.Results.begin.Goals as goal
 
 pub returns-in_err-is_full : goal.returns-in_err-is_full
 returns-in_err-is_full g c =
-    failed_at g.S.Store (λ r. Began c.args.total c.args.moment r) c.self.inside.conn c.args.self.now c.is_full.new.conn c.self.view_is c.from_residual.result c.in_err-is_full.field-0.0 c.from_residual.ensures.1
-    (begin_refused g.S.Store c.self.inside.conn c.is_full.new.conn c.is_full.ensures.looked _ c.args.total c.args.moment (λ runs has clean. inl c.in_err-is_full.ensures.failed))
+    troubled_at g.S.Store (λ r. Began c.args.total c.args.moment r) c.self.inside.conn c.args.self.now c.is_full.new.conn c.self.view_is c.from_residual.result c.from_residual.ensures.1
+    (λ e failed. begin_refused g.S.Store c.self.inside.conn c.is_full.new.conn c.is_full.ensures.looked e c.args.total c.args.moment (λ runs has clean. inl failed))
 
 pub returns-then-branch : goal.returns-then-branch
 returns-then-branch g c =
     seen_at g.S.Store (Began c.args.total c.args.moment (Err StoreFull)) c.self.inside.conn c.args.self.now c.is_full.new.conn c.self.view_is
     (begin_refused g.S.Store c.self.inside.conn c.is_full.new.conn c.is_full.ensures.looked StoreFull c.args.total c.args.moment (λ runs has clean. inr (refl, (c.in_ok-is_full.ensures.full runs has clean).0 c.if-branch.true)))
 
+pub returns-in_err-add_run : goal.returns-in_err-add_run
+returns-in_err-add_run g c =
+    troubled_at g.S.Store (λ r. Began c.args.total c.args.moment r) c.self.inside.conn c.args.self.now c.add_run.new.conn c.self.view_is c.from_residual-in_err-add_run.result c.from_residual-in_err-add_run.ensures.1 (λ e failed.
+    begin_called g.S.Store c.self.inside.conn c.is_full.new.conn c.add_run.new.conn c.is_full.ensures.looked c.args.total c.args.moment (λ runs has clean. (c.in_ok-is_full.ensures.full runs has clean).1 c.if-branch.false) c.add_run.ensures.crash (Err e) tt (λ _ _ _. tt) failed c.in_err-add_run.ensures.kept)
+
 pub returns : goal.returns
 returns g c =
     seen_at g.S.Store _ c.self.inside.conn c.args.self.now c.add_run.new.conn c.self.view_is
-    (begin_called g.S.Store c.self.inside.conn c.is_full.new.conn c.add_run.new.conn c.is_full.ensures.looked c.args.total c.args.moment (λ runs has clean. (c.in_ok-is_full.ensures.full runs has clean).1 c.if-branch.false) c.add_run.ensures.crash c.add_run.result c.add_run.ensures.added
-    (λ runs has clean. c.add_run.ensures.number runs (c.is_full.ensures.looked.stands runs has) (λ k. (c.in_ok-is_full.ensures.full runs has k).1 c.if-branch.false) clean) c.add_run.ensures.failed c.add_run.ensures.kept)
+    (begin_called g.S.Store c.self.inside.conn c.is_full.new.conn c.add_run.new.conn c.is_full.ensures.looked c.args.total c.args.moment (λ runs has clean. (c.in_ok-is_full.ensures.full runs has clean).1 c.if-branch.false) c.add_run.ensures.crash (Ok c.in_ok-add_run.field-0) c.in_ok-add_run.ensures.added
+    (λ runs has clean. c.in_ok-add_run.ensures.number runs (c.is_full.ensures.looked.stands runs has) (λ k. (c.in_ok-is_full.ensures.full runs has k).1 c.if-branch.false) clean) tt tt)

@@ -1,4 +1,3 @@
-use Rattle.std.proofs.lemmas.Result.{IfOk-weaker}
 use Rattle.std.proofs.Common.{arith, sym, subst}
 use Rattle.kt_store.proofs.Common.{StandsFor, state}
 use Rattle.kt_store.specs.Seeks.{HasCommitted}
@@ -9,8 +8,8 @@ pub over-requires-clause-sound : goal.over-requires-clause-sound
 over-requires-clause-sound g c opened = still_sound g.S.Store c.into_parts-connection.result.1 c.into_store.result (g.met.S.Store.shut_if_dirty c.into_store.result) c.lives.ensures c.into_store.ensures.undone opened
 
 pub returns-clause-stands : goal.returns-clause-stands
-returns-clause-stands g c = IfOk-weaker c.over.result _ _ (λ r same runs has.
+returns-clause-stands g c runs has =
     let early = c.into_store.ensures.quiet.clean in
-    subst (λ s. HasCommitted (g.S.Store.view s) runs) (sym same)
+    subst (λ s. HasCommitted (g.S.Store.view s) runs) (sym c.in_ok-over.ensures.same)
     (still_stands g.S.Store c.into_parts-connection.result.1 c.into_store.result (g.met.S.Store.shut_if_dirty c.into_store.result) c.lives.ensures c.into_store.ensures.undone (λ clean. omega (arith, clean, early)) runs
-    (subst (λ h. StandsFor (state g.S.Store h) runs) (sym c.into_parts-connection.ensures) has))) c.over.ensures.same
+    (subst (λ h. StandsFor (state g.S.Store h) runs) (sym c.into_parts-connection.ensures) has))

@@ -12,9 +12,11 @@ image log db = record { log = log; db = db }
 abbrev seen : List ℕ → List ℕ → Bool → List Event → List ℕ
 seen log db is_log history = (replay (cond is_log log db) history).seen
 
-pub returns-clause-opened : goal.returns-clause-opened
-returns-clause-opened g c = IfOk-weaker c.done.result _ _ (λ it ok clean.
-    let (log, db) = c.in_ok-files.ensures.fresh in
-    let found = (rw ok at c.open_files.ensures.found) clean in
-    let same = ap₂ image (ap₂ (seen g.S.Start.log g.S.Start.db) log.0 log.1) (ap₂ (seen g.S.Start.log g.S.Start.db) db.0 db.1) in
-    ((rw ok at c.open_files.ensures.opened) clean, subst (λ i. FindsIn i (file_state it)) same (record { holds = found.holds; reads = found.reads }))) c.done.ensures.ok
+pub returns : goal.returns
+returns g c = record {
+  opened = IfOk-weaker c.done.result _ _ (λ it ok clean.
+      let (log, db) = c.in_ok-files.ensures.fresh in
+      let found = (rw ok at c.open_files.ensures.found) clean in
+      let same = ap₂ image (ap₂ (seen g.S.Start.log g.S.Start.db) log.0 log.1) (ap₂ (seen g.S.Start.log g.S.Start.db) db.0 db.1) in
+      ((rw ok at c.open_files.ensures.opened) clean, subst (λ i. FindsIn i (file_state it)) same (record { holds = found.holds; reads = found.reads }))) c.done.ensures.ok;
+}

@@ -3,7 +3,6 @@ use Rattle.kt_store.proofs.Common.{Int, Row, Trees, all-append, column, has_rowi
 use Rattle.sqlite_trees.specs.View.{View, IsClean, IsShaped}
 use Rattle.kt_store.proofs.AloneLemmas.{looks_then}
 use Rattle.kt_store.proofs.BehindLemmas as lemma
-use Rattle.kt_store.proofs.FaultLemmas.{starved_err}
 use Rattle.kt_store.proofs.store_fault.trees.rows_behind.Goals as goal
 
 pub returns-then-not-branch-clause-all : goal.returns-then-not-branch-clause-all
@@ -23,9 +22,6 @@ returns-then-not-branch-clause-looks g c = looks_then g.S.Store _ _ _ c.places.i
 
 pub returns-in_err-add_shown-clause-looks : goal.returns-in_err-add_shown-clause-looks
 returns-in_err-add_shown-clause-looks g c = looks_then g.S.Store _ _ _ c.places.invariant.2 c.next_row.ensures.looks
-
-pub returns-in_err-add_shown-clause-failed : goal.returns-in_err-add_shown-clause-failed
-returns-in_err-add_shown-clause-failed g c = starved_err c.from_residual-in_err-add_shown.result c.from_residual-in_err-add_shown.ensures.1
 
 pub places-preserved : goal.places-preserved
 places-preserved g c = (
