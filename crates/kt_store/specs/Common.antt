@@ -28,13 +28,13 @@ pub use Rattle.kt_store.specs.Inner.Fault.{IsShort, Tells, TellsOf, TellsOfWrite
 pub use Rattle.kt_store.specs.Inner.Heads.{as_shown, entry_columns, head_columns, output_columns, pair_columns, pairs_shown, shown_columns, width_of}
 pub use Rattle.kt_store.specs.Inner.Opening.{ListsRuns, OpensOver}
 pub use Rattle.kt_store.specs.Inner.Places.{AreNamed, StandAt, places_2}
-pub use Rattle.kt_store.specs.Inner.Known.{HasRuns}
+pub use Rattle.kt_store.specs.Inner.Known.{HasRuns, OnTrees}
 pub use Rattle.kt_store.specs.Inner.Kept.{AsksNumber, Changes, CommitsNothing, FindsTables, KeepsRuns, LeavesSchema, Looked, MayChange, WasClean}
 pub use Rattle.kt_store.specs.Inner.Runs.{CanAdd, IsBareIfPassed, IsComplete, entries_of}
 pub use Rattle.kt_store.specs.Inner.Transactions.{Commits, CommitsLater, MayCommit, RunsAll, RunsOne, Undoes}
 pub use Rattle.kt_store.specs.Runs.{AreNumbered, AreOrdered, AreRuns, IsEntry, IsPair, IsText, Keeps, KeepsOne, entry_row, finish, finish_refusal, flag, has_position, kind_code, new_run, pair_row, pair_rows, pair_rows_from, put_refusal, run_at, run_row, with_entry}
 pub use Rattle.kt_store.specs.Seeks.{HasCommitted, HoldsRuns, OpensRuns}
 pub use Rattle.kt_store.specs.Serving.{Agrees, Reads, Serves, changed_by, results}
-pub use Rattle.kt_store.specs.Stands.{IsUnderstood, Leaves, SaysSchema, StandsFor}
+pub use Rattle.kt_store.specs.Stands.{IsUnderstood, Leaves, OnRuns, SaysSchema, StandsFor}
 pub use Rattle.kt_store.specs.StoreCalls.{Began, Finished, Heads, Outline, Outputs, Put, seen_as}
 pub use Rattle.kt_store.specs.Tables.{entries_text, pairs_text, runs_text, schema_2}

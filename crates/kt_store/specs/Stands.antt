@@ -3,7 +3,9 @@ use Rattle.std.specs.Prelude.{◌≡◌, false, Ok, ℕ, List, ℤ, pos, IsTrue}
 use Rattle.sqlite.specs.Effect.{Database}
 use Rattle.sqlite.specs.Listing.{understood}
 use Rattle.sqlite.specs.Tree.{Trees}
+use Rattle.sqlite.specs.Held.{Held, state}
 use Rattle.sqlite.specs.State.{State, HasCleanDisk}
+use Rattle.sqlite.specs.Store.{Ghosts}
 use Rattle.sqlite_resolve.specs.declared.compiled.Compiled.{Compiled}
 use Rattle.kt_base.specs.declared.entry.Run.{Run}
 use Rattle.sqlite.specs.Table.{Table}
@@ -29,6 +31,10 @@ IsStore s runs = IsSettled (λ db. Tables db runs) s
 -- while the disk returns what was written and the connection is open, the tables stand for these runs
 abbrev pub StandsFor : State → List Run → Type 0
 StandsFor s runs = Holds (λ db. Tables db runs) s
+
+-- what holds of the runs that the tables stood for before a call, if the disk returns what was written after it
+abbrev pub OnRuns : {S : Type 0} → Ghosts S → Held S → Held S → (List Run → Type 0) → Type 0
+OnRuns g old new P = (runs : List Run) → StandsFor (state g old) runs → HasCleanDisk (state g new) → P runs
 
 -- the same of the tables of schema 1
 abbrev pub StandsInOld : State → List Run → Type 0

@@ -1,7 +1,7 @@
 //! Runs and entries that are written into the trees of a store, without a commit.
 
-ghost use Rattle.std.specs.Prelude.{◌≡◌, ◌⊎◌, ◌<◌, ◌≤◌, ◌^◌, [], ◌∷◌, map, suc, length, List, Some, None, Ok, Err, false, is_err, IfOk, IfErr, OnOk, OnErr};
-ghost use Rattle.kt_store.specs.Common.{AllByRecursion, owned, Run, last_run, IsMoment, IsStorable, IsStoreFault, IsText, IsPair, CanAdd, IsComplete, IsBareIfPassed, HasRuns, StandAt, Looks, LooksThrough, Obeys, HoldsCommit, Fills, Began, Put, Finished, Agrees, Keeps, PutsRows, changed_by, run_at, run_row, entry_row, pair_row, pair_rows_from, unnumbered, done_row, put_refusal, finish_refusal};
+ghost use Rattle.std.specs.Prelude.{◌≡◌, ◌⊎◌, ◌<◌, ◌≤◌, ◌^◌, [], ◌∷◌, map, suc, length, Some, None, Ok, Err, false, is_err, IfOk, IfErr, OnOk, OnErr};
+ghost use Rattle.kt_store.specs.Common.{OnTrees, AllByRecursion, owned, Run, last_run, IsMoment, IsStorable, IsStoreFault, IsText, IsPair, CanAdd, IsComplete, IsBareIfPassed, StandAt, Looks, LooksThrough, Obeys, HoldsCommit, Fills, Began, Put, Finished, Agrees, Keeps, PutsRows, changed_by, run_at, run_row, entry_row, pair_row, pair_rows_from, unnumbered, done_row, put_refusal, finish_refusal};
 ghost use Rattle.sqlite_trees.specs.Tree.{Trees};
 ghost use Rattle.sqlite_trees.specs.View.{IsClean};
 ghost use Rattle.sqlite_catalog.specs.Listing.{IsSound};
@@ -161,12 +161,11 @@ fn row_of_entry<'a>(
 /// The number of the next run. `StoreFull` where there are 1,000,000.
 fn next_number<S: Alter>(store: &mut S, alloc: Global, places: Places) -> Result<u64, StoreFault>
     requires { StandAt places (S.Store.view store.old) }
-    ensures number { (runs : List Run) → HasRuns (S.Store.view store.old) runs
-        → IsClean (S.Store.view store.new)
-        → IfOk result (λ n. (n ≡ suc (length runs)) × (length runs < last_run)) }
-    ensures refused { (runs : List Run) → HasRuns (S.Store.view store.old) runs
-        → IsClean (S.Store.view store.new) → IfErr result (λ e. IsStoreFault e
-        ⊎ ((e ≡ StoreFault.StoreFull) × (last_run ≤ length runs))) }
+    ensures number { OnTrees S.Store store.old store.new (λ runs.
+        IfOk result (λ n. (n ≡ suc (length runs)) × (length runs < last_run))) }
+    ensures refused { OnTrees S.Store store.old store.new (λ runs.
+        IfErr result (λ e. IsStoreFault e ⊎ ((e ≡ StoreFault.StoreFull)
+        × (last_run ≤ length runs)))) }
     ensures through { IsClean (S.Store.view store.new)
         → OnOk result (LooksThrough (S.Store.view store.old) (S.Store.view store.new)) }
     ensures looks { Looks S.Store store.old store.new }
@@ -192,11 +191,11 @@ pub(crate) fn write_run<S: Alter>(
     requires sound { IsClean (S.Store.view store.old) → (S.Store.view store.old).is_broken ≡ false
         → IsSound schema.now (S.Store.view store.old).trees }
     requires placed { StandAt places (S.Store.view store.old) }
-    ensures agrees { (runs : List Run) → HasRuns (S.Store.view store.old) runs
-        → IsClean (S.Store.view store.new) → Agrees runs (Began total moment result) }
-    ensures rows { (runs : List Run) → HasRuns (S.Store.view store.old) runs
-        → IsClean (S.Store.view store.new)
-        → OnOk result (Keeps (changed_by (Began total moment result) runs) (S.Store.view store.new).trees) }
+    ensures agrees { OnTrees S.Store store.old store.new (λ runs.
+        Agrees runs (Began total moment result)) }
+    ensures rows { OnTrees S.Store store.old store.new (λ runs.
+        OnOk result (Keeps (changed_by (Began total moment result) runs) (S.Store.view
+        store.new).trees)) }
     ensures obeys { IsClean (S.Store.view store.new)
         → OnOk result (Obeys (S.Store.view store.new) schema.now) }
     ensures held { IsClean (S.Store.view store.new)
@@ -239,13 +238,11 @@ fn check_entry<S: Alter>(
 ) -> Result<(), StoreFault>
     requires { StandAt places (S.Store.view store.old) }
     ensures small { OnOk result (run ≤ last_run) }
-    ensures refused { (runs : List Run) → HasRuns (S.Store.view store.old) runs
-        → IsClean (S.Store.view store.new)
-        → IfErr result (λ e. IsStoreFault e ⊎ (put_refusal runs run entry.now ≡ Some e)) }
-    ensures taken { (runs : List Run) → HasRuns (S.Store.view store.old) runs
-        → IsClean (S.Store.view store.new)
-        → OnOk result (IsBareIfPassed entry.now → (put_refusal runs run entry.now ≡ None)
-        × CanAdd run entry.now runs) }
+    ensures refused { OnTrees S.Store store.old store.new (λ runs.
+        IfErr result (λ e. IsStoreFault e ⊎ (put_refusal runs run entry.now ≡ Some e))) }
+    ensures taken { OnTrees S.Store store.old store.new (λ runs.
+        OnOk result (IsBareIfPassed entry.now → (put_refusal runs run entry.now ≡ None)
+        × CanAdd run entry.now runs)) }
     ensures through { IsClean (S.Store.view store.new)
         → OnOk result (LooksThrough (S.Store.view store.old) (S.Store.view store.new)) }
     ensures looks { Looks S.Store store.old store.new }
@@ -330,11 +327,11 @@ pub(crate) fn write_entry<S: Alter>(
     requires sound { IsClean (S.Store.view store.old) → (S.Store.view store.old).is_broken ≡ false
         → IsSound schema.now (S.Store.view store.old).trees }
     requires placed { StandAt places (S.Store.view store.old) }
-    ensures agrees { (runs : List Run) → HasRuns (S.Store.view store.old) runs
-        → IsClean (S.Store.view store.new) → Agrees runs (Put run entry.now result) }
-    ensures rows { (runs : List Run) → HasRuns (S.Store.view store.old) runs
-        → IsClean (S.Store.view store.new)
-        → OnOk result (Keeps (changed_by (Put run entry.now result) runs) (S.Store.view store.new).trees) }
+    ensures agrees { OnTrees S.Store store.old store.new (λ runs.
+        Agrees runs (Put run entry.now result)) }
+    ensures rows { OnTrees S.Store store.old store.new (λ runs.
+        OnOk result (Keeps (changed_by (Put run entry.now result) runs) (S.Store.view
+        store.new).trees)) }
     ensures obeys { IsClean (S.Store.view store.new)
         → OnOk result (Obeys (S.Store.view store.new) schema.now) }
     ensures held { IsClean (S.Store.view store.new)
@@ -375,13 +372,11 @@ fn check_run<S: Alter>(
 ) -> Result<Row, StoreFault>
     requires { StandAt places (S.Store.view store.old) }
     ensures small { OnOk result (run ≤ last_run) }
-    ensures refused { (runs : List Run) → HasRuns (S.Store.view store.old) runs
-        → IsClean (S.Store.view store.new)
-        → IfErr result (λ e. IsStoreFault e ⊎ (finish_refusal runs run ≡ Some e)) }
-    ensures taken { (runs : List Run) → HasRuns (S.Store.view store.old) runs
-        → IsClean (S.Store.view store.new)
-        → IfOk result (λ row. (r : Run) × (run_at runs run ≡ Some r) × (row ≡ run_row r)
-        × (finish_refusal runs run ≡ None) × IsComplete run runs) }
+    ensures refused { OnTrees S.Store store.old store.new (λ runs.
+        IfErr result (λ e. IsStoreFault e ⊎ (finish_refusal runs run ≡ Some e))) }
+    ensures taken { OnTrees S.Store store.old store.new (λ runs.
+        IfOk result (λ row. (r : Run) × (run_at runs run ≡ Some r) × (row ≡ run_row r)
+        × (finish_refusal runs run ≡ None) × IsComplete run runs)) }
     ensures through { IsClean (S.Store.view store.new)
         → OnOk result (LooksThrough (S.Store.view store.old) (S.Store.view store.new)) }
     ensures looks { Looks S.Store store.old store.new }
@@ -409,11 +404,10 @@ pub(crate) fn write_finish<S: Alter>(
     requires sound { IsClean (S.Store.view store.old) → (S.Store.view store.old).is_broken ≡ false
         → IsSound schema.now (S.Store.view store.old).trees }
     requires placed { StandAt places (S.Store.view store.old) }
-    ensures agrees { (runs : List Run) → HasRuns (S.Store.view store.old) runs
-        → IsClean (S.Store.view store.new) → Agrees runs (Finished run result) }
-    ensures rows { (runs : List Run) → HasRuns (S.Store.view store.old) runs
-        → IsClean (S.Store.view store.new)
-        → OnOk result (Keeps (changed_by (Finished run result) runs) (S.Store.view store.new).trees) }
+    ensures agrees { OnTrees S.Store store.old store.new (λ runs.
+        Agrees runs (Finished run result)) }
+    ensures rows { OnTrees S.Store store.old store.new (λ runs.
+        OnOk result (Keeps (changed_by (Finished run result) runs) (S.Store.view store.new).trees)) }
     ensures obeys { IsClean (S.Store.view store.new)
         → OnOk result (Obeys (S.Store.view store.new) schema.now) }
     ensures held { IsClean (S.Store.view store.new)

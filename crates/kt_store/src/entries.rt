@@ -1,5 +1,5 @@
 ghost use Rattle.std.specs.Prelude.{◌≡◌, ◌⊎◌, ◌<◌, ◌^◌, map, true, Some, None, IfOk, IfErr, OnOk};
-ghost use Rattle.kt_store.specs.Common.{AreWide, AreRuns, HasCleanDisk, IsStoreFault, Looked, StandsFor, entries_of, pairs_shown, run_at, shown_columns, state};
+ghost use Rattle.kt_store.specs.Common.{OnRuns, AreWide, AreRuns, IsStoreFault, Looked, entries_of, pairs_shown, run_at, shown_columns};
 
 use crate::StoreFault;
 use crate::lookup::look;
@@ -14,12 +14,11 @@ use std::alloc::Global;
 /// The rows of a run's entries, by position.
 pub(crate) fn entry_rows<S: Alter>(conn: &mut Connection<S>, run: u64) -> Result<Vec<Row>, Trouble>
     requires { run < 2 ^ 63 }
-    ensures all { (runs : _) → StandsFor (state S.Store conn.old) runs
-        → HasCleanDisk (state S.Store conn.new) → IfOk result (λ rows. rows.items
-        ≡ map (shown_columns true) (entries_of (run_at runs run))) }
+    ensures all { OnRuns S.Store conn.old conn.new (λ runs.
+        IfOk result (λ rows. rows.items
+        ≡ map (shown_columns true) (entries_of (run_at runs run)))) }
     ensures wide { IfOk result (λ rows. AreWide 11 rows.items) }
-    ensures valid { (runs : _) → StandsFor (state S.Store conn.old) runs
-        → HasCleanDisk (state S.Store conn.new) → OnOk result (AreRuns runs) }
+    ensures valid { OnRuns S.Store conn.old conn.new (λ runs. OnOk result (AreRuns runs)) }
     ensures looked { Looked S.Store conn.old conn.new }
 {
     query(
@@ -33,9 +32,8 @@ pub(crate) fn entry_rows<S: Alter>(conn: &mut Connection<S>, run: u64) -> Result
 /// The rows of the pairs of a run's entries, by position and place.
 fn pair_rows<S: Alter>(conn: &mut Connection<S>, run: u64) -> Result<Vec<Row>, Trouble>
     requires { run < 2 ^ 63 }
-    ensures all { (runs : _) → StandsFor (state S.Store conn.old) runs
-        → HasCleanDisk (state S.Store conn.new)
-        → IfOk result (λ rows. rows.items ≡ pairs_shown (entries_of (run_at runs run))) }
+    ensures all { OnRuns S.Store conn.old conn.new (λ runs.
+        IfOk result (λ rows. rows.items ≡ pairs_shown (entries_of (run_at runs run)))) }
     ensures wide { IfOk result (λ rows. AreWide 3 rows.items) }
     ensures looked { Looked S.Store conn.old conn.new }
 {
@@ -53,12 +51,10 @@ pub(crate) fn all_entries<S: Alter>(
     alloc: Global,
     run: u64,
 ) -> Result<Vec<Entry>, StoreFault>
-    ensures entries { (runs : _) → StandsFor (state S.Store conn.old) runs
-        → HasCleanDisk (state S.Store conn.new)
-        → IfOk result (λ found. (r : _) × (run_at runs run ≡ Some r) × (found.items ≡ r.entries)) }
-    ensures refused { (runs : _) → StandsFor (state S.Store conn.old) runs
-        → HasCleanDisk (state S.Store conn.new)
-        → IfErr result (λ e. IsStoreFault e ⊎ ((e ≡ StoreFault.NoRun) × (run_at runs run ≡ None))) }
+    ensures entries { OnRuns S.Store conn.old conn.new (λ runs.
+        IfOk result (λ found. (r : _) × (run_at runs run ≡ Some r) × (found.items ≡ r.entries))) }
+    ensures refused { OnRuns S.Store conn.old conn.new (λ runs.
+        IfErr result (λ e. IsStoreFault e ⊎ ((e ≡ StoreFault.NoRun) × (run_at runs run ≡ None)))) }
     ensures looked { Looked S.Store conn.old conn.new }
 {
     look(conn, run)?;

@@ -1,5 +1,5 @@
 ghost use Rattle.std.specs.Prelude.{◌≡◌, ◌≤◌, length, map, List, IfOk, ◌++◌, [], ◌∷◌, OnOk};
-ghost use Rattle.kt_store.specs.Common.{AreWide, HasCleanDisk, state, Looked, head_columns, head_of, StandsFor};
+ghost use Rattle.kt_store.specs.Common.{OnRuns, AreWide, Looked, head_columns, head_of};
 ghost use Rattle.kt_base.specs.declared.entry.Run.{Run as Stored};
 
 use crate::RunHead;
@@ -54,9 +54,8 @@ pub(crate) fn all_heads<S: Alter>(
     conn: &mut Connection<S>,
     alloc: Global,
 ) -> Result<Vec<RunHead>, Trouble>
-    ensures all { (runs : _) → StandsFor (state S.Store conn.old) runs
-        → HasCleanDisk (state S.Store conn.new)
-        → IfOk result (λ heads. heads.items ≡ map head_of runs) }
+    ensures all { OnRuns S.Store conn.old conn.new (λ runs.
+        IfOk result (λ heads. heads.items ≡ map head_of runs)) }
     ensures looked { Looked S.Store conn.old conn.new }
 {
     let rows = query(

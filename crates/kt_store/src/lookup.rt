@@ -1,5 +1,5 @@
 ghost use Rattle.std.specs.Prelude.{◌≡◌, ◌⊎◌, ◌<◌, ◌≤◌, ◌^◌, IfOk, IfErr, OnOk, Some, None, option_map, unsigned_abs};
-ghost use Rattle.kt_store.specs.Common.{HasCleanDisk, state, last_run, IsStoreFault, Looked, entries_of, run_at, flag, AreRuns, has_position, StandsFor};
+ghost use Rattle.kt_store.specs.Common.{OnRuns, last_run, IsStoreFault, Looked, entries_of, run_at, flag, AreRuns, has_position};
 
 use crate::StoreFault;
 use crate::store_fault::Trouble;
@@ -17,12 +17,10 @@ pub(crate) fn find<S: Alter>(
 ) -> Result<Option<(u64, u64)>, Trouble>
     requires { run < 2 ^ 63 }
     ensures looked { Looked S.Store conn.old conn.new }
-    ensures valid { (runs : _) → StandsFor (state S.Store conn.old) runs
-        → HasCleanDisk (state S.Store conn.new) → OnOk result (AreRuns runs) }
-    ensures found { (runs : _) → StandsFor (state S.Store conn.old) runs
-        → HasCleanDisk (state S.Store conn.new)
-        → IfOk result (λ o. o ≡ option_map (λ r. (r.total, unsigned_abs (flag r.finished)))
-        (run_at runs run)) }
+    ensures valid { OnRuns S.Store conn.old conn.new (λ runs. OnOk result (AreRuns runs)) }
+    ensures found { OnRuns S.Store conn.old conn.new (λ runs.
+        IfOk result (λ o. o ≡ option_map (λ r. (r.total, unsigned_abs (flag r.finished))) (run_at
+        runs run))) }
 {
     let rows = query(
         conn,
@@ -51,13 +49,11 @@ pub(crate) fn key(run: u64) -> u64
 pub(crate) fn look<S: Alter>(conn: &mut Connection<S>, run: u64) -> Result<(u64, bool), StoreFault>
     ensures small { OnOk result (run ≤ last_run) }
     ensures looked { Looked S.Store conn.old conn.new }
-    ensures found { (runs : _) → StandsFor (state S.Store conn.old) runs
-        → HasCleanDisk (state S.Store conn.new)
-        → IfOk result (λ p. (r : _) × (run_at runs run ≡ Some r) × (p.0 ≡ r.total)
-        × (p.1 ≡ r.finished) × AreRuns runs) }
-    ensures refused { (runs : _) → StandsFor (state S.Store conn.old) runs
-        → HasCleanDisk (state S.Store conn.new)
-        → IfErr result (λ e. IsStoreFault e ⊎ ((e ≡ StoreFault.NoRun) × (run_at runs run ≡ None))) }
+    ensures found { OnRuns S.Store conn.old conn.new (λ runs.
+        IfOk result (λ p. (r : _) × (run_at runs run ≡ Some r) × (p.0 ≡ r.total)
+        × (p.1 ≡ r.finished) × AreRuns runs)) }
+    ensures refused { OnRuns S.Store conn.old conn.new (λ runs.
+        IfErr result (λ e. IsStoreFault e ⊎ ((e ≡ StoreFault.NoRun) × (run_at runs run ≡ None)))) }
 {
     let number = key(run);
     let Some((total, finished)) = find(conn, number)? else {
@@ -77,9 +73,8 @@ pub(crate) fn there<S: Alter>(
 ) -> Result<bool, Trouble>
     requires { run < 2 ^ 63 }
     ensures looked { Looked S.Store conn.old conn.new }
-    ensures found { (runs : _) → StandsFor (state S.Store conn.old) runs
-        → HasCleanDisk (state S.Store conn.new)
-        → IfOk result (λ b. b ≡ has_position position (entries_of (run_at runs run))) }
+    ensures found { OnRuns S.Store conn.old conn.new (λ runs.
+        IfOk result (λ b. b ≡ has_position position (entries_of (run_at runs run)))) }
 {
     let rows = query(
         conn,

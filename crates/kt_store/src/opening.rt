@@ -1,5 +1,5 @@
-ghost use Rattle.std.specs.Prelude.{◌≡◌, [], ◌∷◌, pos, codes, map, drop, true, false, Some, IfOk, OnOk, IfErr, IfSome, IsTrue};
-ghost use Rattle.kt_store.specs.Common.{Ends, Int, IsStoreFault, Looks, ListsRuns, OpensRuns, image_at};
+ghost use Rattle.std.specs.Prelude.{◌≡◌, [], ◌∷◌, pos, codes, map, drop, true, false, Some, IfOk, OnOk, IfSome, IsTrue};
+ghost use Rattle.kt_store.specs.Common.{Ends, Int, Looks, ListsRuns, OpensRuns, image_at};
 ghost use Rattle.kt_store.specs.Supposed.{IsOfRuns, ListsTables, key_object, objects_2, table_object};
 ghost use Rattle.sqlite_trees.specs.Tree.{Trees};
 ghost use Rattle.sqlite_value.specs.Value.{owned};

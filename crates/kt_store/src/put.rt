@@ -1,5 +1,5 @@
 ghost use Rattle.std.specs.Prelude.{◌≡◌, ◌⊎◌, Some, None, IfOk, ◌<◌, ◌≤◌, ◌^◌, OnOk, OnErr, IfErr};
-ghost use Rattle.kt_store.specs.Common.{last_run, IsStorable, HasCleanDisk, state, IsStoreFault, KeepsRuns, Looked, Changes, MayChange, CommitsLater, RunsAll, CanAdd, IsBareIfPassed, with_entry, kind_code, put_refusal, StandsFor, entry_statements};
+ghost use Rattle.kt_store.specs.Common.{OnRuns, last_run, IsStorable, IsStoreFault, KeepsRuns, Looked, Changes, MayChange, CommitsLater, RunsAll, CanAdd, IsBareIfPassed, with_entry, kind_code, put_refusal, entry_statements};
 
 use crate::StoreFault;
 use crate::batch::Batch;
@@ -120,13 +120,11 @@ pub(crate) fn check<S: Alter>(
 ) -> Result<(), StoreFault>
     ensures small { OnOk result (run ≤ last_run) }
     ensures looked { Looked S.Store conn.old conn.new }
-    ensures refused { (runs : _) → StandsFor (state S.Store conn.old) runs
-        → HasCleanDisk (state S.Store conn.new)
-        → IfErr result (λ e. IsStoreFault e ⊎ (put_refusal runs run entry.now ≡ Some e)) }
-    ensures taken { (runs : _) → StandsFor (state S.Store conn.old) runs
-        → HasCleanDisk (state S.Store conn.new)
-        → OnOk result (IsBareIfPassed entry.now → (put_refusal runs run entry.now ≡ None)
-        × CanAdd run entry.now runs) }
+    ensures refused { OnRuns S.Store conn.old conn.new (λ runs.
+        IfErr result (λ e. IsStoreFault e ⊎ (put_refusal runs run entry.now ≡ Some e))) }
+    ensures taken { OnRuns S.Store conn.old conn.new (λ runs.
+        OnOk result (IsBareIfPassed entry.now → (put_refusal runs run entry.now ≡ None)
+        × CanAdd run entry.now runs)) }
 {
     let (total, finished) = look(conn, run)?;
     if finished {

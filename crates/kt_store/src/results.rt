@@ -35,7 +35,7 @@ impl<S: Alter> Model for Results<S> {
 
 impl<S: Alter> Results<S> {
     ghost use Rattle.std.specs.Prelude.{◌≡◌, ◌⊎◌, Some, None, IfOk, IfErr};
-    ghost use Rattle.kt_store.specs.Common.{state, HasCleanDisk, IsMoment, IsStorable, IsStoreFault, IsOf, Takes, Refuses, Reads, Serves, StandsFor, Began, Put, Finished, Heads, results, run_at, seen_as};
+    ghost use Rattle.kt_store.specs.Common.{OnRuns, state, IsMoment, IsStorable, IsStoreFault, IsOf, Takes, Refuses, Reads, Serves, Began, Put, Finished, Heads, results, run_at, seen_as};
 
     /// Takes the tables of a database; in an empty one it makes them, in one commit, and so it takes those of schema 1
     /// to schema 2. A refusal hands the connection back: `UnknownSchema` where the tables say a number other than 1 and
@@ -115,12 +115,12 @@ impl<S: Alter> Results<S> {
     /// The entries of a run with their pairs and their outputs, by position. `NoRun` where no run has the number.
     pub fn entries(&mut self, run: u64) -> Result<Vec<Entry>, StoreFault>
         ensures reads { Reads (results S.Store) self.old self.new }
-        ensures entries { (runs : _) → StandsFor (state S.Store self.old) runs
-            → HasCleanDisk (state S.Store self.new) → IfOk result (λ found. (r : _)
-            × (run_at runs run ≡ Some r) × (found.items ≡ r.entries)) }
-        ensures refused { (runs : _) → StandsFor (state S.Store self.old) runs
-            → HasCleanDisk (state S.Store self.new) → IfErr result (λ e. IsStoreFault e
-            ⊎ ((e ≡ StoreFault.NoRun) × (run_at runs run ≡ None))) }
+        ensures entries { OnRuns S.Store self.old self.new (λ runs.
+            IfOk result (λ found. (r : _) × (run_at runs run ≡ Some r)
+            × (found.items ≡ r.entries))) }
+        ensures refused { OnRuns S.Store self.old self.new (λ runs.
+            IfErr result (λ e. IsStoreFault e ⊎ ((e ≡ StoreFault.NoRun)
+            × (run_at runs run ≡ None)))) }
     {
         all_entries(&mut self.conn, self.alloc, run)
     }

@@ -1,5 +1,5 @@
 ghost use Rattle.std.specs.Prelude.{◌≡◌, ◌<◌, ◌≤◌, ◌++◌, suc, [], ◌∷◌, length, true, false, IfOk, OnOk, OnErr, IfErr, ◌⊎◌, ◌^◌, Some, None};
-ghost use Rattle.kt_store.specs.Common.{last_run, IsMoment, HasCleanDisk, state, IsStoreFault, KeepsRuns, Looked, Changes, MayChange, new_run, StandsFor, IsComplete, finish, finish_refusal};
+ghost use Rattle.kt_store.specs.Common.{OnRuns, last_run, IsMoment, HasCleanDisk, state, IsStoreFault, KeepsRuns, Looked, Changes, MayChange, new_run, StandsFor, IsComplete, finish, finish_refusal};
 
 use crate::StoreFault;
 use crate::entries::entry_rows;
@@ -11,10 +11,9 @@ use sqlite::{Alter, Connection};
 
 /// Whether there are as many runs as may be.
 pub(crate) fn is_full<S: Alter>(conn: &mut Connection<S>) -> Result<bool, Trouble>
-    ensures full { (runs : _) → StandsFor (state S.Store conn.old) runs
-        → HasCleanDisk (state S.Store conn.new)
-        → IfOk result (λ full. (full ≡ true → last_run ≤ length runs)
-        × (full ≡ false → length runs < last_run)) }
+    ensures full { OnRuns S.Store conn.old conn.new (λ runs.
+        IfOk result (λ full. (full ≡ true → last_run ≤ length runs) × (full ≡ false
+        → length runs < last_run))) }
     ensures looked { Looked S.Store conn.old conn.new }
 {
     Ok(find(conn, MOST_RUNS)?.is_some())
@@ -48,12 +47,10 @@ pub(crate) fn add_run<S: Alter>(
 pub(crate) fn check<S: Alter>(conn: &mut Connection<S>, run: u64) -> Result<(), StoreFault>
     ensures small { OnOk result (run ≤ last_run) }
     ensures looked { Looked S.Store conn.old conn.new }
-    ensures refused { (runs : _) → StandsFor (state S.Store conn.old) runs
-        → HasCleanDisk (state S.Store conn.new)
-        → IfErr result (λ e. IsStoreFault e ⊎ (finish_refusal runs run ≡ Some e)) }
-    ensures taken { (runs : _) → StandsFor (state S.Store conn.old) runs
-        → HasCleanDisk (state S.Store conn.new)
-        → OnOk result ((finish_refusal runs run ≡ None) × IsComplete run runs) }
+    ensures refused { OnRuns S.Store conn.old conn.new (λ runs.
+        IfErr result (λ e. IsStoreFault e ⊎ (finish_refusal runs run ≡ Some e))) }
+    ensures taken { OnRuns S.Store conn.old conn.new (λ runs.
+        OnOk result ((finish_refusal runs run ≡ None) × IsComplete run runs)) }
 {
     let (total, finished) = look(conn, run)?;
     if finished {

@@ -1,5 +1,5 @@
-ghost use Rattle.std.specs.Prelude.{◌≡◌, ◌⊎◌, ◌<◌, ◌≤◌, ◌^◌, ℕ, List, Some, None, drop, length, map, IfOk, IfErr, OnOk, true};
-ghost use Rattle.kt_store.specs.Common.{HasRuns, IsStoreFault, StandAt, Looks, LooksThrough, Run, AreRuns, Blob, Entry, column, entry_row, last_run, outputs_of, run_row, head_of, Serves, Heads, Outline, Outputs, entries_of, outlined, run_at, seen_as};
+ghost use Rattle.std.specs.Prelude.{◌≡◌, ◌⊎◌, ◌<◌, ◌≤◌, ◌^◌, ℕ, Some, None, drop, length, map, IfOk, IfErr, OnOk, true};
+ghost use Rattle.kt_store.specs.Common.{OnTrees, IsStoreFault, StandAt, Looks, LooksThrough, Run, AreRuns, Blob, Entry, column, entry_row, last_run, outputs_of, run_row, head_of, Serves, Heads, Outline, Outputs, entries_of, outlined, run_at, seen_as};
 ghost use Rattle.kt_base.specs.declared.entry.Output.{Output as Pair};
 ghost use Rattle.kt_store.specs.Inner.Known.{readings};
 ghost use Rattle.kt_store.specs.Runs.{IsRun};
@@ -85,8 +85,8 @@ pub(crate) fn last_number<S: Store>(
     places: Places,
 ) -> Result<u64, Trouble>
     requires { StandAt places (S.Store.view store.old) }
-    ensures last { (runs : List Run) → HasRuns (S.Store.view store.old) runs
-        → IsClean (S.Store.view store.new) → IfOk result (λ n. n ≡ length runs) }
+    ensures last { OnTrees S.Store store.old store.new (λ runs.
+        IfOk result (λ n. n ≡ length runs)) }
     ensures through { IsClean (S.Store.view store.new)
         → OnOk result (LooksThrough (S.Store.view store.old) (S.Store.view store.new)) }
     ensures looks { Looks S.Store store.old store.new }
@@ -110,12 +110,11 @@ pub(crate) fn stored_run<S: Store>(
 ) -> Result<row::Row, StoreFault>
     requires { StandAt places (S.Store.view store.old) }
     ensures small { OnOk result (run ≤ last_run) }
-    ensures found { (runs : List Run) → HasRuns (S.Store.view store.old) runs
-        → IsClean (S.Store.view store.new) → IfOk result (λ row. (r : Run)
-        × (run_at runs run ≡ Some r) × (row ≡ run_row r) × AreRuns runs) }
-    ensures refused { (runs : List Run) → HasRuns (S.Store.view store.old) runs
-        → IsClean (S.Store.view store.new)
-        → IfErr result (λ e. IsStoreFault e ⊎ ((e ≡ StoreFault.NoRun) × (run_at runs run ≡ None))) }
+    ensures found { OnTrees S.Store store.old store.new (λ runs.
+        IfOk result (λ row. (r : Run) × (run_at runs run ≡ Some r) × (row ≡ run_row r)
+        × AreRuns runs)) }
+    ensures refused { OnTrees S.Store store.old store.new (λ runs.
+        IfErr result (λ e. IsStoreFault e ⊎ ((e ≡ StoreFault.NoRun) × (run_at runs run ≡ None)))) }
     ensures through { IsClean (S.Store.view store.new)
         → OnOk result (LooksThrough (S.Store.view store.old) (S.Store.view store.new)) }
     ensures looks { Looks S.Store store.old store.new }
@@ -147,9 +146,8 @@ fn all_entries<S: Store>(
 ) -> Result<Vec<Entry>, Trouble>
     requires run { run < 2 ^ 63 }
     requires placed { StandAt places (S.Store.view store.old) }
-    ensures all { (runs : _) → HasRuns (S.Store.view store.old) runs
-        → IsClean (S.Store.view store.new) → IfOk result (λ found. found.items
-        ≡ map (outlined pairs) (entries_of (run_at runs run))) }
+    ensures all { OnTrees S.Store store.old store.new (λ runs.
+        IfOk result (λ found. found.items ≡ map (outlined pairs) (entries_of (run_at runs run)))) }
     ensures looks { Looks S.Store store.old store.new }
 {
     let rows = rows_in(

@@ -12,6 +12,10 @@ use Rattle.kt_store.specs.declared.result_store.Keeping as store
 abbrev pub HasRuns : View → List Run → Type 0
 HasRuns v runs = IsClean v → v.is_broken ≡ false → Keeps runs v.trees
 
+-- what holds of the runs that the trees of a store were those of before a call, if the disk returns what was written after it
+abbrev pub OnTrees : {S : Type 0} → Ghosts S → S → S → (List Run → Type 0) → Type 0
+OnTrees g old new P = (runs : List Run) → HasRuns (g.view old) runs → IsClean (g.view new) → P runs
+
 module _ {S : Type 0} (g : Ghosts S) where
   -- of a store that is only read
   abbrev pub readings : store.Ghosts S

@@ -1,5 +1,5 @@
 ghost use Rattle.std.specs.Prelude.{◌≡◌, ◌<◌, Ok, IfOk, OnOk, OnErr, IsTrue, true, false, nat_lt, length, []};
-ghost use Rattle.kt_store.specs.Common.{bound, IsPlain, understood, HasCleanDisk, Survives, IsUnchanged, state, column, Tells, CommitsNothing, Looked, Asked, AreWide, HasColumns, MayShow, MayTell, ShowsOf, Told, Commits, CommitsLater, IsOurs, MayCommit, RunsOne, Undoes, Rests, IsNoMemory, IsShort, image_at, IsOver, IsUnderstood, StandsFor, schema_2};
+ghost use Rattle.kt_store.specs.Common.{OnRuns, bound, IsPlain, understood, HasCleanDisk, Survives, IsUnchanged, state, column, Tells, CommitsNothing, Looked, Asked, AreWide, HasColumns, MayShow, MayTell, ShowsOf, Told, Commits, CommitsLater, IsOurs, MayCommit, RunsOne, Undoes, Rests, IsNoMemory, IsShort, image_at, IsOver, IsUnderstood, schema_2};
 ghost use Rattle.sqlite_std_file.specs.File.{file_is_usable, IsFresh};
 
 use crate::batch::Batch;
@@ -120,10 +120,8 @@ pub(crate) fn query<S: Alter>(
 ) -> Result<Vec<Row>, Trouble>
     requires plain { IsPlain (understood schema_2 sql.now) }
     requires width { HasColumns width (understood schema_2 sql.now) }
-    ensures shown { (runs : _) → StandsFor (state S.Store conn.old) runs
-        → HasCleanDisk (state S.Store conn.new)
-        → IfOk result (λ rows. ShowsOf S.Store runs sql.now (bound params.now)
-        conn.new rows.items) }
+    ensures shown { OnRuns S.Store conn.old conn.new (λ runs.
+        IfOk result (λ rows. ShowsOf S.Store runs sql.now (bound params.now) conn.new rows.items)) }
     ensures wide { IfOk result (λ rows. AreWide width rows.items) }
     ensures looked { Looked S.Store conn.old conn.new }
 {

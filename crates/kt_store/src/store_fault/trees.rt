@@ -1,5 +1,5 @@
 ghost use Rattle.std.specs.Prelude.{◌≡◌, ◌++◌, ◌<◌, ◌^◌, ℕ, ℤ, pos, List, [], ◌∷◌, map, length, true, false, Some, None, IsSome, IsTrue, IfOk, OnOk, OnErr};
-ghost use Rattle.kt_store.specs.Common.{AllByRecursion, Blob, filter, column, Int, AreWide, IsStoreFault, TellsOf, FindsUnder, Goes, Looks, LooksThrough, ShowsUnder, CountsUnder, in_columns};
+ghost use Rattle.kt_store.specs.Common.{Blob, column, Int, AreWide, IsStoreFault, TellsOf, FindsUnder, Goes, Looks, LooksThrough, ShowsUnder, CountsUnder, in_columns};
 ghost use Rattle.sqlite_exec.specs.Calls.{OnlyReads};
 ghost use Rattle.sqlite_exec.specs.Loops.{left_of};
 ghost use Rattle.sqlite_trees.specs.Tree.{rowid};
