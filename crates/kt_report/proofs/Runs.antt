@@ -1,5 +1,6 @@
 -- Bytes that stand in XML as they are.
-use Rattle.std.proofs.Common.{◌≡◌, ℕ, ◌<◌, ◌≤◌, Bool, true, false, List, [], ◌∷◌, ◌++◌, length, take, drop, get_or, ◌+◌, ◌⊎◌, inl, inr, bytes_eq, refl, ap, ◌∙◌, sym, subst, append_assoc, length-append, take-append-drop, arith, ◌==◌, ◌&&◌, not, encode_utf8, encode_utf8_all}
+use Rattle.std.specs.List.{list_all}
+use Rattle.std.proofs.Common.{◌≡◌, ℕ, zero, suc, ◌<◌, ◌≤◌, Bool, true, false, List, [], ◌∷◌, ◌++◌, length, take, drop, get_or, ◌+◌, ◌⊎◌, inl, inr, bytes_eq, refl, ap, ◌∙◌, sym, subst, append_assoc, length-append, take-append-drop, arith, ◌==◌, ◌&&◌, not, encode_utf8, encode_utf8_all}
 use Rattle.kt_report.proofs.Common.{prefix_len, chars, IsUtf8, IsCharBoundary, get_or-append-add, get_or-take, length-take, nil_from_length, and_parts, false≢true, eqb-true, cases_lt, ne_eqb, nat_tests, flat_map-append, encode_ascii, chars-nil, chars-append, chars_past_char, encodes-chars, length-encode, len_utf8_bounds, IsUtf8-take, IsUtf8-drop, escaped, escapes}
 use Rattle.kt_base.proofs.Fronts.{all_text}
 use Rattle.kt_base.specs.Lossy.{lossy}
@@ -21,6 +22,14 @@ continues : (attribute : Bool) (b : ℕ) → 128 ≤ b → b < 192 → stands at
 continues attribute b high low =
     let same : escaped attribute b ≡ b ∷ [] = plain attribute b high (ne_eqb b 65534 (omega (arith, low))) (ne_eqb b 65535 (omega (arith, low))) in
     rw (same, (bytes_eq-Decides (b ∷ []) (b ∷ [])).1 refl, ne_eqb b 239 (omega (arith, low))) refl
+
+-- bytes of which each one stands
+pub all_first : (p : ℕ → Bool) (n : ℕ) (bytes : List ℕ) → n ≤ length bytes → list_all p (take n bytes) ≡ true → prefix_len p bytes ≡ n + prefix_len p (drop n bytes)
+all_first p zero bytes long all = omega arith
+all_first p (suc n) [] long all = absurd (omega (arith, long))
+all_first p (suc n) (b ∷ bytes) long all =
+    let each : (p b ≡ true) × (list_all p (take n bytes) ≡ true) = and_parts _ _ all in
+    rw each.0 (omega (arith, all_first p n bytes (omega (arith, long)) each.1))
 
 -- a run may be cut off
 pub boundary : (attribute : Bool) (s : List ℕ) (n : ℕ) → n ≡ prefix_len (stands attribute) s → IsCharBoundary s n

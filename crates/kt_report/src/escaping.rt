@@ -1,4 +1,5 @@
-ghost use Rattle.std.specs.Prelude.{◌≡◌, ◌<◌, [], ◌∷◌, ◌++◌, ◌==◌, ◌&&◌, not, false, true, bytes_eq, length, IfOk, OnOk, MatchOption};
+ghost use Rattle.std.specs.Prelude.{◌≡◌, ◌<◌, ◌≤◌, [], ◌∷◌, ◌++◌, ◌==◌, ◌&&◌, not, false, true, bytes_eq, length, IfOk, OnOk, MatchOption};
+ghost use Rattle.std.specs.List.{list_all};
 ghost use Rattle.kt_report.specs.Common.{prefix_len, chars, lossy, case_texts, with_outputs, escaped, escapes};
 
 use crate::case_texts::CaseTexts;
@@ -34,28 +35,54 @@ fn push_escaped(text: &mut Text, attribute: bool, c: char) -> Result<(), NoMemor
     }
 }
 
-/// Whether a byte of UTF-8 stands in XML as it is. The first byte of U+FFFE and U+FFFF doesn't.
+/// Whether a byte of UTF-8 stands in XML as it is. The first byte of U+FFFE and U+FFFF doesn't. It has no branch, so that
+/// the compiler tests many bytes at once.
 fn stands(attribute: bool, byte: u8) -> bool
     ensures { result ≡ bytes_eq (escaped attribute byte) (byte ∷ []) && not (byte == 239) }
 {
-    if byte > b'>' {
-        return byte != 239;
-    }
-    match byte {
-        b'&' | b'<' | b'>' | b'"' => false,
-        b'\t' | b'\n' => !attribute,
-        _ => byte >= b' ',
-    }
+    let is_blank = !attribute & ((byte == b'\t') | (byte == b'\n'));
+    let is_named = (byte == b'&') | (byte == b'<') | (byte == b'>') | (byte == b'"');
+    is_blank | (byte >= b' ') & !is_named & (byte != 239)
 }
 
-/// How many bytes a text begins with that stand in XML as they are.
-fn run_length(attribute: bool, text: &[u8]) -> usize
-    ensures { result ≡ prefix_len
+/// Whether each of these bytes does.
+fn all_stand(attribute: bool, bytes: &[u8; 32]) -> bool
+    ensures { result ≡ list_all
+        (λ b. bytes_eq (escaped attribute b) (b ∷ []) && not (b == 239)) bytes.now }
+{
+    let mut all = true;
+    for byte in bytes {
+        all = all & stands(attribute, *byte);
+    }
+    all
+}
+
+/// How many bytes a short text begins with that stand in XML as they are.
+fn short_run_length(attribute: bool, text: &[u8]) -> usize
+    ensures length { result ≡ prefix_len
         (λ b. bytes_eq (escaped attribute b) (b ∷ []) && not (b == 239)) text.now }
+    ensures within { result ≤ length text.now }
 {
     text.iter()
         .take_while(|byte| stands(attribute, **byte))
         .count()
+}
+
+/// The same of any text.
+fn run_length(attribute: bool, text: &[u8]) -> usize
+    ensures { result ≡ prefix_len
+        (λ b. bytes_eq (escaped attribute b) (b ∷ []) && not (b == 239)) text.now }
+{
+    let mut length = 0;
+    let mut rest = text;
+    while let Some((chunk, after)) = rest.split_first_chunk::<32>() {
+        if !all_stand(attribute, chunk) {
+            break;
+        }
+        length += 32;
+        rest = after;
+    }
+    length + short_run_length(attribute, rest)
 }
 
 /// Appends the bytes that stand in XML as they are and the character that follows them, and returns the rest.

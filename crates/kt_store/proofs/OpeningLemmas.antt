@@ -1,5 +1,5 @@
 -- A file that holds runs lists the schema of their tables.
-use Rattle.std.proofs.Common.{◌≡◌, ◌≢◌, ◌%◌, ◌-◌, ◌<◌, ◌≤◌, ◌&&◌, Bool, false, true≢false, arith, get_or, length, ℕ, pos, true, List, [], ◌∷◌, map, Option, Some, None, Result, Ok, Err, IfSome, IsTrue, refl, sym, ap, ap₂, subst, ◌∙◌}
+use Rattle.std.proofs.Common.{◌≡◌, ◌≢◌, ◌%◌, ◌-◌, ◌<◌, ◌≤◌, ◌&&◌, Bool, false, true≢false, arith, get_or, length, ℕ, pos, true, List, [], ◌∷◌, map, Option, Some, Result, Ok, Err, IfSome, IsTrue, refl, sym, ap, ap₂, subst, ◌∙◌}
 use Rattle.std.proofs.lemmas.Option.{none-some, same_Some}
 use Rattle.std.specs.Result.{result_ok}
 use Rattle.kt_store.proofs.Common.{AllByRecursion, AreOrdered, IsRun, map-map, Int, Row, Trees, Run, Keeps, rowid, schema_2, meta_1, entries_1, props_1, plain, Value, Table}
@@ -42,11 +42,6 @@ ok_is (Err e) o x is some = absurd (none-some x (sym is ∙ some))
 pub if_some : {T E : Type 0} (P : T → Type 0) (r : Result T E) (o : Option T) → o ≡ result_ok r → ((x : T) → r ≡ Ok x → P x) → IfSome o P
 if_some P (Ok y) o is each = subst (λ p. IfSome p P) (sym is) (each y refl)
 if_some P (Err e) o is each = subst (λ p. IfSome p P) (sym is) tt
-
--- what is there meets more, by what it meets
-pub then_some : {T : Type 0} {P : T → Type 0} (Q : T → Type 0) (o : Option T) → IfSome o P → ((x : T) → P x → Q x) → IfSome o Q
-then_some Q (Some x) is each = each x is
-then_some Q None is each = tt
 
 pub both_true : (a b : Bool) → IsTrue (a && b) → IsTrue a × IsTrue b
 both_true true b h = (refl, h)
