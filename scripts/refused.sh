@@ -6,8 +6,10 @@
 #   refused.sh                     all bodies
 #   refused.sh CRATE..             those of these crates; CRATE/BODY is one body
 #
-# It works on a copy of the checkout, with what the last check of each crate kept in out/: so prove the crates first. A body then takes
-# 20 to 60 processor seconds, and one that is not refused is tried once more from nothing. One after the other is tried, by one job.
+# It works on a copy of the checkout, with what the last check of each crate kept in out/: so prove the crates first. Bodies in
+# different functions are tried by one check, since a function is proved from its own body and the contracts of those that it calls. A
+# body of which that check says nothing is tried alone, in 20 to 60 processor seconds, and one that is not refused once more from
+# nothing. There is one job.
 # rt is taken from PATH, else from the kit that RATTLE_KIT names.
 set -eu -o pipefail
 top=$(cd "$(dirname "$0")/.." && pwd)
@@ -20,7 +22,7 @@ trap 'exit 1' HUP INT TERM
 mkdir "$room/tree"
 (cd "$top" && tar -cf - --exclude=out crates crates.txt HANDLES) | tar -xf - -C "$room/tree"
 python3 - "$top" "$room" "$(realpath "$(command -v rt)")" "$@" <<'TRY'
-import importlib.machinery, importlib.util, os, shutil, sys
+import importlib.machinery, importlib.util, os, re, shutil, sys
 top, room, rt_path, *chosen = sys.argv[1:]
 sys.dont_write_bytecode = True
 loader = importlib.machinery.SourceFileLoader("rt", rt_path)
@@ -43,22 +45,95 @@ if unknown:
 bodies = [it for it in bodies if not chosen or it["name"] in chosen or it["crate"] in chosen]
 
 
-def as_edit(body, folder):
-    """The text of an edit, in which each line has the spaces that it stands behind, or why there is none."""
-    text, spaces = "", ""
+def read(path):
+    with open(path, encoding="utf-8") as file:
+        return file.read().split("\n")
+
+
+def changes_of(body, folder):
+    """Where each line stands and what stands there instead, (FILE, NUMBER, LINE) each, or why that isn't known."""
+    changes = []
     for key, words in body["lines"]:
         if key == "file":
             file = words
-        if key == "old":
-            try:
-                lines = [it for it in open(f"{folder}/{file}", encoding="utf-8").read().split("\n") if it.strip() == words]
-            except OSError as error:
-                return None, f"{file}: {error.strerror}"
-            if len(lines) != 1:
-                return None, f"{len(lines)} lines of {file} are: {words}"
-            spaces = lines[0][: len(lines[0]) - len(words)]
-        text += f"{key}: {words if key == 'file' else spaces + words}\n"
-    return text, None
+        elif key == "old":
+            if not os.path.exists(f"{folder}/{file}"):
+                return None, f"there is no {file}"
+            lines = read(f"{folder}/{file}")
+            at = [number for number, it in enumerate(lines) if it.strip() == words]
+            if len(at) != 1:
+                return None, f"{len(at)} lines of {file} are: {words}"
+        else:
+            changes.append((file, at[0], lines[at[0]].split(lines[at[0]].strip())[0] + words))
+    return changes, None
+
+
+def depth(line):
+    return len(line) - len(line.lstrip())
+
+
+def around(crate, listed, file, at):
+    """The function around a line: its name in a check's output, its file, its lines and a part of the path of its proofs. None if that
+    isn't clear."""
+    lines = read(f"{crate.folder}/{file}")
+    for first in range(at, -1, -1):
+        found = re.match(r"\s*(?:pub(?:\(\w+\))? )?(const )?fn (\w+)", lines[first])
+        if found and (first == at or depth(lines[first]) < depth(lines[at])):
+            break
+    else:
+        return None
+    last = next(it for it in range(first, len(lines)) if lines[it].startswith(" " * depth(lines[first]) + "}"))
+    modules = [it for it in file[: -len(".rt")].split("/")[1:] if it not in ("lib", "main", "mod")]
+    name = re.compile("::".join([crate.name, *modules, r"(\w+::)?" + found[2]]))
+    names = [it for it in listed if name.fullmatch(it)]
+    if found[1] or last < at or len(names) != 1:
+        return None
+    return names[0], file, range(first + 1, last + 2), "/".join(["proofs", *modules]) + "/", f"/{found[2]}/"
+
+
+def refusal(said, functions):
+    """What a check says against one of these functions itself."""
+    for name, file, lines, folder, part in functions:
+        verdict = next((it for it in said if it.startswith(f"fn {name}: ")), "")
+        if not re.search(": (not proved|no proof: (?!it calls))", verdict):
+            continue
+        for line in said:
+            told = re.match(r"(?:note: )?(?:\./)?(\S+?):(\d+):\d+: (.*)", line)
+            if not told or re.search("has no field|is not in scope|has no `|was not admitted", line):
+                continue
+            if told[1] == file and int(told[2]) in lines or told[1].startswith(folder) and part in told[1]:
+                return line
+    return None
+
+
+def try_together(crate, group, kept):
+    """Tries bodies of different functions by one check, and gives each that is refused what is said."""
+    texts = {}
+    for body in group:
+        for file, at, line in body["changes"]:
+            texts.setdefault(file, read(f"{crate.folder}/{file}"))[at] = line
+    ran = rt.checked(crate, {file: "\n".join(lines) for file, lines in texts.items()}, flags, kept)
+    said = ran.stdout.rstrip("\n").split("\n")
+    if ran.returncode == 1 and said[-1].startswith("logic=not-proved"):
+        for body in group:
+            body["why"] = refusal(said, body["functions"])
+    elif ran.returncode and len(group) > 1:
+        # One of them can't be compiled.
+        half = len(group) // 2
+        try_together(crate, group[:half], kept)
+        try_together(crate, group[half:], kept)
+
+
+def try_alone(crate, body, kept):
+    """What is said of a body, and whether it is refused."""
+    edit = f"{room}/{body['name'].split('/')[1]}.edit"
+    with open(edit, "w", encoding="utf-8") as file:
+        for path, at, line in body["changes"]:
+            file.write(f"file: {path}\nold: {read(f'{crate.folder}/{path}')[at]}\nnew: {line}\n")
+    why = rt.must_fail(crate, edit, flags, kept)[1]
+    if "NOT REFUSED" in why:
+        why = rt.must_fail(crate, edit, flags)[1]
+    return why.split(": ", 1)[1]
 
 
 def copy(name, part):
@@ -84,21 +159,40 @@ for name in dict.fromkeys(it["crate"] for it in bodies):
     with open(f"{room}/log", "w") as log:
         for it in crates.values():
             it.out = log
-        is_proved = not any(it.build_rlib(flags, anew=False) for it in crate.below()) and not rt.checked(crate, {}, flags, kept).returncode
-    for body in (it for it in bodies if it["crate"] == name):
-        edit, why = as_edit(body, crate.folder)
-        is_refused = False
-        if not is_proved:
-            why = f"{name} is not proved as it is"
-        if not why:
-            with open(f"{room}/{body['name'].split('/')[1]}.edit", "w", encoding="utf-8") as file:
-                file.write(edit)
-            is_refused, why = rt.must_fail(crate, file.name, flags, kept)
-            if "NOT REFUSED" in why:
-                is_refused, why = rt.must_fail(crate, file.name, flags)
-            why = why.split(": ", 1)[1].replace("refused, as it must be", "refused")
+        is_proved = not any(it.build_rlib(flags, anew=False) for it in crate.below())
+    ran = rt.checked(crate, {}, flags, kept)
+    listed = re.findall(r"(?m)^fn (\S+): proved", ran.stdout)
+    groups = []
+    here = [it for it in bodies if it["crate"] == name]
+    for body in here:
+        body["changes"], body["why"] = changes_of(body, crate.folder)
+        if not is_proved or ran.returncode:
+            body["why"] = f"{name} is not proved as it is"
+        if body["why"]:
+            continue
+        body["functions"] = [around(crate, listed, file, at) for file, at, _ in body["changes"]]
+        if None in body["functions"]:
+            continue
+        names = {it[0] for it in body["functions"]}
+        for group in groups:
+            if names.isdisjoint(group[0]):
+                break
+        else:
+            group = (set(), [])
+            groups.append(group)
+        group[0].update(names)
+        group[1].append(body)
+    for _, group in groups:
+        try_together(crate, group, kept)
+    for body in here:
+        is_refused = "functions" in body and bool(body["why"])
+        if is_refused:
+            body["why"] = f"refused: {body['why'][:160]}"
+        elif not body["why"]:
+            body["why"] = try_alone(crate, body, kept)
+            is_refused = "refused, as it must be" in body["why"]
         passed, failed = passed + is_refused, failed + (not is_refused)
-        print(f"{body['name']}: {why}", flush=True)
+        print(f"{body['name']}: {body['why']}", flush=True)
     shutil.rmtree(kept)
 print(f"{passed} passed, {failed} failed")
 sys.exit(failed != 0)

@@ -1,6 +1,6 @@
 -- A file that is read in parts: what is known after some of them.
 use Rattle.std.proofs.Common.{◌≡◌, ℕ, ◌+◌, List, [], ◌∷◌, ◌++◌, length, Result, Some, None, refl, sym, ◌∙◌, ap, subst, append_assoc, length-append}
-use Rattle.kt_child.proofs.Common.{OsFault, FileRead, ReadEnd, Complete, Chain, Call, Takes, IsEnd, Reads, next_part, bytes_of}
+use Rattle.kt_child.proofs.Common.{OsFault, FileRead, ReadEnd, Complete, Chain, Call, TakesBytes, IsEnd, Reads, next_part, bytes_of}
 use Rattle.kt_child.specs.Ending.Parts.{last, more}
 use Rattle.kt_child.proofs.Chains.{chain_append}
 
@@ -20,7 +20,7 @@ pub taking_more : {R O : Type 0} (has_taken : R → List ℕ → Type 0) (leads 
     → Taking has_taken leads path part limit start now reader got
     → leads now (next_part path part limit got answer) new
     → IsEnd limit got answer None
-    → Takes has_taken reader reader' (bytes_of answer)
+    → TakesBytes has_taken reader reader' (bytes_of answer)
     → got' ≡ got + length (bytes_of answer)
     → Taking has_taken leads path part limit start new reader' got'
 taking_more has_taken leads path part limit start now new reader reader' got got' answer (taken, has, e, calls, chain, on) led goes takes f =
@@ -42,7 +42,7 @@ pub taking_over : {R O : Type 0} (has_taken : R → List ℕ → Type 0) (leads 
     → Taking has_taken leads path part limit start now reader got
     → leads now (next_part path part limit got answer) new
     → IsEnd limit got answer (Some end)
-    → (end ≡ Complete → Takes has_taken reader reader' (bytes_of answer))
+    → (end ≡ Complete → TakesBytes has_taken reader reader' (bytes_of answer))
     → (calls : List Call) × (bytes : List ℕ) × Chain leads start calls new × Reads path part limit [] calls end bytes × (end ≡ Complete → has_taken reader' bytes)
 taking_over has_taken leads path part limit start now new reader reader' got answer end (taken, has, e, calls, chain, on) led ends takes =
     let L : ℕ → Type 0 = λ m. leads now (next_part path part limit m answer) new in

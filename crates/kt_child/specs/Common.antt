@@ -30,7 +30,7 @@ pub use Rattle.kt_child.specs.Host.HostAnswers.{HostLeads, IsFront, IsHostRead, 
 pub use Rattle.kt_child.specs.Host.HostFiles.{TakesAtMost}
 pub use Rattle.kt_child.specs.Host.HostStands.{AllProceed, AllStay, IsLastEnd, OthersStay, Proceeds, stand_in, stand_of}
 pub use Rattle.kt_child.specs.Host.Lateness.{IsAnyLate, IsLate, IsLateAt, Looks, Sees}
-pub use Rattle.kt_child.specs.Inner.Children.{IsOn, IsOnBy, IsWatched, Takes, count_in, state_after_start, with_pending}
+pub use Rattle.kt_child.specs.Inner.Children.{IsOn, IsOnBy, IsWatched, TakesBytes, count_in, state_after_start, with_pending}
 pub use Rattle.kt_child.specs.Inner.Host.{IsAt, IsCommandOf, IsFaultOf, IsFree, IsUnopened, RunsIn, TakesPiece, after_removed, after_set}
 pub use Rattle.kt_child.specs.Inner.Started.{IsStart}
 pub use Rattle.kt_child.specs.Planning.ChildPlan.{child_of, common_variables, env_of, own_variables, paths_of, removed_names, test_variable, variable, variable_word, words_of}

@@ -54,11 +54,3 @@ entry_found (x ∷ es) (suc k) e there none = by (x.position == e.position) (ent
     by : (b : Bool) → (find (λ (d : Entry). d.position == e.position) es ≡ None → ⊥) → cond b (Some x) (find (λ (d : Entry). d.position == e.position) es) ≡ None → ⊥
     by true more n = absurd (cc)
     by false more n = more n
-
--- no run is chosen where no head is
-pub not_chosen : (number : Option ℕ) (runs : List Run) (heads : List RunHead) → heads ≡ map head_of runs → chosen number heads ≡ None → chosen number runs ≡ None
-not_chosen number runs heads e f = by (chosen number runs) (sym (chosen-map head_of number runs) ∙ ap (λ (xs : List RunHead). chosen number xs) (sym e) ∙ f)
-  where
-    by : (o : Option Run) → option_map head_of o ≡ None → o ≡ None
-    by None g = refl
-    by (Some r) g = absurd (cc)

@@ -45,7 +45,7 @@ pub use Rattle.kt_store.specs.declared.result_store.CaseOutputs.{CaseOutputs}
 pub use Rattle.kt_store.specs.declared.result_store.RunHead.{RunHead}
 pub use Rattle.kt_store.specs.declared.store_fault.StoreFault.{StoreFault}
 pub use Rattle.kt_store.specs.declared.store_fault.StoreFault.TheVariants.{BadPosition, Incomplete, NoRun, RepeatedPosition}
-pub use Rattle.kt_words.specs.Commands.{cases_of, needs_case, number_of, results_of}
+pub use Rattle.kt_words.specs.Commands.{cases_of, needs_case, results_of}
 pub use Rattle.kt_words.specs.declared.command.Command.{Command}
 pub use Rattle.kt_words.specs.declared.options.ReportOptions.{ReportOptions}
 unfoldable pub use lib.Utf8.{encode}
@@ -67,13 +67,13 @@ pub use Rattle.kt_cli.specs.Machines.{InDirectory, MachineAnswer, Searched, dire
 pub use Rattle.kt_cli.specs.Meaning.{AsksFirst, Course, CutShort, Did, IsAskedOnly, IsPrepared, IsUnasked, Means, Seen, cut, debugged, idle, junit_cut, listed, listing, listing_exit, no_memory, preparing, report_cut, reported, reported_junit, selecting, stopped, taken, tested}
 pub use Rattle.kt_cli.specs.MemoryRuns.{LeavesInMemory, memory_runs}
 pub use Rattle.kt_cli.specs.Pages.{Printed}
-pub use Rattle.kt_cli.specs.Performing.{DoneBy, DoneIn, DoneOver, NoDriver, NoRoot, Program, State, alone, closed, done, no_driver, no_place, no_world, none_made, not_absolute, not_opened, program, state}
+pub use Rattle.kt_cli.specs.Performing.{DoneBy, DoneIn, DoneOver, NoDriver, NoRoot, Program, State, alone, closed, done, no_driver, no_surroundings, no_world, none_made, not_absolute, not_opened, program, state}
 pub use Rattle.kt_cli.specs.Recordings.{AllRecorded, IsStopped}
 pub use Rattle.kt_cli.specs.Reports.{JunitCut, Reported, ReportedJunit, Unread, asked_outputs, chosen, filled, no_outputs, no_run, run_of, told}
-pub use Rattle.kt_cli.specs.Scenes.{Scene, World, launcher_of, scene, world_of}
-pub use Rattle.kt_cli.specs.SoundStores.{Comes, Left, ReadsOutputs, begun, finished, not_called, shown, with_new}
+pub use Rattle.kt_cli.specs.Scenes.{Scene, World, launcher_of, scene, with_store, with_world, world_of}
+pub use Rattle.kt_cli.specs.SoundStores.{Left, with_new}
 pub use Rattle.kt_cli.specs.Stores.{Agree, Stored, beside, beside_by, by_position, changed, put_among, puts}
-pub use Rattle.kt_cli.specs.Testing.{PlannedRun, TestCut, Tested, begins, exit_of, none_idle, not_begun, not_finished, not_put, not_run, planned_run, results, results_exit, run_for}
+pub use Rattle.kt_cli.specs.Testing.{PlannedRun, TestCut, Tested, begins, exit_of, not_begun, not_finished, not_put, not_run, results, results_exit, run_for}
 pub use Rattle.kt_cli.specs.Totals.{bad_count, good_count, lines}
 pub use Rattle.kt_cli.specs.Warnings.{warning_at, warnings}
 pub use Rattle.kt_cli.specs.declared.commands.report_stop.JunitStop.TheVariants.{Refused, Report}

@@ -1,6 +1,6 @@
 -- A command of the program over its own store.
 use Rattle.std.proofs.Common.{Result, Ok, Err, IfOk, IfErr, IsErrAnd, Bool, Option, Some, None, ◌≡◌, ℕ, List, [], refl, subst, sym}
-use Rattle.kt_cli.proofs.Common.{Kind, Run, Command, ReportOptions, no_world, JunitOrUnread, DidReport, memory_runs, Printed, alone, DoneBy, DoneIn, DoneOver, Program, State, Reported, ReportedJunit, Unread}
+use Rattle.kt_cli.proofs.Common.{Kind, Run, Command, ReportOptions, no_world, JunitOrUnread, DidReport, memory_runs, Printed, alone, DoneBy, DoneIn, DoneOver, Program, State, Scene, scene, with_store, Reported, ReportedJunit, Unread}
 use Rattle.std.specs.IoError.{error_kind}
 use Rattle.std.specs.declared.io.Error.{Error}
 use Rattle.std.specs.declared.io.ErrorKind.TheVariants.{OutOfMemory}
@@ -11,7 +11,7 @@ use Rattle.kt_store.specs.declared.access.Access.{Access}
 use Rattle.kt_store.specs.declared.store_fault.StoreFault.{StoreFault}
 use Rattle.kt_cli.specs.CommandLines.{IsSaid}
 use Rattle.kt_cli.specs.LineOutputs.{LineState}
-use Rattle.kt_cli.specs.Performing.{CarriedOut}
+use Rattle.kt_cli.specs.Performing.{CarriedOut, Streams}
 use Rattle.kt_cli.specs.Platforms.{Opened}
 use Rattle.kt_words.specs.declared.command.Command.TheVariants as command
 use Rattle.kt_cli.proofs.Testings.{did_report, did_junit}
@@ -32,30 +32,29 @@ pub opened_for : {M O P S : Type 0} (p : Program M O P S) (old new : P) (file : 
 opened_for p old new file answer a b e h = subst (λ (x : Access). p.platform.provides old (Opened file x answer) new) e h
 
 -- what was given to standard output before is the same, however it is handed on
-pub given_before : {M O P S : Type 0} (p : Program M O P S) (command : Result Command CommandFault) (old new : State M O P) (mid was : Option (List ℕ)) (now : LineState) (errors_was errors_now : Option (List ℕ))
-    (exit : ℕ) → mid ≡ was → CarriedOut p command old new mid now errors_was errors_now exit → CarriedOut p command old new was now errors_was errors_now exit
-given_before p command old new mid was now errors_was errors_now exit e h =
-    subst (λ (x : Option (List ℕ)). CarriedOut p command old new x now errors_was errors_now exit) e h
+pub given_before : {M O P S : Type 0} (p : Program M O P S) (command : Result Command CommandFault) (old new : State M O P) (mid was : LineState) (errors : Option (List ℕ)) (now : Streams) (exit : ℕ) → mid ≡ was
+    → CarriedOut p command old new (record { out = mid; errors = errors }) now exit → CarriedOut p command old new (record { out = was; errors = errors }) now exit
+given_before p command old new mid was errors now exit e h = subst (λ (x : LineState). CarriedOut p command old new (record { out = x; errors = errors }) now exit) e h
 
-module _ {M O P S : Type 0} (p : Program M O P S) (c : Command) (old : State M O P) where
-  module _ {R : Type 0} (keep : keeping.Ghosts R) (store after : R) (was now : Option (List ℕ)) (exit : ℕ) (options : ReportOptions) where
+module _ {M O P S : Type 0} (p : Program M O P S) (c : Command) where
+  module _ {R : Type 0} (keep : keeping.Ghosts R) (world : State M O P) (store after : R) (was now : Option (List ℕ)) (exit : ℕ) (options : ReportOptions) where
     -- a report
     pub over_report : (kinds : List Kind) (verbose : Bool) → c ≡ command.Report options kinds verbose
-        → DidReport keep store after was now exit (Reported options.run kinds verbose) (Unread options.run verbose) → DoneOver p keep c old old store after was now exit
+        → DidReport keep store after was now exit (Reported options.run kinds verbose) (Unread options.run verbose) → DoneOver p keep c (scene world store was) (scene world after now) exit
     over_report kinds verbose e d =
-        subst (λ (x : Command). DoneOver p keep x old old store after was now exit) (sym e) (alone refl refl (did_report no_world keep tt store after was now exit options kinds verbose d))
+        subst (λ (x : Command). DoneOver p keep x (scene world store was) (scene world after now) exit) (sym e) (alone refl refl (did_report no_world keep tt store after was now exit options kinds verbose d))
 
     -- a JUnit report
-    pub over_junit : c ≡ command.ReportJunit options → DidReport keep store after was now exit (ReportedJunit options.run) (JunitOrUnread options.run) → DoneOver p keep c old old store after was now exit
-    over_junit e d = subst (λ (x : Command). DoneOver p keep x old old store after was now exit) (sym e) (alone refl refl (did_junit no_world keep tt store after was now exit options d))
+    pub over_junit : c ≡ command.ReportJunit options → DidReport keep store after was now exit (ReportedJunit options.run) (JunitOrUnread options.run) → DoneOver p keep c (scene world store was) (scene world after now) exit
+    over_junit e d = subst (λ (x : Command). DoneOver p keep x (scene world store was) (scene world after now) exit) (sym e) (alone refl refl (did_junit no_world keep tt store after was now exit options d))
 
-  module _ (new : State M O P) (was now : Option (List ℕ)) (exit : ℕ) where
+  module _ (old new : Scene (State M O P) (Unit {0})) (exit : ℕ) where
     -- a command that has a file
-    pub by_file : (file : List ℕ) (results : Option (List ℕ)) → Some file ≡ results → DoneIn p c file old new was now exit → DoneBy p c results old new was now exit
-    by_file file results e d = subst (λ (k : Option (List ℕ)). DoneBy p c k old new was now exit) e d
+    pub by_file : (file : List ℕ) (results : Option (List ℕ)) → Some file ≡ results → DoneIn p c file old new exit → DoneBy p c results old new exit
+    by_file file results e d = subst (λ (k : Option (List ℕ)). DoneBy p c k old new exit) e d
 
     -- a command that has none
-    pub by_memory : (results : Option (List ℕ)) (store after : List Run) → None ≡ results → store ≡ [] → DoneOver p memory_runs c old new store after was now exit → DoneBy p c results old new was now exit
+    pub by_memory : (results : Option (List ℕ)) (store after : List Run) → None ≡ results → store ≡ [] → DoneOver p memory_runs c (with_store store old) (with_store after new) exit → DoneBy p c results old new exit
     by_memory results store after e f d =
-        subst (λ (k : Option (List ℕ)). DoneBy p c k old new was now exit) e
-        (after, subst (λ (s : List Run). DoneOver p memory_runs c old new s after was now exit) f d)
+        subst (λ (k : Option (List ℕ)). DoneBy p c k old new exit) e
+        (after, subst (λ (s : List Run). DoneOver p memory_runs c (with_store s old) (with_store after new) exit) f d)

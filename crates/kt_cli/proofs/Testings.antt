@@ -1,7 +1,6 @@
 -- A command over a world and a store.
-use Rattle.std.proofs.Common.{Option, Some, Result, Ok, Err, Bool, true, false, length, take, ◌≤◌, ◌==◌, if◌then◌else◌, flat_map, ◌≡◌, ℕ, List, [], ◌∷◌, ◌++◌, refl, sym, ap, ◌∙◌, subst, ◌⊎◌, inl, inr}
-use Rattle.kt_cli.proofs.Common.{utf8, Kind, IsIdle, Job, StoreCall, Chain, Candidate, Command, ReportOptions, Entry, RunFault, NoMemory, SinkFailed, Totals, NoEvent, cases_of, needs_case, Debugged, all_debug_bytes, debug_exit, memory_line, run_line, Seen, Course, listing, listing_exit, IsPrepared, IsAskedOnly, IsUnasked, Means, stopped, listed, tested, debugged, idle, reported, reported_junit, taken, AsksFirst, selecting, preparing, CutShort, no_memory, cut, report_cut, junit_cut, Did, Says, Printed, Question, leads_by, of_host, JunitOrUnread, DidReport, Reported, ReportedJunit, Unread, Scene, scene, World, launcher_of, Shows, case_line, RanPlan, none_idle, PlannedRun, planned_run, run_for, warnings, chain-append, exit_of}
-use Rattle.std.specs.Prelude.{◌&&◌}
+use Rattle.std.proofs.Common.{Option, Some, Result, Ok, Err, Bool, true, false, length, take, ◌≤◌, ◌==◌, if◌then◌else◌, ◌≡◌, ℕ, List, [], ◌∷◌, ◌++◌, refl, sym, ap, ◌∙◌, subst, ◌⊎◌, inl, inr}
+use Rattle.kt_cli.proofs.Common.{utf8, Kind, IsIdle, Job, StoreCall, Chain, Candidate, Command, ReportOptions, Entry, RunFault, NoMemory, SinkFailed, Totals, NoEvent, cases_of, needs_case, Debugged, all_debug_bytes, debug_exit, memory_line, run_line, Seen, Course, listing, listing_exit, IsPrepared, IsAskedOnly, IsUnasked, Means, stopped, listed, tested, debugged, idle, reported, reported_junit, taken, AsksFirst, selecting, preparing, CutShort, no_memory, cut, report_cut, junit_cut, Did, Says, Printed, Question, leads_by, of_host, JunitOrUnread, DidReport, Reported, ReportedJunit, Unread, Scene, scene, World, launcher_of, Shows, RanPlan, run_for, warnings, chain-append}
 use Rattle.kt_base.specs.declared.child.Role.{Role}
 use Rattle.kt_metadata.specs.declared.host.Host.{Host}
 use Rattle.kt_suite.specs.Answers.{Answered}
@@ -9,8 +8,8 @@ use Rattle.kt_suite.specs.Selecting.{most_items}
 use Rattle.kt_words.specs.declared.options.CaseOptions.{CaseOptions}
 use Rattle.kt_plan.specs.declared.cases.Picked.{Picked}
 use Rattle.kt_plan.specs.declared.stop.Stop.{Stop}
-use Rattle.kt_plan.specs.Selecting.{Selects, SelectsFirst, SelectsOrShort}
-use Rattle.kt_cli.specs.Inner.Meaning.{asked_only, ToldOnly}
+use Rattle.kt_plan.specs.Selecting.{Selects, SelectsOrShort}
+use Rattle.kt_cli.specs.Inner.Meaning.{HasSelected, asked_only, ToldOnly}
 use Rattle.kt_plan.specs.Planning.{Surveys, SurveysFirst, ArePlanned}
 use Rattle.kt_plan.proofs.LookLaws.{all_surveyed}
 use Rattle.kt_cli.specs.StopLines.{stop_line, stop_exit}
@@ -27,20 +26,9 @@ pub debugged_as : {L : Type 0} (l : launcher.Ghosts L) (plan : List Job) (old ne
     → Debugged l plan old new was now failed answer → Debugged l plan old new was now failed other
 debugged_as l plan old new was now failed answer other e d = subst (λ (x : Result Totals RunFault). Debugged l plan old new was now failed x) e d
 
--- a listing was printed, and its warnings
-pub printed_listing : (options : CaseOptions) (picked : Picked) (cases : List Candidate) (words : List (List ℕ)) (unmatched : List ℕ) (was now : Option (List ℕ)) (f : Bool) (exit due : ℕ)
-    → cases ≡ picked.chosen.cases → words ≡ options.filters → unmatched ≡ picked.chosen.unmatched
-    → Shows was now f (utf8 (flat_map case_line cases) ++ utf8 (warnings words unmatched)) → due ≡ (if none_idle unmatched then 0 else 1) → exit ≡ (if f then 2 else due)
-    → Printed was now exit (listing options.filters picked.chosen) (listing_exit picked.chosen)
-printed_listing options picked cases words unmatched was now f exit due a b d s k e =
-    subst (λ (xs : List Candidate). Printed was now exit (utf8 (flat_map case_line xs) ++ utf8 (warnings options.filters picked.chosen.unmatched)) (listing_exit picked.chosen)) a
-    (subst (λ (xs : List (List ℕ)). Printed was now exit (utf8 (flat_map case_line cases) ++ utf8 (warnings xs picked.chosen.unmatched)) (listing_exit picked.chosen)) b
-    (subst (λ (xs : List ℕ). Printed was now exit (utf8 (flat_map case_line cases) ++ utf8 (warnings words xs)) (if none_idle xs then 0 else 1)) d
-    (record { failed = f; shows = s; exits = e ∙ ap (λ (x : ℕ). if f then 2 else x) k })))
-
--- that memory ran out was printed
-pub printed_memory : (was now : Option (List ℕ)) (f : Bool) (exit : ℕ) → Shows was now f (utf8 memory_line) → exit ≡ (if f then 2 else 2) → Printed was now exit (utf8 memory_line) 2
-printed_memory was now f exit s e = record { failed = f; shows = s; exits = e }
+-- bytes were printed, and the exit is the one that was due
+pub printed_as : (was now : Option (List ℕ)) (f : Bool) (exit due : ℕ) (bytes : List ℕ) (own : ℕ) → Shows was now f bytes → due ≡ own → exit ≡ (if f then 2 else due) → Printed was now exit bytes own
+printed_as was now f exit due bytes own s k e = record { failed = f; shows = s; exits = e ∙ ap (λ (x : ℕ). if f then 2 else x) k }
 
 -- a plan is no longer than its cases
 pub plan_few : (cases given : List Candidate) (plan : List Job) → given ≡ cases → length plan ≡ length given → length cases ≤ most_items → length plan ≤ most_items
@@ -64,21 +52,19 @@ module _ {W : Type 0} (w : World W) where
   only_asked : (questions : List Question) → IsAskedOnly (asked_only questions)
   only_asked questions = record { trace = refl; calls = refl }
 
-  stop_means : (c : Command) (options : CaseOptions) (needed : Bool) (questions : List Question) (fault : Stop) → cases_of c ≡ Some options → needs_case c ≡ needed
-      → SelectsOrShort needed options questions (Err fault)
+  stop_means : (c : Command) (options : CaseOptions) (questions : List Question) (fault : Stop) → cases_of c ≡ Some options → SelectsOrShort (needs_case c) options questions (Err fault)
       → Means (asked_only questions) c (utf8 (stop_line fault)) (stop_exit fault) ⊎ CutShort (asked_only questions) c (utf8 (stop_line fault)) (stop_exit fault)
-  stop_means c options needed questions fault e n (inl s) =
+  stop_means c options questions fault e (inl s) =
       inr (subst (λ (x : Stop). CutShort (asked_only questions) c (utf8 (stop_line x)) (stop_exit x)) (sym s.0.1)
-      (no_memory c options e (selecting questions (subst (λ (x : Bool). SelectsFirst x options questions) (sym n) s.1)) (only_asked questions)))
-  stop_means c options needed questions fault e n (inr s) =
-      inl (stopped c options fault e (subst (λ (x : Bool). Selects x options questions (Err fault)) (sym n) s) (only_asked questions))
+      (no_memory c options e (selecting questions s.1) (only_asked questions)))
+  stop_means c options questions fault e (inr s) = inl (stopped c options fault e s (only_asked questions))
 
   -- a fault of the steps ended the command
-  pub stopped_only : (c : Command) (options : CaseOptions) (needed : Bool) (old new : W) (was now : Option (List ℕ)) (exit : ℕ) (fault : Stop) → cases_of c ≡ Some options → needs_case c ≡ needed
-      → Answered (leads_by w.asks w.tells) old new (λ questions. SelectsOrShort needed options questions (Err fault))
+  pub stopped_only : (c : Command) (options : CaseOptions) (old new : W) (was now : Option (List ℕ)) (exit : ℕ) (fault : Stop) → cases_of c ≡ Some options
+      → Answered (leads_by w.asks w.tells) old new (λ questions. SelectsOrShort (needs_case c) options questions (Err fault))
       → Printed was now exit (utf8 (stop_line fault)) (stop_exit fault) → ToldOnly w c old new was now exit
-  stopped_only c options needed old new was now exit fault e n a p =
-      told_only c old new was now exit a.asked (utf8 (stop_line fault)) (stop_exit fault) a.chain (stop_means c options needed a.asked fault e n a.holds) p
+  stopped_only c options old new was now exit fault e a p =
+      told_only c old new was now exit a.asked (utf8 (stop_line fault)) (stop_exit fault) a.chain (stop_means c options a.asked fault e a.holds) p
 
   picked_is : (needed : Bool) (options : CaseOptions) (questions : List Question) (picked : Picked) → SelectsOrShort needed options questions (Ok picked) → Selects needed options questions (Ok picked)
   picked_is needed options questions picked (inl s) = absurd s.0
@@ -99,12 +85,12 @@ module _ {W : Type 0} (w : World W) where
       preparing questions picked told (picked_is needed options questions picked a) (subst (λ (cs : List Candidate). SurveysFirst cs told) same s)
 
   -- memory ran out before a plan was made
-  pub short_only : (c : Command) (options : CaseOptions) (needed : Bool) (old mid new : W) (was now : Option (List ℕ)) (exit : ℕ) (picked : Picked) (cases : List Candidate) → cases_of c ≡ Some options → needs_case c ≡ needed
-      → Answered (leads_by w.asks w.tells) old mid (λ questions. SelectsOrShort needed options questions (Ok picked)) → cases ≡ taken needed picked.chosen.cases → Answered w.tells mid new (λ told. SurveysFirst cases told)
+  pub short_only : (c : Command) (options : CaseOptions) (old mid new : W) (was now : Option (List ℕ)) (exit : ℕ) (picked : Picked) (cases : List Candidate) → cases_of c ≡ Some options
+      → HasSelected w c options old picked mid → cases ≡ taken (needs_case c) picked.chosen.cases → Answered w.tells mid new (λ told. SurveysFirst cases told)
       → Printed was now exit (utf8 memory_line) 2 → ToldOnly w c old new was now exit
-  short_only c options needed old mid new was now exit picked cases e n a same b p =
+  short_only c options old mid new was now exit picked cases e a same b p =
       told_only c old new was now exit (a.asked ++ of_host b.asked) (utf8 memory_line) 2 (chain-append (leads_by w.asks w.tells) a.asked (of_host b.asked) old mid new a.chain (chain_of_host w.asks w.tells b.asked mid new b.chain))
-      (inr (no_memory c options e (subst (λ (x : Bool). AsksFirst x options (a.asked ++ of_host b.asked)) (sym n) (prepared_first needed options a.asked b.asked picked cases a.holds same b.holds)) (only_asked (a.asked ++ of_host b.asked)))) p
+      (inr (no_memory c options e (prepared_first (needs_case c) options a.asked b.asked picked cases a.holds same b.holds) (only_asked (a.asked ++ of_host b.asked)))) p
 
   -- no case was selected for `debug`
   pub idle_only : (options : CaseOptions) (old new : W) (was now : Option (List ℕ)) (exit : ℕ) (picked : Picked)
@@ -114,65 +100,39 @@ module _ {W : Type 0} (w : World W) where
       told_only (command.Debug options) old new was now exit a.asked (utf8 (warnings options.filters picked.chosen.unmatched)) 1 a.chain
       (inl (idle options picked (picked_is true options a.asked picked a.holds) n (only_asked a.asked))) p
 
-  -- the same by parts of what was selected
-  pub idle_answer : (options : CaseOptions) (old new : W) (was now : Option (List ℕ)) (exit : ℕ) (f : Bool) (picked : Picked) (cases : List Candidate) (words : List (List ℕ)) (unmatched : List ℕ)
-      → Answered (leads_by w.asks w.tells) old new (λ questions. SelectsOrShort true options questions (Ok picked)) → cases ≡ picked.chosen.cases → cases ≡ []
-      → words ≡ options.filters → unmatched ≡ picked.chosen.unmatched → Shows was now f (utf8 (warnings words unmatched)) → exit ≡ (if f then 2 else 1)
-      → ToldOnly w (command.Debug options) old new was now exit
-  idle_answer options old new was now exit f picked cases words unmatched a x n b d s e =
-      idle_only options old new was now exit picked a (sym x ∙ n)
-      (record {
-        failed = f;
-        shows = subst (λ (ws : List (List ℕ)). Shows was now f (utf8 (warnings ws picked.chosen.unmatched))) b (subst (λ (us : List ℕ). Shows was now f (utf8 (warnings words us))) d s);
-        exits = e;
-      })
-
   -- what the host was asked for some cases, and their plan
   abbrev pub Prepares : Picked → List Candidate → List Job → List Told → Type 0
   Prepares picked cases plan told = (host : Host) × Surveys cases told host × ArePlanned picked.settings.config host 0 cases plan
 
   -- one case was run for `debug`
-  pub debug_only : (options : CaseOptions) (old mid begun new : W) (was now : Option (List ℕ)) (exit : ℕ) (picked : Picked) (first : Candidate) (others : List Candidate) (plan : List Job) (failed : Bool) (totals : Totals)
-      → Answered (leads_by w.asks w.tells) old mid (λ questions. SelectsOrShort true options questions (Ok picked)) → picked.chosen.cases ≡ first ∷ others
-      → Answered w.tells mid begun (Prepares picked (first ∷ []) plan)
-      → Debugged (launcher_of w) plan begun new was now failed (Ok totals) → exit ≡ (if failed then 2 else (if totals.bad == 0 then 0 else 1))
-      → ToldOnly w (command.Debug options) old new was now exit
-  debug_only options old mid begun new was now exit picked first others plan failed totals a n b d e = record {
-    seen = record { questions = a.asked ++ (of_host b.asked ++ []); plan = plan; trace = d.trace; calls = [] };
-    course = record {
-      begun = begun;
-      asked = chain-append (leads_by w.asks w.tells) a.asked (of_host b.asked ++ []) old mid begun a.chain (chain-append (leads_by w.asks w.tells) (of_host b.asked) [] mid begun begun (chain_of_host w.asks w.tells b.asked mid begun b.chain) refl);
-      ran = d.leads;
-    };
-    uncalled = refl;
-    bytes = all_debug_bytes d.entries;
-    due = debug_exit d.entries;
-    is = inl (debugged options picked first others d.entries n (record {
-      before = a.asked;
-      selects = picked_is true options a.asked picked a.holds;
-      told = b.asked;
-      host = b.holds.0;
-      surveys = b.holds.1;
-      asked = refl;
-      planned = b.holds.2;
-    }) d.ends.0 refl);
-    printed = record { failed = failed; shows = d.says.more; exits = e ∙ ap (λ (x : ℕ). if failed then 2 else (if x == 0 then 0 else 1)) d.ends.1.bad };
-  }
-
-  -- no filter is left without a case where one case was selected
-  exit_alone : (b : Bool) → ◌≡◌ {A = ℕ} (if b && none_idle [] then 0 else 1) (if b then 0 else 1)
-  exit_alone true = refl
-  exit_alone false = refl
-
-  -- the same by parts of what was selected
-  pub debug_parts : (options : CaseOptions) (old mid begun new : W) (was now : Option (List ℕ)) (exit : ℕ) (picked : Picked) (first : Candidate) (others cases some : List Candidate) (plan : List Job) (failed : Bool) (totals : Totals) (due : ℕ)
-      → Answered (leads_by w.asks w.tells) old mid (λ questions. SelectsOrShort true options questions (Ok picked)) → cases ≡ picked.chosen.cases → cases ≡ first ∷ others → some ≡ take 1 cases
+  pub debug_only : (options : CaseOptions) (old mid begun new : W) (was now : Option (List ℕ)) (exit : ℕ) (picked : Picked) (first : Candidate) (others cases some : List Candidate) (plan : List Job) (failed : Bool) (totals : Totals) (due : ℕ)
+      → HasSelected w (command.Debug options) options old picked mid → cases ≡ picked.chosen.cases → cases ≡ first ∷ others → some ≡ take 1 cases
       → Answered w.tells mid begun (Prepares picked some plan)
-      → Debugged (launcher_of w) plan begun new was now failed (Ok totals) → due ≡ exit_of totals.bad [] → exit ≡ (if failed then 2 else due)
+      → Debugged (launcher_of w) plan begun new was now failed (Ok totals) → due ≡ (if totals.bad == 0 then 0 else 1) → exit ≡ (if failed then 2 else due)
       → ToldOnly w (command.Debug options) old new was now exit
-  debug_parts options old mid begun new was now exit picked first others cases some plan failed totals due a x n s b d k e =
-      debug_only options old mid begun new was now exit picked first others plan failed totals a (sym x ∙ n)
-      (subst (λ (xs : List Candidate). Answered w.tells mid begun (Prepares picked xs plan)) (s ∙ ap (λ (xs : List Candidate). take 1 xs) n) b) d (e ∙ ap (λ (y : ℕ). if failed then 2 else y) (k ∙ exit_alone (totals.bad == 0)))
+  debug_only options old mid begun new was now exit picked first others cases some plan failed totals due a x n s b d k e =
+      let one : Answered w.tells mid begun (Prepares picked (first ∷ []) plan) = subst (λ (xs : List Candidate). Answered w.tells mid begun (Prepares picked xs plan)) (s ∙ ap (λ (xs : List Candidate). take 1 xs) n) b in
+      record {
+        seen = record { questions = a.asked ++ (of_host one.asked ++ []); plan = plan; trace = d.trace; calls = [] };
+        course = record {
+          begun = begun;
+          asked = chain-append (leads_by w.asks w.tells) a.asked (of_host one.asked ++ []) old mid begun a.chain (chain-append (leads_by w.asks w.tells) (of_host one.asked) [] mid begun begun (chain_of_host w.asks w.tells one.asked mid begun one.chain) refl);
+          ran = d.leads;
+        };
+        uncalled = refl;
+        bytes = all_debug_bytes d.entries;
+        due = debug_exit d.entries;
+        is = inl (debugged options picked first others d.entries (sym x ∙ n) (record {
+          before = a.asked;
+          selects = picked_is true options a.asked picked a.holds;
+          told = one.asked;
+          host = one.holds.0;
+          surveys = one.holds.1;
+          asked = refl;
+          planned = one.holds.2;
+        }) d.ends.0 refl);
+        printed = record { failed = failed; shows = d.says.more; exits = e ∙ ap (λ (y : ℕ). if failed then 2 else y) (k ∙ ap (λ (y : ℕ). if y == 0 then 0 else 1) d.ends.1.bad) };
+      }
 
   -- memory ran out before the case was started
   pub debug_short : (options : CaseOptions) (old mid begun new : W) (was between now : Option (List ℕ)) (exit : ℕ) (picked : Picked) (some : List Candidate) (plan : List Job) (f g : Bool) (fault : RunFault)
@@ -206,11 +166,12 @@ module _ {W : Type 0} (w : World W) where
     }
 
     -- a plan was run
-    pub did_test : (old new : Scene W R) (options : CaseOptions) (file : List ℕ) (mid asked begun : W) (picked : Picked) (plan : List Job) (moment exit : ℕ)
-        → Answered (leads_by w.asks w.tells) old.world mid (λ questions. SelectsOrShort false options questions (Ok picked))
-        → Answered w.tells mid asked (Prepares picked picked.chosen.cases plan) → w.tells asked (Now moment) begun
+    pub did_test : (old new : Scene W R) (options : CaseOptions) (file : List ℕ) (mid asked begun : W) (picked : Picked) (cases : List Candidate) (plan : List Job) (moment exit : ℕ)
+        → HasSelected w (command.Test options file) options old.world picked mid → cases ≡ picked.chosen.cases
+        → Answered w.tells mid asked (Prepares picked cases plan) → w.tells asked (Now moment) begun
         → RanPlan (launcher_of w) keep (run_for plan options picked moment) (scene begun old.store old.held) new exit → Did w keep (command.Test options file) old new exit
-    did_test old new options file mid asked begun picked plan moment exit a b t r =
+    did_test old new options file mid asked begun picked cases plan moment exit a same parts t r =
+        let b : Answered w.tells mid asked (Prepares picked picked.chosen.cases plan) = subst (λ (xs : List Candidate). Answered w.tells mid asked (Prepares picked xs plan)) same parts in
         let seen : Seen = record { questions = a.asked ++ (of_host b.asked ++ of_host (Now moment ∷ [])); plan = plan; trace = r.trace; calls = r.calls } in
         let prepared : IsPrepared false options seen picked picked.chosen.cases (Now moment ∷ []) = record {
           before = a.asked;
@@ -235,18 +196,6 @@ module _ {W : Type 0} (w : World W) where
           is = elim r.is [ inl x ↦ inl (tested options file picked moment r.bytes r.due prepared x) | inr x ↦ inr (cut options file picked moment r.bytes r.due prepared x) ];
           printed = r.printed;
         }
-
-    -- the same by parts of what was selected
-    pub did_test_parts : (old new : Scene W R) (options : CaseOptions) (file : List ℕ) (mid asked begun : W) (picked : Picked) (plan : List Job) (moment exit width : ℕ) (cases : List Candidate) (words : List (List ℕ)) (unmatched : List ℕ)
-        → cases ≡ picked.chosen.cases → words ≡ options.filters → unmatched ≡ picked.chosen.unmatched → width ≡ picked.settings.config.parallelism
-        → Answered (leads_by w.asks w.tells) old.world mid (λ questions. SelectsOrShort false options questions (Ok picked))
-        → Answered w.tells mid asked (Prepares picked cases plan) → w.tells asked (Now moment) begun
-        → RanPlan (launcher_of w) keep (planned_run plan width words unmatched moment) (scene begun old.store old.held) new exit
-        → Did w keep (command.Test options file) old new exit
-    did_test_parts old new options file mid asked begun picked plan moment exit width cases words unmatched x y z v a b t r =
-        let same : ◌≡◌ {A = PlannedRun} (planned_run plan width words unmatched moment) (run_for plan options picked moment) = rw (y, z, v) refl in
-        did_test old new options file mid asked begun picked plan moment exit a (subst (λ (xs : List Candidate). Answered w.tells mid asked (Prepares picked xs plan)) x b) t
-        (subst (λ (p : PlannedRun). RanPlan (launcher_of w) keep p (scene begun old.store old.held) new exit) same r)
 
     -- nothing was asked
     abbrev called_only : List StoreCall → Seen

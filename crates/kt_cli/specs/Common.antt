@@ -39,17 +39,17 @@ pub use Rattle.kt_cli.specs.Inner.Shown.{IsMissing, ReadsRun, not_shown_line}
 pub use Rattle.kt_cli.specs.Inner.Testing.{RanPlan}
 pub use Rattle.kt_cli.specs.LineOutputs.{HandedOn, given_bytes, has_failed, is_broken, line_state, unflushed, unwritten}
 pub use Rattle.kt_cli.specs.Machines.{longest_path, read_limit}
-pub use Rattle.kt_cli.specs.Meaning.{CutShort, Did, Means, Seen}
+pub use Rattle.kt_cli.specs.Meaning.{Did, listing}
 pub use Rattle.kt_cli.specs.Pages.{Printed}
 pub use Rattle.kt_cli.specs.Performing.{CarriedOut, DoneIn, DoneOver, Flushed, IsMade, NoDriver, NoRoot, OnDriver, Performed, Rejected, access_of, program, state}
 pub use Rattle.kt_cli.specs.Places.{absolute, source_directory}
 pub use Rattle.kt_cli.specs.Refused.{Refused, command_exit, command_text, driver_line, failure_exit}
 pub use Rattle.kt_cli.specs.Reports.{Reported, ReportedJunit, Unread, chosen}
-pub use Rattle.kt_cli.specs.Scenes.{scene}
+pub use Rattle.kt_cli.specs.Scenes.{Scene, scene}
 pub use Rattle.kt_cli.specs.Sequences.{DidAll}
 pub use Rattle.kt_cli.specs.SoundStores.{Left}
 pub use Rattle.kt_cli.specs.StopLines.{stop_exit, stop_line}
 pub use Rattle.kt_cli.specs.Stores.{Stored}
-pub use Rattle.kt_cli.specs.Testing.{ending, planned_run}
+pub use Rattle.kt_cli.specs.Testing.{ending, run_for}
 pub use Rattle.kt_cli.specs.Totals.{totals_text}
 pub use Rattle.kt_cli.specs.Warnings.{warning_at, warning_line, warnings}

@@ -8,10 +8,10 @@ use Rattle.kt_cli.specs.Totals.{bad_count}
 abbrev pub debug_bytes : Entry → List ℕ
 debug_bytes entry = entry.body.out ++ entry.body.err ++ entry.cleanup.out ++ entry.cleanup.err ++ line_bytes entry
 
--- the same of several cases
+-- what several cases wrote, each with its line
 abbrev pub all_debug_bytes : List Entry → List ℕ
 all_debug_bytes entries = flat_map debug_bytes entries
 
--- 0 where nothing is bad
+-- 0 if no entry is bad
 abbrev pub debug_exit : List Entry → ℕ
 debug_exit entries = if bad_count entries == 0 then 0 else 1

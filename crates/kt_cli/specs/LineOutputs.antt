@@ -24,14 +24,14 @@ is_broken l = has_failed l || is_some (unflushed l)
 abbrev pub given_bytes : {W : Type 0} → (W → Option (List ℕ)) → LineOutput W → Option (List ℕ)
 given_bytes contents l = append_known (contents l.out) (unwritten l)
 
--- what such a writer is left with: the bytes that it was given, those that are not written, whether a write failed, and why its own flush did
+-- what a buffered writer is left with: the bytes that it was given, those that are not written, whether a write failed, and why its own flush did
 pub record LineState : Type 0 where
   pub given : Option (List ℕ)
   pub unwritten : List ℕ
   pub failed : Bool
   pub unflushed : Option FlushFault
 
--- the same of a writer
+-- what a writer is left with
 abbrev pub line_state : {W : Type 0} → (W → Option (List ℕ)) → LineOutput W → LineState
 line_state contents l = record { given = given_bytes contents l; unwritten = unwritten l; failed = has_failed l; unflushed = unflushed l }
 

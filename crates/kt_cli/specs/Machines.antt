@@ -48,17 +48,17 @@ module _ {M : Type 0} (answers : M → MachineAnswer → M → Type 0) where
     further : (directory : List ℕ) (others : List (List ℕ)) (answer : Bool) (old mid new : M) → InDirectory name directory false old mid → Searched name others answer mid new
         → Searched name (directory ∷ others) answer old new
 
-  -- a program without an absolute path is looked for by a name without a slash, where `PATH` is set
+  -- a program without an absolute path is looked for by a name without a slash, if `PATH` is set
   abbrev pub IsNamed : Bool → Option (List ℕ) → List ℕ → Bool → M → M → Type 0
   IsNamed false (Some path) name answer old new = Searched (utf8 name) (directories (utf8 path)) answer old new
   IsNamed false None name answer old new = (answer ≡ false) × (new ≡ old)
   IsNamed true path name answer old new = (answer ≡ false) × (new ≡ old)
 
-  -- the same, or it is asked for at its absolute path
+  -- a program is asked for at its absolute path, or else looked for by its name
   abbrev pub IsSoughtAs : Bool → Option (List ℕ) → List ℕ → Bool → M → M → Type 0
   IsSoughtAs true path name answer old new = answers old (IsProgram (utf8 name) answer) new
   IsSoughtAs false path name answer old new = IsNamed (list_any is_slash name) path name answer old new
 
-  -- a program is looked for: at its absolute path, or by its name
+  -- where a program is looked for: a path that begins with a slash is absolute
   abbrev pub IsSought : Option (List ℕ) → List ℕ → Bool → M → M → Type 0
   IsSought path name answer old new = IsSoughtAs (is_absolute name) path name answer old new

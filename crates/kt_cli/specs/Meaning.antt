@@ -30,7 +30,7 @@ use Rattle.kt_cli.specs.Reports.{Reported, ReportedJunit, Unread, JunitCut}
 use Rattle.kt_cli.specs.Scenes.{Scene, World}
 use Rattle.kt_cli.specs.StopLines.{stop_line, stop_exit}
 use Rattle.kt_cli.specs.Stores.{Stored}
-use Rattle.kt_cli.specs.Testing.{none_idle, run_for, Tested, TestCut}
+use Rattle.kt_cli.specs.Testing.{all_matched, run_for, Tested, TestCut}
 use Rattle.kt_plan.specs.Told.{Told, Now}
 use Rattle.kt_cli.specs.Warnings.{warnings}
 
@@ -52,9 +52,9 @@ pub record Course {W : Type 0} (w : World W) (seen : Seen) (old new : W) : Type 
 abbrev pub listing : List (List ℕ) → Chosen → List ℕ
 listing words chosen = utf8 (flat_map case_line chosen.cases) ++ utf8 (warnings words chosen.unmatched)
 
--- 0 where each filter selects a case
+-- 0 if each filter selects a case
 abbrev pub listing_exit : Chosen → ℕ
-listing_exit chosen = if none_idle chosen.unmatched then 0 else 1
+listing_exit chosen = if all_matched chosen.unmatched then 0 else 1
 
 -- these cases were selected, the host was asked for what they require, and then these questions; the plan is theirs
 pub record IsPrepared (needed : Bool) (options : CaseOptions) (seen : Seen) (picked : Picked) (cases : List Candidate) (last : List Told) : Type 0 where
@@ -95,18 +95,18 @@ pub data Means (seen : Seen) : Command → List ℕ → ℕ → Type 0 where
   reported_junit : (options : ReportOptions) (bytes : List ℕ) (exit : ℕ) → IsUnasked seen → ReportedJunit options.run seen.calls bytes exit
       → Means seen (command.ReportJunit options) bytes exit
 
--- the cases that a command runs of those that are selected: `debug` runs the first one
+-- the selected cases that a command runs: all, or for `debug` the first
 abbrev pub taken : Bool → List Candidate → List Candidate
 taken false cases = cases
 taken true cases = take 1 cases
 
--- the first questions of a command over test cases, where memory ran out: for its cases, and then for what they require
+-- the first questions of a command over test cases for which memory ran out: for its cases, and then for what they require
 pub data AsksFirst (needed : Bool) (options : CaseOptions) : List Question → Type 0 where
   selecting : (questions : List Question) → SelectsFirst needed options questions → AsksFirst needed options questions
   preparing : (before : List Question) (picked : Picked) (told : List Told) → Selects needed options before (Ok picked)
       → SurveysFirst (taken needed picked.chosen.cases) told → AsksFirst needed options (before ++ of_host told)
 
--- how a command ends that memory or the store cut short
+-- how a command ends if memory or the store cuts it short
 pub data CutShort (seen : Seen) : Command → List ℕ → ℕ → Type 0 where
   no_memory : (c : Command) (options : CaseOptions) → cases_of c ≡ Some options → AsksFirst (needs_case c) options seen.questions → IsAskedOnly seen
       → CutShort seen c (utf8 memory_line) 2

@@ -1,4 +1,4 @@
--- What the program does: a command over its results, which are opened before it and closed after it, and a command line that is none.
+-- How the program runs: it opens the results, executes the command and closes them; or the arguments are no command.
 use Rattle.std.specs.Prelude.{ℕ, Bool, false, List, ◌≡◌, Option, None, Ok, Err, [], Some, Result, if◌then◌else◌}
 use Rattle.std.specs.Io.KnownBytes.{Keeps}
 use Rattle.kt_base.specs.Chains.{Chain}
@@ -39,7 +39,7 @@ use Rattle.kt_cli.specs.Pages.{Printed}
 use Rattle.kt_cli.specs.Places.{source_directory}
 use Rattle.kt_cli.specs.Platforms.{Opened, Closed, Found}
 use Rattle.kt_cli.specs.Refused.{driver_line, command_text, failure_exit, wrong_words_exit, Refused}
-use Rattle.kt_cli.specs.Scenes.{scene, World}
+use Rattle.kt_cli.specs.Scenes.{Scene, scene, with_world, with_store, World}
 
 -- the relations of what the program has: the machine, the system, its platform, and the results that it opens
 pub record Program (M O P S : Type 0) : Type 1 where
@@ -48,16 +48,17 @@ pub record Program (M O P S : Type 0) : Type 1 where
   pub platform : platform.Ghosts P S
   pub results : keeping.Ghosts S
 
--- the same, made of its parts
-abbrev pub program : {M O P S : Type 0} → machine.Ghosts M → system.Ghosts O → platform.Ghosts P S → keeping.Ghosts S → Program M O P S
-program machine system platform results = record { machine = machine; system = system; platform = platform; results = results }
+module _ {M O P S : Type 0} where
+  -- a program of these parts
+  abbrev pub program : machine.Ghosts M → system.Ghosts O → platform.Ghosts P S → keeping.Ghosts S → Program M O P S
+  program machine system platform results = record { machine = machine; system = system; platform = platform; results = results }
 
 -- what a command finds and leaves: the platform, and what lies outside
 pub record State (M O P : Type 0) : Type 0 where
   pub platform : P
   pub outside : Outside M O
 
--- the same, made of its parts
+-- a state of these parts
 abbrev pub state : {M O P : Type 0} → P → Outside M O → State M O P
 state platform outside = record { platform = platform; outside = outside }
 
@@ -78,49 +79,46 @@ module _ {O : Type 0} (o : system.Ghosts O) (os : O) where
     none_made : (fault : DriverFault) (calls : List Call) (left : O) → Chain o.leads os calls left → FindsRoot base calls (Err fault) → NoRoot base fault left
 
 module _ {M O : Type 0} (o : system.Ghosts O) (before : Outside M O) where
-  -- the same of all that is outside: the machine was asked nothing
+  -- why no driver is made, with what lies outside as it is given back: the machine was asked nothing
   abbrev pub NoDriver : List ℕ → DriverFault → Outside M O → Type 0
   NoDriver base fault after = NoRoot o before.os base fault after.os × (after.machine ≡ before.machine)
 
-module _ {M O R : Type 0} (m : machine.Ghosts M) (o : system.Ghosts O) (before after : Outside M O) (r : keeping.Ghosts R) where
-  -- a command was done over the files beside its Kyuafile and over a driver that was made for its options, whose root directory was then to be
-  -- removed: nothing else was asked of the machine and the system. All that the driver asked was for the answers of the trace, from a board on
-  -- which nothing runs: each poll and kill is heard by one child, and the outcome of an end is the row of the outcome table that its child's
-  -- answers are
-  pub record OnDriver (around : Surroundings) (options : CaseOptions) (c : Command) (store end : R) (was now : Option (List ℕ)) (exit : ℕ) : Type 0 where
+module _ {M O R : Type 0} (m : machine.Ghosts M) (o : system.Ghosts O) (r : keeping.Ghosts R) (before after : Scene (Outside M O) R) where
+  -- a command was executed over the files beside its Kyuafile and over a driver that was made for its options; then the removal of the driver's
+  -- root directory was asked for. Nothing else was asked of the machine and the system. All that the driver asked was for the answers of the
+  -- trace, from a board on which nothing runs: each poll and kill is heard by one child, and each end has the outcome that the table gives for
+  -- its child's answers
+  pub record OnDriver (around : Surroundings) (options : CaseOptions) (c : Command) (exit : ℕ) : Type 0 where
     pub old : HostWorld M O
     pub new : HostWorld M O
-    pub machine : old.machine ≡ before.machine
-    pub made : IsMade o before.os around.here options.work options.kyuafile old.driver
+    pub machine : old.machine ≡ before.world.machine
+    pub made : IsMade o before.world.os around.here options.work options.kyuafile old.driver
     pub directory : old.directory ≡ directory_of options.kyuafile
     pub around_it : old.around ≡ around
-    pub did : Did (host_world m o) r c (scene old store was) (scene new end now) exit
+    pub did : Did (host_world m o) r c (with_world old before) (with_world new after) exit
     pub told : RunsFrom o.leads did.seen.plan did.seen.trace (board_of idle_state did.course.begun.driver.next) did.course.begun.driver new.driver
-    pub left : after.machine ≡ new.machine
-    pub closed : (done : Bool) × o.leads new.driver.os (RemoveTree new.driver.root done) after.os
+    pub left : after.world.machine ≡ new.machine
+    pub closed : (done : Bool) × o.leads new.driver.os (RemoveTree new.driver.root done) after.world.os
 
 -- a world that answers nothing
 abbrev pub no_world : World (Unit {0})
 no_world = record { running = λ w k role. None; pending = λ w k. false; starts = λ w job role answer v. ⊥; waits = λ w ended v. ⊥; asks = λ w asked v. ⊥; tells = λ w told v. ⊥ }
 
--- a command was done that asks and starts nothing
-abbrev pub DidAlone : {R : Type 0} → keeping.Ghosts R → Command → R → R → Option (List ℕ) → Option (List ℕ) → ℕ → Type 0
-DidAlone r c store after was now exit = Did no_world r c (scene tt store was) (scene tt after now) exit
-
 module _ {M O P S R : Type 0} (p : Program M O P S) (r : keeping.Ghosts R) where
-  -- a command was done over a store: a report alone, and one over test cases with what was found around it and a driver of its own; if it has
-  -- none of these, one line says so and the store is as it was. Nothing else is asked of the machine and the system
-  pub data DoneOver (c : Command) (old new : State M O P) (store after : R) (was now : Option (List ℕ)) (exit : ℕ) : Type 0 where
-    alone : cases_of c ≡ None → new ≡ old → DidAlone r c store after was now exit → DoneOver c old new store after was now exit
-    done : (options : CaseOptions) (around : Surroundings) → cases_of c ≡ Some options → p.platform.provides old.platform (Found (Ok around)) new.platform
-        → OnDriver p.machine p.system old.outside new.outside r around options c store after was now exit → DoneOver c old new store after was now exit
-    no_place : (options : CaseOptions) (fault : DriverFault) → cases_of c ≡ Some options → p.platform.provides old.platform (Found (Err fault)) new.platform
-        → new.outside ≡ old.outside → after ≡ store → Printed was now exit (utf8 (driver_line fault)) failure_exit → DoneOver c old new store after was now exit
-    no_driver : (options : CaseOptions) (around : Surroundings) (fault : DriverFault) → cases_of c ≡ Some options → p.platform.provides old.platform (Found (Ok around)) new.platform
-        → NoDriver p.system old.outside options.work fault new.outside → after ≡ store → Printed was now exit (utf8 (driver_line fault)) failure_exit → DoneOver c old new store after was now exit
+  -- a command was executed over a store: a report by itself; a command over test cases with what was found around the process and a driver of
+  -- its own, or, without one of these, a line says so and the store is as it was. Nothing else is asked of the machine and the system
+  pub data DoneOver (c : Command) (old new : Scene (State M O P) R) (exit : ℕ) : Type 0 where
+    alone : cases_of c ≡ None → new.world ≡ old.world → Did no_world r c (with_world tt old) (with_world tt new) exit → DoneOver c old new exit
+    done : (options : CaseOptions) (around : Surroundings) → cases_of c ≡ Some options → p.platform.provides old.world.platform (Found (Ok around)) new.world.platform
+        → OnDriver p.machine p.system r (with_world old.world.outside old) (with_world new.world.outside new) around options c exit → DoneOver c old new exit
+    no_surroundings : (options : CaseOptions) (fault : DriverFault) → cases_of c ≡ Some options → p.platform.provides old.world.platform (Found (Err fault)) new.world.platform
+        → new.world.outside ≡ old.world.outside → new.store ≡ old.store → Printed old.held new.held exit (utf8 (driver_line fault)) failure_exit → DoneOver c old new exit
+    no_driver : (options : CaseOptions) (around : Surroundings) (fault : DriverFault) → cases_of c ≡ Some options → p.platform.provides old.world.platform (Found (Ok around)) new.world.platform
+        → NoDriver p.system old.world.outside options.work fault new.world.outside → new.store ≡ old.store → Printed old.held new.held exit (utf8 (driver_line fault)) failure_exit
+        → DoneOver c old new exit
 
--- what was given to standard output was handed on, and the command ends as it was due to; or with 2, if some of it stays unwritten or
--- the flush of standard output failed
+-- what was given to standard output was handed on, and the exit is the due one; or it is 2, if some of this stays unwritten or the flush of
+-- standard output failed
 pub record Flushed (told : Option (List ℕ)) (now : LineState) (due exit : ℕ) : Type 0 where
   pub kept : Keeps told now.given
   pub failed : Bool
@@ -134,10 +132,15 @@ pub record ToldShortage (was : Option (List ℕ)) (now : LineState) (exit : ℕ)
   pub refused : Refused was told due (utf8 memory_line) failure_exit
   pub flushed : Flushed told now due exit
 
+-- what was given to standard output, and what standard error holds
+pub record Streams : Type 0 where
+  pub out : LineState
+  pub errors : Option (List ℕ)
+
 -- why arguments are no command is printed on standard error, and nothing on standard output
-abbrev pub Rejected : CommandFault → Option (List ℕ) → LineState → Option (List ℕ) → Option (List ℕ) → ℕ → Type 0
-Rejected (command.NoMemory shortage) was now errors_was errors_now exit = ToldShortage was now exit × (errors_now ≡ errors_was)
-Rejected fault was now errors_was errors_now exit = Refused errors_was errors_now exit (utf8 (command_text fault)) wrong_words_exit × (now.given ≡ was)
+abbrev pub Rejected : CommandFault → Streams → Streams → ℕ → Type 0
+Rejected (command.NoMemory shortage) was now exit = ToldShortage was.out.given now.out exit × (now.errors ≡ was.errors)
+Rejected fault was now exit = Refused was.errors now.errors exit (utf8 (command_text fault)) wrong_words_exit × (now.out.given ≡ was.out.given)
 
 -- what a command opens results for: one over test cases adds a run to them, another shows them alone
 abbrev pub access_for : Option CaseOptions → Access
@@ -148,28 +151,29 @@ abbrev pub access_of : Command → Access
 access_of c = access_for (cases_of c)
 
 module _ {M O P S : Type 0} (p : Program M O P S) where
-  -- a command was done over the results in a file: they were opened first, for what it does with them, and closed last, once and as the command left them; where they
-  -- could not be opened one line says why, and nothing else was done
-  pub data DoneIn (c : Command) (file : List ℕ) (old new : State M O P) (was now : Option (List ℕ)) (exit : ℕ) : Type 0 where
-    not_opened : (fault : StoreFault) → p.platform.provides old.platform (Opened file (access_of c) (Err fault)) new.platform → new.outside ≡ old.outside
-        → Printed was now exit (utf8 (refusal_line fault)) failure_exit → DoneIn c file old new was now exit
-    closed : (store after : S) (begun done : P) (told : Option (List ℕ)) (due : ℕ) (answer : Result (Unit {0}) StoreFault) → p.platform.provides old.platform (Opened file (access_of c) (Ok store)) begun
-        → DoneOver p p.results c (state begun old.outside) (state done new.outside) store after was told due → p.platform.provides done (Closed after answer) new.platform
-        → Concluded answer told now due exit → DoneIn c file old new was now exit
+  -- a command was executed over the results in a file: they were opened first, for what it does with them, and closed last, once, as the
+  -- command left them; or they could not be opened: then a line says why, and nothing else was done. Before and after it no store is open
+  pub data DoneIn (c : Command) (file : List ℕ) (old new : Scene (State M O P) (Unit {0})) (exit : ℕ) : Type 0 where
+    not_opened : (fault : StoreFault) → p.platform.provides old.world.platform (Opened file (access_of c) (Err fault)) new.world.platform → new.world.outside ≡ old.world.outside
+        → Printed old.held new.held exit (utf8 (refusal_line fault)) failure_exit → DoneIn c file old new exit
+    closed : (store after : S) (begun done : P) (held : Option (List ℕ)) (due : ℕ) (answer : Result (Unit {0}) StoreFault)
+        → p.platform.provides old.world.platform (Opened file (access_of c) (Ok store)) begun
+        → DoneOver p p.results c (scene (state begun old.world.outside) store old.held) (scene (state done new.world.outside) after held) due
+        → p.platform.provides done (Closed after answer) new.world.platform → Concluded answer held new.held due exit → DoneIn c file old new exit
 
-  -- a command was done over the results in its file, or over none in memory where it has no file
-  abbrev pub DoneBy : Command → Option (List ℕ) → State M O P → State M O P → Option (List ℕ) → Option (List ℕ) → ℕ → Type 0
-  DoneBy c (Some file) old new was now exit = DoneIn c file old new was now exit
-  DoneBy c None old new was now exit = (after : List Run) × DoneOver p memory_runs c old new [] after was now exit
+  -- a command was executed over the results in its file, or, if it has no file, over an empty store in memory
+  abbrev pub DoneBy : Command → Option (List ℕ) → Scene (State M O P) (Unit {0}) → Scene (State M O P) (Unit {0}) → ℕ → Type 0
+  DoneBy c (Some file) old new exit = DoneIn c file old new exit
+  DoneBy c None old new exit = (after : List Run) × DoneOver p memory_runs c (with_store [] old) (with_store after new) exit
 
-  -- a command was performed: it was done, and then all its text was handed on
+  -- a command was performed: it was executed, and then all its text was handed on
   pub record Performed (c : Command) (old new : State M O P) (was : Option (List ℕ)) (now : LineState) (exit : ℕ) : Type 0 where
-    pub told : Option (List ℕ)
+    pub held : Option (List ℕ)
     pub due : ℕ
-    pub done : DoneBy c (results_of c) old new was told due
-    pub flushed : Flushed told now due exit
+    pub done : DoneBy c (results_of c) (scene old tt was) (scene new tt held) due
+    pub flushed : Flushed held now due exit
 
   -- what came of the arguments: their command was performed, or they were rejected and nothing was asked for
-  abbrev pub CarriedOut : Result Command CommandFault → State M O P → State M O P → Option (List ℕ) → LineState → Option (List ℕ) → Option (List ℕ) → ℕ → Type 0
-  CarriedOut (Ok c) old new was now errors_was errors_now exit = Performed c old new was now exit × (errors_now ≡ errors_was)
-  CarriedOut (Err fault) old new was now errors_was errors_now exit = Rejected fault was now errors_was errors_now exit × (new ≡ old)
+  abbrev pub CarriedOut : Result Command CommandFault → State M O P → State M O P → Streams → Streams → ℕ → Type 0
+  CarriedOut (Ok c) old new was now exit = Performed c old new was.out.given now.out exit × (now.errors ≡ was.errors)
+  CarriedOut (Err fault) old new was now exit = Rejected fault was now exit × (new ≡ old)

@@ -17,9 +17,17 @@ pub record Scene (W R : Type 0) : Type 0 where
   pub store : R
   pub held : Option (List ℕ)
 
--- the same, made of its parts
+-- a scene of these parts
 abbrev pub scene : {W R : Type 0} → W → R → Option (List ℕ) → Scene W R
 scene world store held = record { world = world; store = store; held = held }
+
+-- the same scene, seen with this world
+abbrev pub with_world : {V W R : Type 0} → W → Scene V R → Scene W R
+with_world world s = scene world s.store s.held
+
+-- the same scene, seen with this store
+abbrev pub with_store : {W R T : Type 0} → T → Scene W R → Scene W T
+with_store store s = scene s.world store s.held
 
 -- the relations of a world: those of the launcher and the tree that it is, and its own
 abbrev pub World : Type 0 → Type 1
@@ -32,7 +40,7 @@ World W = record {
   tells : W → Told → W → Type 0;
 }
 
--- the same by the records of the three traits
+-- the relations of a world, from those of its three traits
 abbrev pub world_of : {W : Type 0} → tree.Ghosts W → launcher.Ghosts W → world.Ghosts W → World W
 world_of t l w = record { running = l.running; pending = l.pending; starts = l.starts; waits = l.waits; asks = t.asks; tells = w.tells }
 

@@ -22,7 +22,7 @@ abbrev pub puts : ℕ → List Entry → List StoreCall
 puts number [] = []
 puts number (e ∷ es) = Put number e (Ok tt) ∷ puts number es
 
--- what a crash may leave beside the runs after a call, where it might leave others beside the runs before
+-- what a crash may leave beside the runs after a call, if it might leave these beside the runs before
 abbrev pub beside_by : StoreCall → List Run → List (List Run) → List (List Run)
 beside_by (Began total moment (Ok number)) runs may = []
 beside_by (Began total moment (Err fault)) runs may = (runs ++ new_run runs total moment ∷ []) ∷ may
@@ -34,7 +34,7 @@ beside_by (Heads answer) runs may = may
 beside_by (Outline number pairs answer) runs may = may
 beside_by (Outputs number position answer) runs may = may
 
--- ---- the same of calls one after the other
+-- ---- calls one after the other
 
 abbrev pub changed : List StoreCall → List Run → List Run
 changed [] runs = runs
@@ -50,7 +50,7 @@ Agree runs (call ∷ calls) = Agrees runs call × Agree (changed_by call runs) c
 
 module _ {R : Type 0} (r : keeping.Ghosts R) where
   -- what calls did to a store, whatever runs it stood for: it stands for the runs with their changes; if it is sound then, it was sound before
-  -- and each answer agrees with the runs; where a crash left the runs or others, it then leaves the changed runs, or what stands beside them
+  -- and each answer agrees with the runs; if a crash left the runs or others, it then leaves the changed runs, or what stands beside them
   pub record Kept (calls : List StoreCall) (old new : R) : Type 0 where
     pub stands : (runs : List Run) → r.stands old runs → r.stands new (changed calls runs)
     pub earlier : (runs : List Run) → r.stands old runs → r.sound new → r.sound old

@@ -14,12 +14,12 @@ use Rattle.kt_cli.specs.Stores.{puts}
 use Rattle.kt_cli.specs.Totals.{lines, totals_text, good_count, bad_count}
 use Rattle.kt_cli.specs.Warnings.{warnings}
 
--- no filter is left without a case
-abbrev pub none_idle : List ℕ → Bool
-none_idle [] = true
-none_idle (position ∷ unmatched) = false
+-- each filter selects a case
+abbrev pub all_matched : List ℕ → Bool
+all_matched [] = true
+all_matched (position ∷ unmatched) = false
 
--- how many of how many passed, and a warning for each filter that selects no case
+-- the totals, and a warning for each filter that selects no case
 abbrev pub ending : ℕ → ℕ → ℕ → List (List ℕ) → List ℕ → List ℕ
 ending good total bad words unmatched = utf8 (totals_text good total bad) ++ utf8 (warnings words unmatched)
 
@@ -27,15 +27,15 @@ ending good total bad words unmatched = utf8 (totals_text good total bad) ++ utf
 abbrev pub results : List Entry → List (List ℕ) → List ℕ → List ℕ
 results entries words unmatched = lines entries ++ ending (good_count entries) (length entries) (bad_count entries) words unmatched
 
--- 0 where nothing is bad and each filter selects a case
+-- 0 if no entry is bad and each filter selects a case
 abbrev pub exit_of : ℕ → List ℕ → ℕ
-exit_of bad unmatched = if bad == 0 && none_idle unmatched then 0 else 1
+exit_of bad unmatched = if bad == 0 && all_matched unmatched then 0 else 1
 
--- the same by the entries
+-- `exit_of` for a list of entries
 abbrev pub results_exit : List Entry → List ℕ → ℕ
 results_exit entries unmatched = exit_of (bad_count entries) unmatched
 
--- what is to be run: a plan at a width, begun at this moment, for the words of filters, of which those at some positions select no case
+-- what is to be run: a plan at a width, begun at this moment, with the filters as given, and the positions of those that select no case
 pub record PlannedRun : Type 0 where
   pub plan : List Job
   pub width : ℕ
@@ -43,13 +43,10 @@ pub record PlannedRun : Type 0 where
   pub unmatched : List ℕ
   pub moment : ℕ
 
--- the same, made of its parts
-abbrev pub planned_run : List Job → ℕ → List (List ℕ) → List ℕ → ℕ → PlannedRun
-planned_run plan width words unmatched moment = record { plan = plan; width = width; words = words; unmatched = unmatched; moment = moment }
-
 -- the run of a plan, for what was picked by these options
 abbrev pub run_for : List Job → CaseOptions → Picked → ℕ → PlannedRun
-run_for plan options picked moment = planned_run plan picked.settings.config.parallelism options.filters picked.chosen.unmatched moment
+run_for plan options picked moment =
+    record { plan = plan; width = picked.settings.config.parallelism; words = options.filters; unmatched = picked.chosen.unmatched; moment = moment }
 
 -- the call that begins it, with its answer
 abbrev pub begins : PlannedRun → Result ℕ StoreFault → StoreCall
@@ -60,7 +57,7 @@ pub data Tested (planned : PlannedRun) (T : Trace) : List StoreCall → List ℕ
   recorded : (number : ℕ) (entries : List Entry) → AllRecorded planned.plan planned.width T entries
       → Tested planned T (begins planned (Ok number) ∷ (puts number entries ++ Finished number (Ok tt) ∷ [])) (results entries planned.words planned.unmatched) (results_exit entries planned.unmatched)
 
--- how it ends if memory or the store cut it short: the line is that of the store's own answer
+-- how a planned run ends if memory or the store cuts it short: the line is that of the store's own answer
 pub data TestCut (planned : PlannedRun) (T : Trace) : List StoreCall → List ℕ → ℕ → Type 0 where
   not_begun : (fault : StoreFault) → T ≡ NoEvent → TestCut planned T (begins planned (Err fault) ∷ []) (utf8 (refusal_line fault)) 2
   not_run : (number : ℕ) → T ≡ NoEvent → TestCut planned T (begins planned (Ok number) ∷ []) (utf8 memory_line) 2

@@ -5,7 +5,7 @@ use Rattle.std.specs.Prelude.{ℕ, List, [], ◌++◌, Option, Some, None, codes
 abbrev pub warning_line : List ℕ → List ℕ
 warning_line word = codes "kyua: W: No test cases matched by the filter '" ++ word ++ codes "'.\n"
 
--- the same of a word that may be there
+-- the line of a filter that may be there, or nothing
 abbrev pub warning_at : Option (List ℕ) → List ℕ
 warning_at None = []
 warning_at (Some word) = warning_line word

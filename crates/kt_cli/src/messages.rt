@@ -7,10 +7,10 @@ use crate::Exit;
 use crate::output::exit::{FAILED, ended};
 use kt_base::{NoMemory, OUT_OF_MEMORY, OutputFault, Text, emit, emit_all};
 use kt_child::DriverFault;
-use kt_plan::Stop;
+use kt_plan::{Chosen, Stop};
 use kt_sched::RunFault;
 use kt_store::StoreFault;
-use kt_words::CommandFault;
+use kt_words::{CaseOptions, CommandFault};
 use std::io::Write;
 
 /// The status of a wrong command line.
@@ -24,7 +24,7 @@ fn write_fault<O: Write>(words: &str, out: &mut O) -> Result<(), OutputFault>
     emit_all(&[b"kyua: E: ", words.as_bytes(), b"\n"], out)
 }
 
-/// Writes that memory ran out. The refusal is no part of the line: who says so holds one, which nobody can make up.
+/// Writes that memory ran out. The refusal isn't printed: it is a parameter so that only a real one leads here.
 pub fn write_memory<O: Write>(_refusal: NoMemory, out: &mut O) -> Result<(), OutputFault>
     ensures { Shows (O.contents out.old) (O.contents out.new) (is_err result) (utf8 memory_line) }
 {
@@ -166,8 +166,8 @@ fn write_warning_at<O: Write>(
     }
 }
 
-/// Warns of the filters at these positions, in order, by their words as they were given.
-pub fn write_warnings<O: Write>(
+/// Warns of the filters at these positions, in order.
+fn write_warnings_at<O: Write>(
     words: &[Text],
     positions: &[usize],
     out: &mut O,
@@ -179,4 +179,16 @@ pub fn write_warnings<O: Write>(
         write_warning_at(words, *position, out)?;
     }
     Ok(())
+}
+
+/// Warns of the filters that select no case, by their words as they were given.
+pub fn write_warnings<O: Write>(
+    options: &CaseOptions,
+    chosen: &Chosen,
+    out: &mut O,
+) -> Result<(), OutputFault>
+    ensures { Shows (O.contents out.old) (O.contents out.new) (is_err result)
+        (utf8 (warnings options.now.filters chosen.now.unmatched)) }
+{
+    write_warnings_at(options.filters.as_slice(), chosen.unmatched.as_slice(), out)
 }

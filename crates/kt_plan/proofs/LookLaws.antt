@@ -1,10 +1,9 @@
 -- What the host is asked for, and what is noted of its answers.
-use Rattle.std.proofs.Common.{Bool, true, false, Option, Some, None, is_some, ◌≡◌, ℕ, List, [], ◌∷◌, ◌++◌, ◌&&◌, ◌||◌, refl, sym, ap, ◌∙◌, subst, append_assoc, append-nil}
-use Rattle.kt_plan.proofs.Common.{Chain, Answered, all_needs, is_found, is_same_need, IsNoted, Host, Meta, Need, Candidate, Notes, finds, meta_in, needs_among, needs_by, needs_of, LooksFor, nothing, asked, Surveys, SurveysFirst, AreFirst, Told, Finds, IsRoot, HasMemory, HasDisk, chain-append}
+use Rattle.std.proofs.Common.{Bool, true, false, Option, ◌≡◌, ℕ, List, [], ◌∷◌, ◌++◌, ◌&&◌, ◌||◌, refl, sym, ap, ◌∙◌, subst, append_assoc, append-nil}
+use Rattle.kt_plan.proofs.Common.{Chain, Answered, is_found, is_same_need, IsNoted, Host, Need, Candidate, Notes, finds, needs_of, LooksFor, nothing, asked, Surveys, SurveysFirst, AreFirst, Told, Finds, IsRoot, HasMemory, HasDisk, chain-append}
 use Rattle.std.specs.List.{list_any}
 use Rattle.std.proofs.lemmas.List.Folds.{list_any-append}
 use Rattle.std.proofs.Math.Bool.{or-false, and-true, and-false, or_assoc}
-use Rattle.kt_base.specs.declared.verdict.Reason.{Reason}
 
 -- nothing was asked
 notes_nothing : (host : Host) → Notes [] host host
@@ -53,16 +52,6 @@ asks_all (first ∷ needs) = let rest = asks_all needs in (Finds first.0 first.1
 -- some questions, more, and others after them
 rejoined : (a b d e : List Told) → a ++ ((b ++ d) ++ e) ≡ (a ++ b) ++ (d ++ e)
 rejoined a b d e = ap (λ (ts : List Told). a ++ ts) (append_assoc b d e) ∙ sym (append_assoc a b (d ++ e))
-
--- a case whose list has a fault needs nothing
-needs_nothing : (fault : Option Reason) (meta : Meta) → is_some fault ≡ true → needs_by fault meta ≡ []
-needs_nothing None meta e = absurd (cc)
-needs_nothing (Some reason) meta e = refl
-
--- another one needs all that its properties require
-pub needs_all : (fault : Option Reason) (needs : List Need) (meta : Meta) → is_some fault ≡ false → needs ≡ all_needs → needs_among needs meta ≡ needs_by fault meta
-needs_all None needs meta e n = ap (λ (ns : List Need). needs_among ns meta) n
-needs_all (Some reason) needs meta e n = absurd (cc)
 
 -- all questions to the host are the first ones
 pub all_surveyed : (cases : List Candidate) (told : List Told) (host : Host) → Surveys cases told host → SurveysFirst cases told
@@ -144,13 +133,6 @@ module _ {W : Type 0} (tells : W → Told → W → Type 0) where
       chain = l.chain;
       holds = (subst (λ (ts : List Told). LooksFor needs ts) (append-nil l.told) (l.goes [] (subst (λ (ns : List (Need × List ℕ)). LooksFor ns []) (sym e) nothing)), l.notes);
     }
-
-  -- a case whose list has a fault
-  pub case_unlooked : (candidate : Candidate) (world : W) (host : Host) → is_some candidate.case.fault ≡ true
-      → Answered tells world world (λ told. LooksFor (needs_by candidate.case.fault (meta_in candidate)) told × Notes told host host)
-  case_unlooked candidate world host e =
-      let needs = needs_by candidate.case.fault (meta_in candidate) in
-      looking_all needs world host needs world host (needs_nothing candidate.case.fault (meta_in candidate) e) (looking_first needs world host)
 
   -- all that the host was asked
   pub surveyed : (cases : List Candidate) (old a b d new : W) (was now : Host) (root : Bool) (memory disk : Option ℕ) → was.root ≡ root → was.memory ≡ memory → was.disk ≡ disk

@@ -22,7 +22,7 @@ use Rattle.kt_plan.specs.declared.stop.Stop.TheVariants as stop
 use Rattle.kt_plan.specs.Listings.{Loads, LoadsFirst}
 use Rattle.kt_plan.specs.Told.{Told, Lists}
 
--- the variables of a suite, none where it has none
+-- the variables of a suite, none if it has none
 abbrev pub variables_for : Values → List ℕ → List Variable
 variables_for config suite = unwrap_or (variables_of suite config.suites) []
 
@@ -90,7 +90,7 @@ pub data Collects (settings : Settings) (kyuafile : List ℕ) : List Asked → L
       → Offers settings.config settings.filters programs told found → length found ≤ most_items
       → Collects settings kyuafile asked told (Ok (chosen_of settings.filters found))
 
--- the first questions for the selected cases, where memory ran out: to the tree, and then for the lists
+-- the first questions for the selected cases, if memory ran out: to the tree, and then for the lists
 pub data CollectsFirst (settings : Settings) (kyuafile : List ℕ) : List Asked → List Told → Type 0 where
   loading : (asked : List Asked) → LoadsFirst kyuafile asked → CollectsFirst settings kyuafile asked []
   offering : (asked : List Asked) (told : List Told) (programs : List Program) → Loads kyuafile asked (Ok programs)

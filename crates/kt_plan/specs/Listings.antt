@@ -15,7 +15,7 @@ pub data Loads (kyuafile : List ℕ) : List Asked → Outcome → Type 0 where
   unnamed : is_empty (name_in kyuafile) ≡ true → Loads kyuafile [] (Err (fault_at kyuafile 0 Unreadable))
   named : (asked : List Asked) (outcome : Outcome) → is_empty (name_in kyuafile) ≡ false → Registered asked (name_in kyuafile) outcome → Loads kyuafile asked outcome
 
--- the first questions to the tree, where memory ran out. They are all of them if the tree itself answered so.
+-- the first questions to the tree, if memory ran out. They are all of them if the tree itself answered so.
 pub data LoadsFirst (kyuafile : List ℕ) : List Asked → Type 0 where
   before_tree : LoadsFirst kyuafile []
   unfinished : (asked : List Asked) (outcome : Outcome) → Unfinished asked (name_in kyuafile) outcome → LoadsFirst kyuafile asked

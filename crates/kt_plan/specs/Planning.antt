@@ -62,7 +62,7 @@ pub record Surveys (candidates : List Candidate) (told : List Told) (host : Host
   pub all : LooksFor (needs_of candidates) looked
   pub found : (need : Need) (word : List ℕ) → is_found need host word ≡ list_any (finds need word) looked
 
--- the first questions to the host, where memory ran out: those for files and programs come last
+-- the first questions to the host, if memory ran out: those for files and programs come last
 pub record SurveysFirst (candidates : List Candidate) (told : List Told) : Type 0 where
   pub root : Bool
   pub memory : Option ℕ

@@ -22,7 +22,7 @@ pub data Selects (needed : Bool) (options : CaseOptions) : List Question → Res
       → Collects settings options.kyuafile asked lists (Ok chosen)
       → Selects needed options (of_host told ++ (of_tree asked ++ of_host lists)) (Ok (record { settings = settings; chosen = chosen }))
 
--- the first questions for a selection, where memory ran out
+-- the first questions for a selection, if memory ran out
 pub data SelectsFirst (needed : Bool) (options : CaseOptions) : List Question → Type 0 where
   settling : (told : List Told) → ReadsFirst options.config told → SelectsFirst needed options (of_host told)
   collecting : (told : List Told) (settings : Settings) (asked : List Asked) (lists : List Told) → Settles needed options told (Ok settings)

@@ -43,7 +43,7 @@ pub trait World: Tree + Launcher {
     fn disk(&mut self) -> Option<u64>
         ensures { tells self.old (HasDisk result) self.new };
 
-    /// The moment, in milliseconds since 1970 in UTC; 0 where the clock failed or is out of range.
+    /// The moment, in milliseconds since 1970 in UTC; 0 if the clock failed or is out of range.
     fn now(&mut self) -> u64
         ensures told { tells self.old (Now result) self.new }
         ensures moment { IsMoment result };

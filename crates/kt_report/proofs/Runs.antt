@@ -1,6 +1,9 @@
 -- Bytes that stand in XML as they are.
 use Rattle.std.proofs.Common.{◌≡◌, ℕ, ◌<◌, ◌≤◌, Bool, true, false, List, [], ◌∷◌, ◌++◌, length, take, drop, get_or, ◌+◌, ◌⊎◌, inl, inr, bytes_eq, refl, ap, ◌∙◌, sym, subst, append_assoc, length-append, take-append-drop, arith, ◌==◌, ◌&&◌, not, encode_utf8, encode_utf8_all}
 use Rattle.kt_report.proofs.Common.{prefix_len, chars, IsUtf8, IsCharBoundary, get_or-append-add, get_or-take, length-take, nil_from_length, and_parts, false≢true, eqb-true, cases_lt, ne_eqb, nat_tests, flat_map-append, encode_ascii, chars-nil, chars-append, chars_past_char, encodes-chars, length-encode, len_utf8_bounds, IsUtf8-take, IsUtf8-drop, escaped, escapes}
+use Rattle.kt_base.proofs.Fronts.{all_text}
+use Rattle.kt_base.specs.Lossy.{lossy}
+unfoldable use Rattle.kt_base.specs.Lossy.{lossy_after}
 use lib.Utf8.{encode}
 use Rattle.std.proofs.lemmas.List.{append-nil}
 use Rattle.std.proofs.lemmas.List.Sums.{prefix_len-le-length, prefix_len_passes, prefix_len_stops}
@@ -92,3 +95,8 @@ pub at_end : (attribute : Bool) (text rest all : List ℕ) → text ++ escapes a
 at_end attribute text rest all so_far none =
     let nothing = ap (λ (bs : List ℕ). escapes attribute (chars bs)) (nil_from_length rest (eqb-true (length rest) 0 (sym none))) ∙ ap (escapes attribute) chars-nil in
     sym (append-nil text) ∙ ap (λ (cs : List ℕ). text ++ cs) (sym nothing) ∙ so_far
+
+-- bytes that are UTF-8 are read as they are
+pub lossy_utf8 : (bytes : List ℕ) → IsUtf8 bytes → lossy bytes ≡ chars bytes
+unfolding lossy_after
+lossy_utf8 bytes u = sym (all_text [] (chars bytes) bytes u refl) ∙ append-nil (chars bytes)

@@ -1,4 +1,4 @@
-ghost use Rattle.std.specs.Prelude.{◌≡◌, ◌<◌, [], ◌∷◌, ◌++◌, ◌==◌, ◌&&◌, not, false, bytes_eq, length, IfOk, OnOk, MatchOption};
+ghost use Rattle.std.specs.Prelude.{◌≡◌, ◌<◌, [], ◌∷◌, ◌++◌, ◌==◌, ◌&&◌, not, false, true, bytes_eq, length, IfOk, OnOk, MatchOption};
 ghost use Rattle.kt_report.specs.Common.{prefix_len, chars, lossy, case_texts, with_outputs, escaped, escapes};
 
 use crate::case_texts::CaseTexts;
@@ -76,26 +76,47 @@ fn push_run<'a>(escaped: &mut Text, attribute: bool, text: &'a str) -> Result<&'
     }
 }
 
-/// A text as XML has it, in an attribute or in content.
-fn escape(alloc: Global, attribute: bool, text: &Text) -> Result<Text, NoMemory>
-    ensures { IfOk result (λ t. t ≡ escapes attribute text.now) }
+/// Appends a text as XML has it, in an attribute or in content.
+fn push_escapes(escaped: &mut Text, attribute: bool, text: &str) -> Result<(), NoMemory>
+    ensures { OnOk result (escaped.new ≡ escaped.old ++ escapes attribute (chars text.now)) }
+{
+    let mut rest = text;
+    while !rest.is_empty() {
+        rest = push_run(escaped, attribute, rest)?;
+    }
+    Ok(())
+}
+
+/// A text as XML has it, in an attribute.
+fn escape(alloc: Global, text: &Text) -> Result<Text, NoMemory>
+    ensures { IfOk result (λ t. t ≡ escapes true text.now) }
 {
     let mut escaped = Text::new(alloc);
-    let mut rest = text.as_str();
-    while !rest.is_empty() {
-        rest = push_run(&mut escaped, attribute, rest)?;
-    }
+    push_escapes(&mut escaped, true, text.as_str())?;
     Ok(escaped)
+}
+
+/// Appends what was printed, as XML has it in content. Bytes that are UTF-8 take no memory of their own.
+fn push_output(alloc: Global, escaped: &mut Text, bytes: &[u8]) -> Result<(), NoMemory>
+    ensures { OnOk result (escaped.new ≡ escaped.old ++ escapes false (lossy bytes.now)) }
+{
+    match str::from_utf8(bytes) {
+        Ok(text) => push_escapes(escaped, false, text),
+        Err(_fault) => {
+            let text = lossy(alloc, bytes)?;
+            push_escapes(escaped, false, text.as_str())
+        }
+    }
 }
 
 /// The outputs of a body and of its cleanup, as XML has them in content.
 fn escape_outputs(alloc: Global, body: &Bytes, cleanup: &Bytes) -> Result<Text, NoMemory>
     ensures { IfOk result (λ t. t ≡ escapes false (lossy body.now ++ lossy cleanup.now)) }
 {
-    let mut text = lossy(alloc, body.as_slice())?;
-    let more = lossy(alloc, cleanup.as_slice())?;
-    text.push_str(more.as_str())?;
-    escape(alloc, false, &text)
+    let mut escaped = Text::new(alloc);
+    push_output(alloc, &mut escaped, body.as_slice())?;
+    push_output(alloc, &mut escaped, cleanup.as_slice())?;
+    Ok(escaped)
 }
 
 /// The texts of an entry with these outputs, as XML has them.
@@ -110,9 +131,9 @@ pub fn case_texts(
     let mut reason = Text::new(alloc);
     entry.verdict.write_reason(&mut reason)?;
     Ok(CaseTexts {
-        program: escape(alloc, true, &entry.program)?,
-        case_name: escape(alloc, true, &entry.case_name)?,
-        reason: escape(alloc, true, &reason)?,
+        program: escape(alloc, &entry.program)?,
+        case_name: escape(alloc, &entry.case_name)?,
+        reason: escape(alloc, &reason)?,
         out: escape_outputs(alloc, &body.out, &cleanup.out)?,
         err: escape_outputs(alloc, &body.err, &cleanup.err)?,
     })

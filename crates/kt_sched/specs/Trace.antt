@@ -15,13 +15,13 @@ pub data Trace : Type 0 where
   NoEvent : Trace
   Then : (before : Trace) (event : Event) → Trace
 
--- the answers lead a launcher from the first state to the second; each start was lent the plan's job
-abbrev pub Leads : {L : Type 0} → (L → Job → Role → StartAnswer → L → Type 0) → (L → Ended → L → Type 0) → List Job → Trace → L → L → Type 0
-Leads starts waits plan NoEvent old new = new ≡ old
-Leads {L} starts waits plan (Then T (Start i role answer)) old new =
-    (mid : L) × (job : Job) × Leads starts waits plan T old mid × (slice_get plan i ≡ Some job) × starts mid job role answer new
-Leads {L} starts waits plan (Then T (End ended)) old new =
-    (mid : L) × Leads starts waits plan T old mid × waits mid ended new
+-- over a launcher whose starts and waits are related so
+module _ {L : Type 0} (starts : L → Job → Role → StartAnswer → L → Type 0) (waits : L → Ended → L → Type 0) (plan : List Job) where
+  -- the answers lead from the first state to the second; each start was lent the plan's job
+  abbrev pub Leads : Trace → L → L → Type 0
+  Leads NoEvent old new = new ≡ old
+  Leads (Then T (Start i role answer)) old new = (mid : L) × (job : Job) × Leads T old mid × (slice_get plan i ≡ Some job) × starts mid job role answer new
+  Leads (Then T (End ended)) old new = (mid : L) × Leads T old mid × waits mid ended new
 
 -- how many events there are
 abbrev pub event_count : Trace → ℕ

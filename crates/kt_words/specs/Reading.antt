@@ -34,12 +34,12 @@ is_true (Some word) = bytes_eq word (codes "true")
 abbrev pub results_in : List Row → List ℕ
 results_in rows = text_or (codes "kyua.db") (codes "results") rows
 
--- the run: none without its option, else the number that its word is, where it is one
+-- the run: none without its option, else the number that its word spells, if it does
 abbrev pub run_of : Option Text → Option (Option ℕ)
 run_of None = Some None
 run_of (Some word) = option_map Some (run_named word)
 
--- the kinds: the default, or those that the word names, where it names kinds
+-- the kinds: the default, or those that the word names, if it names kinds
 abbrev pub kinds_of : Option Text → Option (List Kind)
 kinds_of None = Some default_kinds
 kinds_of (Some word) = kinds_named (comma_words word)

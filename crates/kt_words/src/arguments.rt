@@ -128,10 +128,10 @@ fn verbose_word<'a>(alloc: Global) -> Arg<'a>
         .help("Shows the properties of each case beneath its line, defaults included")
 }
 
-/// What is said of a command line so far, unless memory ran out.
+/// A command line as it is built, unless memory ran out.
 type Line<'a> = Result<clap::Command<'a>, NoMemory>;
 
-/// Two values that were made.
+/// Both values, or the first refusal.
 fn both<A: Drop, B: Drop>(
     first: Result<A, NoMemory>,
     second: Result<B, NoMemory>,
@@ -141,7 +141,7 @@ fn both<A: Drop, B: Drop>(
     Ok((first?, second?))
 }
 
-/// A command line with one more option, which is its own alone.
+/// A command line with one more option, which is not global.
 fn with_option<'a>(line: Line<'a>, option: Arg<'a>) -> Line<'a>
     requires { option.global ≡ false }
     ensures app { (app : App) → (rule : Rule) → rule_of option.entry ≡ rule
@@ -153,7 +153,7 @@ fn with_option<'a>(line: Line<'a>, option: Arg<'a>) -> Line<'a>
     Ok(line.arg(option)?)
 }
 
-/// A command line with one more command, whose options are its own alone.
+/// A command line with one more command. Its options are not global.
 fn with_command<'a>(line: Line<'a>, command: Line<'a>) -> Line<'a>
     requires { IfOk command (λ c. (fields_of c).has_globals ≡ false) }
     ensures app { (app : App) → (sub : App) → IfOk command.entry (λ c. app_of c ≡ sub)
@@ -165,7 +165,7 @@ fn with_command<'a>(line: Line<'a>, command: Line<'a>) -> Line<'a>
     Ok(line.subcommand(command)?)
 }
 
-/// A command, whose help ends with where the options stand that it doesn't name itself.
+/// A command. Its help ends with a line about the options that stand before it.
 fn command_words<'a>(alloc: Global, name: &'a str, about: &'a str) -> Line<'a>
     ensures app { IfOk result (λ c. app_of c ≡ new_app name.entry.now) }
     ensures own { IfOk result (λ c. (fields_of c).has_globals ≡ false) }
@@ -241,7 +241,7 @@ fn junit_words<'a>(alloc: Global) -> Line<'a>
     with_option(line, run_word(alloc))
 }
 
-/// The program, whose words hold no name of its own and name one of its commands.
+/// The program. Its words don't include its own name, and must name a command.
 fn program_words<'a>(alloc: Global) -> Line<'a>
     ensures app { IfOk result (λ c. app_of c ≡ bare_app) }
     ensures own { IfOk result (λ c. (fields_of c).has_globals ≡ false) }

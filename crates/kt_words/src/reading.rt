@@ -30,7 +30,8 @@ fn words_of<'b, 'a>(matches: &'b ArgMatches<'a>, name: &str) -> Option<&'b [&'a 
     matches.get_strs(name)
 }
 
-/// The value of an option, or the text that stands for it.
+/// The value of an option, or its default. `clap` has the same default, prints it in its help, and fills it in; that it
+/// does so for each option isn't proved, so the default stands here too.
 fn text_or<'a>(
     alloc: Global,
     matches: &ArgMatches<'a>,
@@ -60,7 +61,7 @@ fn text_given<'a>(
     }
 }
 
-/// Words, in their order.
+/// A copy of each word, in order.
 fn texts(alloc: Global, words: &[&str]) -> Result<Items<Text>, NoMemory>
     ensures { IfOk result (λ texts. texts ≡ map (λ word. chars word.now) words.now) }
 {
@@ -99,7 +100,7 @@ fn run_of<'a>(matches: &ArgMatches<'a>) -> Result<Option<u64>, CommandFault>
     }
 }
 
-/// The kinds that are shown.
+/// The kinds to show: those that the option names, else all but passed.
 fn kinds_of<'a>(alloc: Global, matches: &ArgMatches<'a>) -> Result<Items<Kind>, CommandFault>
     ensures { ReadsShown (kinds_of (first_of (codes "kinds") (rows_of (found_of matches.now)))) result }
 {
@@ -259,7 +260,11 @@ fn read_matches<'a>(alloc: Global, matches: &ArgMatches<'a>) -> Result<Command, 
 }
 
 /// The command of these words (kyua(1)), without the program's own name. A wrong command line is refused before a wrong
-/// results filter, and that before a wrong run number.
+/// results filter, and that before a wrong run number. `--help` is a refusal too, with the help as its words.
+///
+/// Every other value is its word as it stands, empty or not: variables, filters and paths are looked at when the command
+/// is carried out. An option without its word has its default (this profile), and a report that names no run leaves it
+/// open, since the last run is known only when the results are.
 pub fn read_command<'a>(alloc: Global, words: &'a [String]) -> Result<Command, CommandFault>
     ensures value { Reads (map (λ word. string_bytes word) words.entry.now) result }
     ensures range { IfOk result HasRunNumber }

@@ -24,7 +24,7 @@ impl Past for Unknown {
     ghost path = { [] };
 }
 
-/// The host: results are kept in files of SQLite, of which `S` is one with what it held at first.
+/// The host. Results are SQLite files; `S` stands for one and for what it held at first, in contracts alone.
 #[derive(Drop)]
 struct Host<'a, S> {
     rt: &'a HostRuntime,

@@ -25,7 +25,7 @@ pub record Board : Type 0 where
   pub owed : List Case
   pub next : ℕ
 
--- these children, with what each has answered, as its counters tell it; that this is all that was heard of it EndsAreTold says
+-- these children, with what each has answered, as its counters tell it; `EndsAreTold` says that it is all that was heard
 abbrev pub alive_of : List Watched → List Alive
 alive_of children = map (λ k. record { case = k.case; limit = k.limit; heard = answered k.limit k.watch }) children
 
@@ -42,10 +42,10 @@ TakesNumber old None new = (old ≡ 2 ^ 64 - 1) × (new ≡ old)
 TakesNumber old (Some number) new = (old < 2 ^ 64 - 1) × (number ≡ old) × (new ≡ old + 1)
 
 -- The case of a start, below the root directory: a body takes the next number, a cleanup the case that is owed it.
-abbrev pub Takes : List ℕ → Board → Job → Role → Case → Board → Type 0
-Takes root old job Body c new =
+abbrev pub TakesCase : List ℕ → Board → Job → Role → Case → Board → Type 0
+TakesCase root old job Body c new =
     TakesNumber old.next (Some c.attempt) new.next × (new.owed ≡ old.owed) × (c ≡ case_of job Body old.next (paths_of root old.next))
-Takes root old job Cleanup c new =
+TakesCase root old job Cleanup c new =
     (place : ℕ) × (owed : Case) × (slice_get old.owed place ≡ Some owed) × (owed.position ≡ job.position)
     × (new.next ≡ old.next) × (new.owed ≡ remove old.owed place) × (c ≡ case_of job Cleanup owed.attempt owed.paths)
 
@@ -54,12 +54,14 @@ abbrev pub alive_after : List Alive → Job → Case → StartAnswer → List Al
 alive_after alive job c (StartedAt moment) = alive ++ record { case = c; limit = limit_of job c.role; heard = [] } ∷ []
 alive_after alive job c (RefusedFor cause) = alive
 
--- A start of a job's child: it takes its case and begins it. A body for which no number is left is refused.
-abbrev pub Starts : List ℕ → List ℕ → Board → Job → Role → List Call → StartAnswer → Board → Type 0
-Starts source root old job role calls answer new =
-    ((role ≡ Body) × (old.next ≡ 2 ^ 64 - 1) × (answer ≡ RefusedFor Directory) × (calls ≡ []) × (new ≡ old))
-    ⊎ ((c : Case) × Takes root old job role c new × Begun (spawning_of source job c) calls answer
-    × (new.alive ≡ alive_after old.alive job c answer))
+-- for programs in the directory `source`, and work directories below `root`
+module _ (source root : List ℕ) where
+  -- A start of a job's child: it takes its case and begins it. A body for which no number is left is refused.
+  abbrev pub Starts : Board → Job → Role → List Call → StartAnswer → Board → Type 0
+  Starts old job role calls answer new =
+      ((role ≡ Body) × (old.next ≡ 2 ^ 64 - 1) × (answer ≡ RefusedFor Directory) × (calls ≡ []) × (new ≡ old))
+      ⊎ ((c : Case) × TakesCase root old job role c new × Begun (spawning_of source job c) calls answer
+      × (new.alive ≡ alive_after old.alive job c answer))
 
 -- a child with one more answer
 abbrev pub hears : Alive → Heard → Alive
@@ -94,8 +96,8 @@ pub record Ends (old : Board) (calls : List Call) (e : Ended) (new : Board) : Ty
   pub owed : new.owed ≡ pending_with over.case old.owed
   pub next : new.next ≡ old.next
 
--- a wait for these children, said of the board, by names (Ends), and of the children, by places (WaitedOn): the polls, the place and the
--- outcome are the same, and the child at that place is kept no more
+-- the same wait twice: on the board, where names find a child (Ends), and in the list, where places do (WaitedOn); the polls, the place and
+-- the outcome are the same, and the child at that place is kept no more
 abbrev pub Waited : List Watched → Board → List Call → Ended → List Watched → Board → Type 0
 Waited children old calls e left new =
     (end : Ends old calls e new) × (after : List Watched) × WaitedOn children end.polls end.place e.outcome after × (left ≡ remove after end.place)

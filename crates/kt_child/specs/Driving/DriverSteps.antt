@@ -6,24 +6,24 @@ use Rattle.kt_child.specs.System.Calls.{Call}
 use Rattle.kt_child.specs.Driving.Board.{Starts, Waited, board}
 use Rattle.kt_child.specs.Driving.Lists.{ListsBy}
 
--- a job's child is started on the board, over a system whose calls are related so
-abbrev pub StartsBy : {O : Type 0} → (O → Call → O → Type 0) → Driver O → Job → Role → StartAnswer → Driver O → Type 0
-StartsBy leads old job role answer new =
-    (calls : List Call) × Chain leads old.os calls new.os × Starts old.source old.root (board old) job role calls answer (board new)
+-- over a system whose calls are related so
+module _ {O : Type 0} (leads : O → Call → O → Type 0) where
+  -- a job's child is started on the board
+  abbrev pub StartsBy : Driver O → Job → Role → StartAnswer → Driver O → Type 0
+  StartsBy old job role answer new =
+      (calls : List Call) × Chain leads old.os calls new.os × Starts old.source old.root (board old) job role calls answer (board new)
 
--- a start of a driver; where programs lie and the root directory stay
-abbrev pub DriverStarts : {O : Type 0} → (O → Call → O → Type 0) → Driver O → Job → Role → StartAnswer → Driver O → Type 0
-DriverStarts leads old job role answer new =
-    StartsBy leads old job role answer new × (new.source ≡ old.source) × (new.root ≡ old.root)
+  -- a start of a driver; where programs lie and the root directory stay
+  abbrev pub DriverStarts : Driver O → Job → Role → StartAnswer → Driver O → Type 0
+  DriverStarts old job role answer new = StartsBy old job role answer new × (new.source ≡ old.source) × (new.root ≡ old.root)
 
--- a wait: its polls go in turns, and one child ends
-abbrev pub DriverWaits : {O : Type 0} → (O → Call → O → Type 0) → Driver O → Ended → Driver O → Type 0
-DriverWaits leads old ended new =
-    ((calls : List Call) × Chain leads old.os calls new.os × Waited old.running.children (board old) calls ended new.running.children (board new))
-    × (new.source ≡ old.source) × (new.root ≡ old.root)
+  -- a wait: its polls go in turns, and one child ends
+  abbrev pub DriverWaits : Driver O → Ended → Driver O → Type 0
+  DriverWaits old ended new =
+      ((calls : List Call) × Chain leads old.os calls new.os × Waited old.running.children (board old) calls ended new.running.children (board new))
+      × (new.source ≡ old.source) × (new.root ≡ old.root)
 
--- a list of a program's cases; it leaves the running children
-abbrev pub DriverLists : {O : Type 0} → (O → Call → O → Type 0) → Driver O → List ℕ → List Variable → Listing → Driver O → Type 0
-DriverLists leads old program variables answer new =
-    ListsBy leads old program variables answer new
-    × (new.running ≡ old.running) × (new.source ≡ old.source) × (new.root ≡ old.root)
+  -- a list of a program's cases; it leaves the running children
+  abbrev pub DriverLists : Driver O → List ℕ → List Variable → Listing → Driver O → Type 0
+  DriverLists old program variables answer new =
+      ListsBy leads old program variables answer new × (new.running ≡ old.running) × (new.source ≡ old.source) × (new.root ≡ old.root)

@@ -28,11 +28,12 @@ RanList plan c calls (Ended outcome bytes) =
     (start : List Call) × (more : List Call) × (calls ≡ start ++ more)
     × SetUp plan start (Ok tt) × WatchedList plan c more outcome bytes
 
--- A list takes the next number, whatever its answer; where none is left it is refused. Where memory is refused nothing is asked.
-abbrev pub ListsBy : {O : Type 0} → (O → Call → O → Type 0) → Driver O → List ℕ → List Variable → Listing → Driver O → Type 0
-ListsBy leads old program variables answer new =
-    ((old.next ≡ 2 ^ 64 - 1) × (answer ≡ RefusedFor Directory) × (new.os ≡ old.os) × (new.next ≡ old.next))
-    ⊎ ((old.next < 2 ^ 64 - 1) × (new.next ≡ old.next + 1) × (answer ≡ RefusedFor Memory) × (new.os ≡ old.os))
-    ⊎ ((old.next < 2 ^ 64 - 1) × (new.next ≡ old.next + 1)
-    × ((calls : List Call) × Chain leads old.os calls new.os
-    × RanList (spawning_for old.source (list_purpose program variables) (list_case old.root old.next)) (list_case old.root old.next) calls answer))
+module _ {O : Type 0} (leads : O → Call → O → Type 0) where
+  -- A list takes the next number, whatever its answer; where none is left it is refused. Where memory is refused nothing is asked.
+  abbrev pub ListsBy : Driver O → List ℕ → List Variable → Listing → Driver O → Type 0
+  ListsBy old program variables answer new =
+      ((old.next ≡ 2 ^ 64 - 1) × (answer ≡ RefusedFor Directory) × (new.os ≡ old.os) × (new.next ≡ old.next))
+      ⊎ ((old.next < 2 ^ 64 - 1) × (new.next ≡ old.next + 1) × (answer ≡ RefusedFor Memory) × (new.os ≡ old.os))
+      ⊎ ((old.next < 2 ^ 64 - 1) × (new.next ≡ old.next + 1)
+      × ((calls : List Call) × Chain leads old.os calls new.os
+      × RanList (spawning_for old.source (list_purpose program variables) (list_case old.root old.next)) (list_case old.root old.next) calls answer))

@@ -17,16 +17,17 @@ same_child a b = (a.attempt == b.attempt) && same_role a.role b.role
 abbrev pub Stand : Type 0
 Stand = Option (Option ExitStatus)
 
-abbrev pub stand_of : {P I O E : Type 0} → HostChild P I O E → Stand
-stand_of h = option_map child_status h.process
+module _ {P I O E : Type 0} where
+  abbrev pub stand_of : HostChild P I O E → Stand
+  stand_of h = option_map child_status h.process
 
--- how the child with a name stands; one that isn't among them has no process
-abbrev pub stand_in : {P I O E : Type 0} → List (Child × HostChild P I O E) → Child → Stand
-stand_in held c = option_and_then stand_of (lookup (same_child c) held)
+  -- how the child with a name stands; one that isn't among them has no process
+  abbrev pub stand_in : List (Child × HostChild P I O E) → Child → Stand
+  stand_in held c = option_and_then stand_of (lookup (same_child c) held)
 
--- The child whose end was reported last: it has this name, and its process has this status.
-abbrev pub IsLastEnd : {P I O E : Type 0} → Option (Child × HostChild P I O E) → Child → ExitStatus → Type 0
-IsLastEnd last child status = IsSomeAnd last (λ h. (h.0 ≡ child) × (stand_of h.1 ≡ Some (Some status)))
+  -- The child whose end was reported last: it has this name, and its process has this status.
+  abbrev pub IsLastEnd : Option (Child × HostChild P I O E) → Child → ExitStatus → Type 0
+  IsLastEnd last child status = IsSomeAnd last (λ h. (h.0 ≡ child) × (stand_of h.1 ≡ Some (Some status)))
 
 -- A child's state only moves forward: no process, running, ended.
 abbrev pub Proceeds : Stand → Stand → Type 0

@@ -18,15 +18,16 @@ IsLateAt now h =
     (h.seen ≡ false) × IsSome h.process
     × IsSomeAnd h.pace.started (λ start. IsLate h.pace.limit h.pace.told ((instant_nanos now - instant_nanos start) / 1000000))
 
--- some child is
-abbrev pub IsAnyLate : {P I O E : Type 0} → List (Child × HostChild P I O E) → Instant → Type 0
-IsAnyLate held now = (place : ℕ) × IsSomeAnd (slice_get (values_of held) place) (IsLateAt now)
+module _ {P I O E : Type 0} (held : List (Child × HostChild P I O E)) where
+  -- some of these children is
+  abbrev pub IsAnyLate : Instant → Type 0
+  IsAnyLate now = (place : ℕ) × IsSomeAnd (slice_get (values_of held) place) (IsLateAt now)
 
--- what a look sees at the time of the clock; none is late if that fails
-abbrev pub Sees : {P I O E : Type 0} → List (Child × HostChild P I O E) → Result Instant Error → Bool → Type 0
-Sees held (Ok now) late = IsTrue late ↔ IsAnyLate held now
-Sees held (Err error) late = late ≡ false
+  -- what a look sees at the time of the clock; none is late if that fails
+  abbrev pub Sees : Result Instant Error → Bool → Type 0
+  Sees (Ok now) late = IsTrue late ↔ IsAnyLate now
+  Sees (Err error) late = late ≡ false
 
--- what a look at these children saw is kept or forgotten, or they are looked at anew
-abbrev pub Looks : {P I O E : Type 0} → List (Child × HostChild P I O E) → Option Bool → Option Bool → Type 0
-Looks held old new = (new ≡ old) ⊎ (new ≡ None) ⊎ ((late : Bool) × (new ≡ Some late) × (time : Result Instant Error) × Sees held time late)
+  -- what a look at these children saw is kept or forgotten, or they are looked at anew
+  abbrev pub Looks : Option Bool → Option Bool → Type 0
+  Looks old new = (new ≡ old) ⊎ (new ≡ None) ⊎ ((late : Bool) × (new ≡ Some late) × (time : Result Instant Error) × Sees time late)

@@ -21,8 +21,8 @@ abbrev pub IsOn : Watched → Type 0
 IsOn k = IsOnBy k.limit k.watch
 
 -- a reader that has taken some bytes has taken these after them
-abbrev pub Takes : {R : Type 0} → (R → List ℕ → Type 0) → R → R → List ℕ → Type 0
-Takes has_taken old new bytes = (taken : List ℕ) → has_taken old taken → has_taken new (taken ++ bytes)
+abbrev pub TakesBytes : {R : Type 0} → (R → List ℕ → Type 0) → R → R → List ℕ → Type 0
+TakesBytes has_taken old new bytes = (taken : List ℕ) → has_taken old taken → has_taken new (taken ++ bytes)
 
 abbrev pub one_if : Bool → ℕ
 one_if true = 1

@@ -1,5 +1,5 @@
 ghost use Rattle.std.specs.Prelude.{◌≡◌, ℕ, ◌+◌, ◌<◌, List, [], Result, Some, length, Ok, IfNone, OnOk, OnErr};
-ghost use Rattle.kt_child.specs.Common.{FileRead, OsFault, Chain, Call, bytes_of, Takes, IsEnd, Reads, end_of, next_part};
+ghost use Rattle.kt_child.specs.Common.{FileRead, OsFault, Chain, Call, bytes_of, TakesBytes, IsEnd, Reads, end_of, next_part};
 
 use crate::ending::ReadEnd;
 use crate::{FileRead, Os};
@@ -9,14 +9,14 @@ use kt_claim::{ClaimReader, TapReader};
 /// What takes the bytes of a file part by part.
 pub(crate) trait PartReader {
     ghost use Rattle.std.specs.Prelude.{ℕ, List, OnOk};
-    ghost use Rattle.kt_child.specs.Inner.Children.{Takes};
+    ghost use Rattle.kt_child.specs.Inner.Children.{TakesBytes};
 
     /// Whether these bytes, and no others, were taken.
     ghost has_taken: { Self → List ℕ → Type 0 };
 
     /// Takes the next part.
     fn take(&mut self, part: &[u8]) -> Result<(), NoMemory>
-        ensures { OnOk result (Takes has_taken self.old self.new part.now) };
+        ensures { OnOk result (TakesBytes has_taken self.old self.new part.now) };
 }
 
 impl PartReader for ClaimReader {
@@ -62,7 +62,7 @@ fn count_part(got: &mut u64, bytes: &Bytes, follows: bool, limit: u64) -> Option
 
 /// Passes bytes to the reader. No bytes leave it as it is, and take no memory.
 fn hand<R: PartReader>(reader: &mut R, bytes: &Bytes) -> Result<(), NoMemory>
-    ensures ok { OnOk result (Takes R.has_taken reader.old reader.new bytes.now) }
+    ensures ok { OnOk result (TakesBytes R.has_taken reader.old reader.new bytes.now) }
     ensures err { OnErr result (0 < length bytes.now) }
 {
     if bytes.is_empty() {
@@ -76,8 +76,8 @@ fn take<R: PartReader>(reader: &mut R, got: &mut u64, read: FileRead, limit: u64
     requires { got.old < limit }
     ensures end { IsEnd limit got.old (Ok read) result }
     ensures whole { result ≡ Some ReadEnd.Complete
-        → Takes R.has_taken reader.old reader.new (bytes_of (Ok read)) }
-    ensures taken { IfNone result (Takes R.has_taken reader.old reader.new (bytes_of (Ok read))) }
+        → TakesBytes R.has_taken reader.old reader.new (bytes_of (Ok read)) }
+    ensures taken { IfNone result (TakesBytes R.has_taken reader.old reader.new (bytes_of (Ok read))) }
     ensures more { IfNone result ((got.new ≡ got.old + length (bytes_of (Ok read)))
         × (got.old < got.new) × (got.new < limit)) }
 {
@@ -105,8 +105,8 @@ fn read_next<O: Os, R: PartReader>(
         × O.leads os.old (next_part path.now part limit got.old answer) os.new
         × IsEnd limit got.old answer result
         × (result ≡ Some ReadEnd.Complete
-        → Takes R.has_taken reader.old reader.new (bytes_of answer))
-        × IfNone result (Takes R.has_taken reader.old reader.new (bytes_of answer))
+        → TakesBytes R.has_taken reader.old reader.new (bytes_of answer))
+        × IfNone result (TakesBytes R.has_taken reader.old reader.new (bytes_of answer))
         × IfNone result (got.new ≡ got.old + length (bytes_of answer)) }
     ensures more { IfNone result ((got.old < got.new) × (got.new < limit)) }
 {

@@ -23,9 +23,9 @@ DebugEnds plan T entries (Ok totals) = AllRecorded plan 1 T entries × Counts en
 DebugEnds plan T entries (Err (NoMemory refusal)) = (T ≡ NoEvent) × (entries ≡ [])
 DebugEnds plan T entries (Err (SinkFailed fault)) = ⊥
 
-module _ {L : Type 0} (l : launcher.Ghosts L) where
+module _ {L : Type 0} (l : launcher.Ghosts L) (plan : List Job) where
   -- a plan was run one case at a time, and each case printed
-  pub record Debugged (plan : List Job) (old new : L) (was now : Option (List ℕ)) (failed : Bool) (answer : Result Totals RunFault) : Type 0 where
+  pub record Debugged (old new : L) (was now : Option (List ℕ)) (failed : Bool) (answer : Result Totals RunFault) : Type 0 where
     pub trace : Trace
     pub leads : Leads l.starts l.waits plan trace old new
     pub entries : List Entry

@@ -29,13 +29,14 @@ pub record Recording (R : Type 0) : Type 0 where
   pub failed : Bool
   pub held : Option (List ℕ)
 
--- the same, made of its parts
+-- a recording of these parts
 abbrev pub recording : {R : Type 0} → R → ℕ → Bool → Option (List ℕ) → Recording R
 recording store number failed held = record { store = store; number = number; failed = failed; held = held }
 
--- the store took the entry and its line was given to the writer, or the store refused it and nothing was written
-abbrev pub Recorded : {R : Type 0} → keeping.Ghosts R → Recording R → Entry → Result (Unit {0}) SinkFault → Recording R → Type 0
-Recorded r old e (Ok x) new =
-    (new.number ≡ old.number) × Stored r (Put old.number e (Ok tt) ∷ []) old.store new.store × Says old.held old.failed new.held new.failed (line_bytes e)
-Recorded r old e (Err f) new =
-    (new.number ≡ old.number) × ((fault : StoreFault) × (f ≡ sink_fault_of fault) × Stored r (Put old.number e (Err fault) ∷ []) old.store new.store) × (new.failed ≡ old.failed) × (new.held ≡ old.held)
+module _ {R : Type 0} (r : keeping.Ghosts R) where
+  -- the store took the entry and its line was given to the writer, or the store refused it and nothing was written
+  abbrev pub Recorded : Recording R → Entry → Result (Unit {0}) SinkFault → Recording R → Type 0
+  Recorded old e (Ok x) new =
+      (new.number ≡ old.number) × Stored r (Put old.number e (Ok tt) ∷ []) old.store new.store × Says old.held old.failed new.held new.failed (line_bytes e)
+  Recorded old e (Err f) new =
+      (new.number ≡ old.number) × ((fault : StoreFault) × (f ≡ sink_fault_of fault) × Stored r (Put old.number e (Err fault) ∷ []) old.store new.store) × (new.failed ≡ old.failed) × (new.held ≡ old.held)

@@ -25,29 +25,30 @@ pub record RecordedAll (plan : List Job) (n : ℕ) (T : Trace) (entries : List E
   pub counts : Counts entries totals
   pub taken : last ≡ []
 
--- the put of the next entry was refused, and the fault is that of this refusal
-pub record RecordedSome (plan : List Job) (n number : ℕ) (T : Trace) (entries : List Entry) (last : List StoreCall) (fault : SinkFault) : Type 0 where
-  pub entry : Entry
-  pub refusal : StoreFault
-  pub told : fault ≡ sink_fault_of refusal
-  pub one : last ≡ Put number entry (Err refusal) ∷ []
-  pub stopped : IsStopped plan n T entries entry
-
 -- memory ran out before the first call, and nothing was recorded
 pub record RecordedNone (T : Trace) (entries : List Entry) (last : List StoreCall) : Type 0 where
   pub events : T ≡ NoEvent
   pub none : entries ≡ []
   pub taken : last ≡ []
 
--- how a recording ended, by its answer
-abbrev pub RecordEnds : List Job → ℕ → ℕ → Trace → List Entry → List StoreCall → Result Totals RunFault → Type 0
-RecordEnds plan n number T entries last (Ok totals) = RecordedAll plan n T entries last totals
-RecordEnds plan n number T entries last (Err (SinkFailed fault)) = RecordedSome plan n number T entries last fault
-RecordEnds plan n number T entries last (Err (NoMemory refusal)) = RecordedNone T entries last
+module _ (plan : List Job) (n number : ℕ) (T : Trace) (entries : List Entry) (last : List StoreCall) where
+  -- the put of the next entry was refused, and the fault is that of this refusal
+  pub record RecordedSome (fault : SinkFault) : Type 0 where
+    pub entry : Entry
+    pub refusal : StoreFault
+    pub told : fault ≡ sink_fault_of refusal
+    pub one : last ≡ Put number entry (Err refusal) ∷ []
+    pub stopped : IsStopped plan n T entries entry
 
-module _ {L R : Type 0} (l : launcher.Ghosts L) (r : keeping.Ghosts R) where
+  -- how a recording ended, by its answer
+  abbrev pub RecordEnds : Result Totals RunFault → Type 0
+  RecordEnds (Ok totals) = RecordedAll plan n T entries last totals
+  RecordEnds (Err (SinkFailed fault)) = RecordedSome fault
+  RecordEnds (Err (NoMemory refusal)) = RecordedNone T entries last
+
+module _ {L R : Type 0} (l : launcher.Ghosts L) (r : keeping.Ghosts R) (plan : List Job) (n number : ℕ) where
   -- the launcher's answers, and the entries that were put into the run of a number and printed, in the order of the puts, and the put that was refused
-  pub record Records (plan : List Job) (n number : ℕ) (old new : Scene L R) (answer : Result Totals RunFault) (failed : Bool) : Type 0 where
+  pub record Records (old new : Scene L R) (answer : Result Totals RunFault) (failed : Bool) : Type 0 where
     pub trace : Trace
     pub leads : Leads l.starts l.waits plan trace old.world new.world
     pub entries : List Entry

@@ -19,16 +19,16 @@ abbrev pub JunitOrUnread : Option ℕ → List StoreCall → List ℕ → ℕ �
 JunitOrUnread number calls bytes exit = Unread number false calls bytes exit ⊎ JunitCut number calls bytes exit
 
 module _ {R : Type 0} (r : keeping.Ghosts R) where
-  -- what was read of a store and printed of it, in one of two ways
-  pub record DidReport (store after : R) (was now : Option (List ℕ)) (exit : ℕ) (Means Cut : List StoreCall → List ℕ → ℕ → Type 0) : Type 0 where
-    pub calls : List StoreCall
-    pub stored : Stored r calls store after
-    pub bytes : List ℕ
-    pub due : ℕ
-    pub is : Means calls bytes due ⊎ Cut calls bytes due
-    pub printed : Printed was now exit bytes due
-
   module _ (store after : R) (was now : Option (List ℕ)) where
+    -- what was read of a store and printed of it, in one of two ways
+    pub record DidReport (exit : ℕ) (Means Cut : List StoreCall → List ℕ → ℕ → Type 0) : Type 0 where
+      pub calls : List StoreCall
+      pub stored : Stored r calls store after
+      pub bytes : List ℕ
+      pub due : ℕ
+      pub is : Means calls bytes due ⊎ Cut calls bytes due
+      pub printed : Printed was now exit bytes due
+
     -- the outputs of an entry of the run of a number were asked for, and its case was written with them
     abbrev pub WritesCase : ℕ → Entry → Result (Unit {0}) JunitStop → Type 0
     WritesCase number e (Ok done) = (o : CaseOutputs) × Stored r (Outputs number e.position (Ok o) ∷ []) store after × Shows was now false (case_bytes (with_outputs e o.body o.cleanup))

@@ -29,8 +29,9 @@ pub data FindsRun (number : Option ℕ) (pairs : Bool) : List StoreCall → Resu
   no_heads : (fault : StoreFault) → FindsRun number pairs (Heads (Err fault) ∷ []) (Err (Refused fault))
   no_outline : (heads : List RunHead) (head : RunHead) (fault : StoreFault) → chosen number heads ≡ Some head → FindsRun number pairs (Heads (Ok heads) ∷ Outline head.number pairs (Err fault) ∷ []) (Err (Refused fault))
 
--- the calls on a store by which a run was looked for
-pub record ReadsRun {R : Type 0} (r : keeping.Ghosts R) (number : Option ℕ) (pairs : Bool) (old new : R) (answer : Result Run NotShown) : Type 0 where
-  pub calls : List StoreCall
-  pub stored : Stored r calls old new
-  pub finds : FindsRun number pairs calls answer
+module _ {R : Type 0} (r : keeping.Ghosts R) where
+  -- the calls on a store by which a run was looked for
+  pub record ReadsRun (number : Option ℕ) (pairs : Bool) (old new : R) (answer : Result Run NotShown) : Type 0 where
+    pub calls : List StoreCall
+    pub stored : Stored r calls old new
+    pub finds : FindsRun number pairs calls answer

@@ -1,11 +1,11 @@
-ghost use Rattle.std.specs.Prelude.{is_err, true};
+ghost use Rattle.std.specs.Prelude.{◌≡◌, ◌==◌, if◌then◌else◌, is_err};
 ghost use Rattle.kt_cli.specs.Common.{IsIdle, IsPlan, Debugged, HasSelected, ToldOnly};
 ghost use Rattle.kt_words.specs.declared.command.Command.TheVariants as command;
 
 use crate::Exit;
 use crate::commands::recorder::Printer;
 use crate::messages::{stopped, write_memory, write_run_fault, write_warnings};
-use crate::output::exit::{FAILED, ended, status_of};
+use crate::output::exit::{FAILED, ended};
 use kt_base::{Items, OutputFault};
 use kt_plan::{Picked, World, prepare, select_cases};
 use kt_sched::{Job, Launcher, RunFault, Totals, run_cases};
@@ -32,9 +32,16 @@ fn print_cases<L: Launcher, O: Write>(
         written: Ok(()),
     };
     let answer = run_cases(alloc, plan, 1, launcher, &mut printer);
-    // No effect when it runs: from this use the proof reads what was lent to the printer.
+    // No effect: the proof needs this use to see that what the printer borrowed is given back here.
     let _ = &*printer.out;
     (answer, printer.written)
+}
+
+/// The status of `debug`: 0 if its case is good, else 1.
+fn status_of_case(bad: u64) -> u8
+    ensures { result ≡ (if bad == 0 then 0 else 1) }
+{
+    if bad == 0 { 0 } else { 1 }
 }
 
 /// Runs the first of the selected cases alone.
@@ -46,16 +53,14 @@ fn debug_picked<W: World, O: Write>(
     out: &mut O,
 ) -> Exit
     requires { IsIdle (W.running world.old) (W.pending world.old) }
-    ensures told { (start : _) → HasSelected W.asks W.tells true options.now start picked.now world.old
+    ensures told { (start : _) → HasSelected W.World (command.Debug options.now) options.now start picked.now world.old
         → ToldOnly W.World (command.Debug options.now) start world.new
         (O.contents out.old) (O.contents out.new) result.status }
     ensures idle { IsIdle (W.running world.new) (W.pending world.new) }
 {
     let cases = picked.chosen.cases.as_slice();
     let Some((_first, _others)) = cases.split_first() else {
-        let unmatched = picked.chosen.unmatched.as_slice();
-        let warned = write_warnings(options.filters.as_slice(), unmatched, out);
-        return ended(warned, 1);
+        return ended(write_warnings(options, &picked.chosen, out), 1);
     };
     let plan = match prepare(alloc, &picked.settings.config, &cases[..1], world) {
         Ok(plan) => plan,
@@ -63,7 +68,7 @@ fn debug_picked<W: World, O: Write>(
     };
     let (answer, written) = print_cases(alloc, plan, world, out);
     match answer {
-        Ok(totals) => ended(written, status_of(totals.bad, &[])),
+        Ok(totals) => ended(written, status_of_case(totals.bad)),
         Err(fault) => ended(write_run_fault(written, fault, out), FAILED),
     }
 }

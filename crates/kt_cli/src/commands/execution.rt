@@ -1,5 +1,5 @@
-ghost use Rattle.std.specs.Prelude.{IfOk, OnErr, ◌≡◌, ℕ, List, Option, ◌⊎◌};
-ghost use Rattle.kt_cli.specs.Common.{IsIdle, Did, scene, DidAll, Run, Command, Seen, Means, CutShort, Printed, Left, Stored};
+ghost use Rattle.std.specs.Prelude.{IfOk, OnErr, ◌≡◌, ℕ, List};
+ghost use Rattle.kt_cli.specs.Common.{IsIdle, Did, Scene, scene, DidAll, Run, Command, Left};
 
 use crate::Exit;
 use crate::commands::debugging::debug;
@@ -13,7 +13,12 @@ use kt_words::Command;
 use std::alloc::Global;
 use std::io::Write;
 
-/// Does a command over a world and a store of runs, and writes its text.
+/// Executes a command over a world and a store of runs, and writes its text.
+///
+/// `test` asks its world before the store, so a fault of the configuration or of a Kyuafile begins no run. It puts an
+/// entry before it writes its line; after a failed write it goes on recording, after a refused put it only starts owed
+/// cleanups. Calls, text and exit follow from the answers, even of a store that forgets what was put; which runs there
+/// are afterwards depends on the store (`law_of_sound_stores`).
 pub fn execute<W: World, R: ResultStore, O: Write>(
     alloc: Global,
     command: &Command,
@@ -43,8 +48,8 @@ pub fn execute<W: World, R: ResultStore, O: Write>(
     }
 }
 
-/// Executes commands one after the other, and returns the exit of each. The memory for the exits is
-/// taken before the first command.
+/// Executes commands one after the other, whatever their exits, and returns these. The memory for the exits is taken
+/// before the first command, so that no command is executed whose exit is lost.
 pub fn execute_all<W: World, R: ResultStore, O: Write>(
     alloc: Global,
     commands: &[Command],
@@ -71,11 +76,10 @@ pub fn execute_all<W: World, R: ResultStore, O: Write>(
     Ok(exits)
 }
 
-/// The law of sound stores: the effect of a command's calls on the runs of a store that returns what was written. The
-/// premises are the parts of what `execute` says of each command.
-pub fn law_of_sound_stores<R: ResultStore>()
-    ensures { (seen : Seen) (c : Command) (store after : R) (was now : Option (List ℕ)) (exit : ℕ)
-        (bytes : List ℕ) (due : ℕ) (runs : List Run) → Stored R.Keeping seen.calls store after
-        → Means seen c bytes due ⊎ CutShort seen c bytes due → Printed was now exit bytes due
-        → R.stands store runs → Left R.Keeping runs store after was now exit seen c }
+/// The law of sound stores: the effect of a command, as `execute` says it, on the runs of a store that returns what was
+/// written.
+pub fn law_of_sound_stores<W: World, R: ResultStore>()
+    ensures { (c : Command) (old new : Scene W R) (exit : ℕ) (runs : List Run)
+        (did : Did W.World R.Keeping c old new exit) → R.stands old.store runs
+        → R.sound new.store → Left did runs }
 {}

@@ -1,12 +1,12 @@
-ghost use Rattle.std.specs.Prelude.{◌++◌, flat_map, is_err};
-ghost use Rattle.kt_cli.specs.Common.{Shows, utf8, IsIdle, case_line, ToldOnly, warnings};
+ghost use Rattle.std.specs.Prelude.{flat_map, is_err};
+ghost use Rattle.kt_cli.specs.Common.{Shows, utf8, IsIdle, case_line, listing, ToldOnly};
 ghost use Rattle.kt_words.specs.declared.command.Command.TheVariants as command;
 
 use crate::Exit;
 use crate::messages::{stopped, write_warnings};
 use crate::output::exit::{ended, status_of};
-use kt_base::{OutputFault, Text, emit_all};
-use kt_plan::{Candidate, World, select_cases};
+use kt_base::{OutputFault, emit_all};
+use kt_plan::{Candidate, Chosen, World, select_cases};
 use kt_words::CaseOptions;
 use std::alloc::Global;
 use std::io::Write;
@@ -31,18 +31,17 @@ fn write_cases<O: Write>(cases: &[Candidate], out: &mut O) -> Result<(), OutputF
     Ok(())
 }
 
-/// Writes the lines of cases, and warns of the filters at these positions.
+/// Writes the lines of the selected cases, and warns of the filters that select none.
 fn write_listing<O: Write>(
-    cases: &[Candidate],
-    words: &[Text],
-    unmatched: &[usize],
+    options: &CaseOptions,
+    chosen: &Chosen,
     out: &mut O,
 ) -> Result<(), OutputFault>
     ensures { Shows (O.contents out.old) (O.contents out.new) (is_err result)
-        (utf8 (flat_map case_line cases.now) ++ utf8 (warnings words.now unmatched.now)) }
+        (listing options.now.filters chosen.now) }
 {
-    write_cases(cases, out)?;
-    write_warnings(words, unmatched, out)
+    write_cases(chosen.cases.as_slice(), out)?;
+    write_warnings(options, chosen, out)
 }
 
 /// The command `list`.
@@ -59,10 +58,8 @@ pub fn list<W: World, O: Write>(
 {
     match select_cases(alloc, false, options, world) {
         Ok(picked) => {
-            let cases = picked.chosen.cases.as_slice();
-            let unmatched = picked.chosen.unmatched.as_slice();
-            let written = write_listing(cases, options.filters.as_slice(), unmatched, out);
-            ended(written, status_of(0, unmatched))
+            let written = write_listing(options, &picked.chosen, out);
+            ended(written, status_of(0, &picked.chosen))
         }
         Err(fault) => stopped(fault, out),
     }

@@ -116,8 +116,8 @@ fn write_case<R: ResultStore, O: Write>(
     Ok(())
 }
 
-/// Writes the JUnit report of a run whose entries have no outputs. At no time it holds the outputs
-/// of more than one entry.
+/// Writes the JUnit report of a run whose entries have no outputs. It never holds the outputs of
+/// more than one entry.
 fn write_junit<R: ResultStore, O: Write>(
     alloc: Global,
     run: &Run,

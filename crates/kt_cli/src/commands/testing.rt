@@ -1,5 +1,5 @@
 ghost use Rattle.std.specs.Prelude.{◌≤◌, ℕ, List, length, is_err, false};
-ghost use Rattle.kt_cli.specs.Common.{Shows, utf8, IsIdle, IsMoment, IsPlan, IsWidth, most_items, Did, Says, Records, RanPlan, scene, HasSelected, ending, planned_run, totals_text};
+ghost use Rattle.kt_cli.specs.Common.{Shows, utf8, IsIdle, IsMoment, IsPlan, IsWidth, most_items, Did, Says, Records, RanPlan, scene, HasSelected, ending, run_for, totals_text};
 ghost use Rattle.kt_words.specs.declared.command.Command.TheVariants as command;
 
 use crate::Exit;
@@ -7,7 +7,7 @@ use crate::commands::recorder::{Recorder, sink_fault};
 use crate::messages::{stopped, write_memory, write_refusal, write_run_fault, write_warnings};
 use crate::output::exit::{FAILED, ended, status_of};
 use kt_base::{Decimal, Items, OutputFault, Text, emit_all};
-use kt_plan::{Picked, World, prepare, select_cases};
+use kt_plan::{Chosen, Picked, World, prepare, select_cases};
 use kt_sched::{Job, Launcher, RunFault, Totals, run_cases};
 use kt_store::ResultStore;
 use kt_words::CaseOptions;
@@ -40,7 +40,7 @@ fn record_cases<L: Launcher, R: ResultStore, O: Write>(
         written: Ok(()),
     };
     let answer = run_cases(alloc, plan, width, launcher, &mut recorder);
-    // No effect when it runs: from these uses the proof reads what was lent to the recorder.
+    // No effect: the proof needs these uses to see that what the recorder borrowed is given back here.
     let _ = &*recorder.results;
     let _ = &*recorder.out;
     (answer, recorder.written)
@@ -72,47 +72,58 @@ fn write_totals<O: Write>(good: u64, total: u64, bad: u64, out: &mut O) -> Resul
 fn write_ending<O: Write>(
     written: Result<(), OutputFault>,
     totals: Totals,
-    words: &[Text],
-    unmatched: &[usize],
+    options: &CaseOptions,
+    chosen: &Chosen,
     out: &mut O,
 ) -> Result<(), OutputFault>
     ensures { Says (O.contents out.old) (is_err written) (O.contents out.new) (is_err result)
-        (ending totals.good totals.total totals.bad words.now unmatched.now) }
+        (ending totals.good totals.total totals.bad options.now.filters chosen.now.unmatched) }
 {
     written?;
     write_totals(totals.good, totals.total, totals.bad, out)?;
-    write_warnings(words, unmatched, out)
+    write_warnings(options, chosen, out)
 }
 
-/// Begins a run, runs its plan, `width` cases at once at most, and finishes it. `words` are the
-/// filters as they were given, and `unmatched` the positions of those that select no case.
+/// What is to be run: the plan of what these options picked, in a run that begins at this moment.
+#[derive(Drop)]
+struct PlannedRun<'a> {
+    plan: Items<Job>,
+    options: &'a CaseOptions,
+    picked: &'a Picked,
+    moment: u64,
+}
+
+/// Begins a run, runs its plan and finishes it.
 fn run_plan<L: Launcher, R: ResultStore, O: Write>(
     alloc: Global,
-    plan: Items<Job>,
-    width: u32,
-    words: &[Text],
-    unmatched: &[usize],
-    moment: u64,
+    planned: PlannedRun<'_>,
     launcher: &mut L,
     results: &mut R,
     out: &mut O,
 ) -> Exit
-    requires plan { IsPlan plan }
-    requires few { length plan ≤ most_items }
-    requires width { IsWidth width }
-    requires moment { IsMoment moment }
+    requires plan { IsPlan planned.plan }
+    requires few { length planned.plan ≤ most_items }
+    requires moment { IsMoment planned.moment }
     requires idle { IsIdle (L.running launcher.old) (L.pending launcher.old) }
     ensures ran { RanPlan L.Launcher R.Keeping
-        (planned_run plan width words.now unmatched.now moment)
+        (run_for planned.entry.plan planned.entry.options.now planned.entry.picked.now
+        planned.entry.moment)
         (scene launcher.old results.old (O.contents out.old))
         (scene launcher.new results.new (O.contents out.new)) result.status }
     ensures idle { IsIdle (L.running launcher.new) (L.pending launcher.new) }
 {
+    let PlannedRun {
+        plan,
+        options,
+        picked,
+        moment,
+    } = planned;
     let total = plan.len() as u32;
     let number = match results.begin(total, moment) {
         Ok(number) => number,
         Err(fault) => return ended(write_refusal(fault, out), FAILED),
     };
+    let width = picked.settings.config.parallelism();
     let (answer, written) = record_cases(alloc, plan, width, launcher, results, number, out);
     match answer {
         Err(fault) => ended(write_run_fault(written, fault, out), FAILED),
@@ -122,8 +133,8 @@ fn run_plan<L: Launcher, R: ResultStore, O: Write>(
                 ended(write_run_fault(written, fault, out), FAILED)
             }
             Ok(()) => {
-                let all = write_ending(written, totals, words, unmatched, out);
-                ended(all, status_of(totals.bad, unmatched))
+                let all = write_ending(written, totals, options, &picked.chosen, out);
+                ended(all, status_of(totals.bad, &picked.chosen))
             }
         },
     }
@@ -140,30 +151,26 @@ fn test_picked<W: World, R: ResultStore, O: Write>(
 ) -> Exit
     requires idle { IsIdle (W.running world.old) (W.pending world.old) }
     requires few { length picked.now.chosen.cases ≤ most_items }
-    ensures did { (file : List ℕ) (start : _)
-        → HasSelected W.asks W.tells false options.now start picked.now world.old
+    ensures did { (file : List ℕ) (start : _) → HasSelected W.World
+        (command.Test options.now file) options.now start picked.now world.old
         → Did W.World R.Keeping (command.Test options.now file)
         (scene start results.old (O.contents out.old))
         (scene world.new results.new (O.contents out.new)) result.status }
     ensures idle { IsIdle (W.running world.new) (W.pending world.new) }
 {
-    let config = &picked.settings.config;
-    let plan = match prepare(alloc, config, picked.chosen.cases.as_slice(), world) {
+    let cases = picked.chosen.cases.as_slice();
+    let plan = match prepare(alloc, &picked.settings.config, cases, world) {
         Ok(plan) => plan,
         Err(refusal) => return ended(write_memory(refusal, out), FAILED),
     };
     let moment = world.now();
-    run_plan(
-        alloc,
+    let planned = PlannedRun {
         plan,
-        config.parallelism(),
-        options.filters.as_slice(),
-        picked.chosen.unmatched.as_slice(),
+        options,
+        picked,
         moment,
-        world,
-        results,
-        out,
-    )
+    };
+    run_plan(alloc, planned, world, results, out)
 }
 
 /// The command `test`. `file` is the name of the results, which stand open already.

@@ -1,7 +1,7 @@
 ghost use Rattle.std.specs.Prelude.{Result, drop, map};
 ghost use Rattle.kt_words.specs.Common.{into_iter_items, string_bytes};
 ghost use Rattle.kt_words.specs.declared.command_fault.CommandFault.{CommandFault as Fault};
-ghost use Rattle.kt_cli.specs.Common.{CarriedOut, Command, IsSaid, given_bytes, line_state, program, state};
+ghost use Rattle.kt_cli.specs.Common.{CarriedOut, Command, IsSaid, line_state, program, state};
 
 use crate::host::performing::carry_out;
 use crate::{LineOutput, Machine, Outside, Platform};
@@ -24,8 +24,9 @@ pub fn carry_out_words<M: Machine + Drop, O: Os + Drop, P: Platform, W: Write, E
         × IsSaid (λ all. map (λ word. string_bytes word) (drop 1 (into_iter_items all))) words command
         × CarriedOut (program M.Machine O.Os P.Platform P.Results.Keeping) command
         (state platform.old outside) (state platform.new result.1)
-        (given_bytes W.contents out.old) (line_state W.contents out.new)
-        (E.contents errors.old) (E.contents errors.new) result.0 }
+        (record { out = line_state W.contents out.old; errors = E.contents errors.old })
+        (record { out = line_state W.contents out.new; errors = E.contents errors.new })
+        result.0 }
 {
     let command = read_words(outside.alloc, words);
     let by_line = match &command {

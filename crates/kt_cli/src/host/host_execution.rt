@@ -1,5 +1,5 @@
 ghost use Rattle.std.specs.Prelude.{◌≡◌, IfOk, IfErr, OnErr};
-ghost use Rattle.kt_cli.specs.Common.{chars, IsIdle, is_among, shown_in, IsMade, NoDriver, NoRoot, OnDriver, absolute, source_directory};
+ghost use Rattle.kt_cli.specs.Common.{chars, IsIdle, is_among, shown_in, IsMade, NoDriver, NoRoot, OnDriver, absolute, source_directory, scene};
 
 use crate::{Exit, HostWorld, Machine, Outside, Surroundings, execute};
 use kt_base::{NoMemory, Text, is_absolute};
@@ -53,8 +53,8 @@ fn driver_of<O: Os + Drop>(
     }
 }
 
-/// Does a command over test cases of this machine and this system, with work directories of its own,
-/// which are removed at the end. What is outside is returned.
+/// Executes a command over test cases on this machine and this system, with work directories of its
+/// own, which are removed at the end. What is outside is returned.
 pub fn execute_over_cases<M: Machine + Drop, O: Os + Drop, S: ResultStore, W: Write>(
     outside: Outside<M, O>,
     around: Surroundings,
@@ -63,9 +63,10 @@ pub fn execute_over_cases<M: Machine + Drop, O: Os + Drop, S: ResultStore, W: Wr
     results: &mut S,
     out: &mut W,
 ) -> Result<(Exit, Outside<M, O>), (DriverFault, Outside<M, O>)>
-    ensures did { IfOk result (λ done. OnDriver M.Machine O.Os outside done.1 S.Keeping around
-        options.now command.now results.old results.new (W.contents out.old) (W.contents out.new)
-        done.0.status) }
+    ensures did { IfOk result (λ done. OnDriver M.Machine O.Os S.Keeping
+        (scene outside results.old (W.contents out.old))
+        (scene done.1 results.new (W.contents out.new))
+        around options.now command.now done.0.status) }
     ensures refused { IfErr result (λ e. NoDriver O.Os outside options.now.work e.0 e.1) }
     ensures unasked { OnErr result
         ((results.new ≡ results.old) × (W.contents out.new ≡ W.contents out.old)) }

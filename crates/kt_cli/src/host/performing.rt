@@ -1,5 +1,5 @@
 ghost use Rattle.std.specs.Prelude.{◌≡◌, Some};
-ghost use Rattle.kt_cli.specs.Common.{access_of, cases_of, given_bytes, line_state, CarriedOut, DoneIn, DoneOver, Performed, program, state, Rejected};
+ghost use Rattle.kt_cli.specs.Common.{access_of, cases_of, given_bytes, line_state, CarriedOut, DoneIn, DoneOver, Performed, program, scene, state, Rejected};
 
 use crate::commands::reporting::{report, report_junit};
 use crate::host::host_execution::execute_over_cases;
@@ -14,7 +14,7 @@ use kt_store::{Access, ResultStore};
 use kt_words::{CaseOptions, Command, CommandFault};
 use std::io::Write;
 
-/// Does a command over test cases, with what is found around the process.
+/// Executes a command over test cases, with what is found around the process.
 fn perform_over_cases<M: Machine + Drop, O: Os + Drop, P: Platform, S: ResultStore, W: Write>(
     outside: Outside<M, O>,
     platform: &mut P,
@@ -24,9 +24,9 @@ fn perform_over_cases<M: Machine + Drop, O: Os + Drop, P: Platform, S: ResultSto
     out: &mut W,
 ) -> (Exit, Outside<M, O>)
     requires { cases_of command.now ≡ Some options.now }
-    ensures { DoneOver (program M.Machine O.Os P.Platform P.Results.Keeping) S.Keeping
-        command.now (state platform.old outside) (state platform.new result.1)
-        results.old results.new (W.contents out.old) (W.contents out.new) result.0.status }
+    ensures { DoneOver (program M.Machine O.Os P.Platform P.Results.Keeping) S.Keeping command.now
+        (scene (state platform.old outside) results.old (W.contents out.old))
+        (scene (state platform.new result.1) results.new (W.contents out.new)) result.0.status }
 {
     let around = match platform.surroundings() {
         Ok(around) => around,
@@ -38,7 +38,7 @@ fn perform_over_cases<M: Machine + Drop, O: Os + Drop, P: Platform, S: ResultSto
     }
 }
 
-/// Does a command over a store of runs. A report needs nothing else.
+/// Executes a command over a store of runs. A report needs nothing else.
 fn perform_over<M: Machine + Drop, O: Os + Drop, P: Platform, S: ResultStore, W: Write>(
     outside: Outside<M, O>,
     platform: &mut P,
@@ -46,9 +46,9 @@ fn perform_over<M: Machine + Drop, O: Os + Drop, P: Platform, S: ResultStore, W:
     results: &mut S,
     out: &mut W,
 ) -> (Exit, Outside<M, O>)
-    ensures { DoneOver (program M.Machine O.Os P.Platform P.Results.Keeping) S.Keeping
-        command.now (state platform.old outside) (state platform.new result.1)
-        results.old results.new (W.contents out.old) (W.contents out.new) result.0.status }
+    ensures { DoneOver (program M.Machine O.Os P.Platform P.Results.Keeping) S.Keeping command.now
+        (scene (state platform.old outside) results.old (W.contents out.old))
+        (scene (state platform.new result.1) results.new (W.contents out.new)) result.0.status }
 {
     match command {
         Command::List(options) | Command::Debug(options) | Command::Test { options, .. } => {
@@ -81,7 +81,7 @@ fn access_of(command: &Command) -> Access
     }
 }
 
-/// Does a command over the results in a file.
+/// Executes a command over the results in a file.
 fn perform_in_file<M: Machine + Drop, O: Os + Drop, P: Platform, W: Write>(
     outside: Outside<M, O>,
     platform: &mut P,
@@ -90,8 +90,8 @@ fn perform_in_file<M: Machine + Drop, O: Os + Drop, P: Platform, W: Write>(
     out: &mut W,
 ) -> (Exit, Outside<M, O>)
     ensures { DoneIn (program M.Machine O.Os P.Platform P.Results.Keeping) command.now file.now
-        (state platform.old outside) (state platform.new result.1)
-        (W.contents out.old) (W.contents out.new) result.0.status }
+        (scene (state platform.old outside) tt (W.contents out.old))
+        (scene (state platform.new result.1) tt (W.contents out.new)) result.0.status }
 {
     let mut results = match platform.open(file, access_of(command)) {
         Ok(results) => results,
@@ -131,8 +131,10 @@ pub fn perform<M: Machine + Drop, O: Os + Drop, P: Platform, W: Write>(
 /// Prints on standard error why the arguments are no command; an out-of-memory error goes to standard
 /// output, as every other message.
 fn reject<W: Write, E: Write>(fault: &CommandFault, out: &mut LineOutput<W>, errors: &mut E) -> Exit
-    ensures { Rejected fault.now (given_bytes W.contents out.old) (line_state W.contents out.new)
-        (E.contents errors.old) (E.contents errors.new) result.status }
+    ensures { Rejected fault.now
+        (record { out = line_state W.contents out.old; errors = E.contents errors.old })
+        (record { out = line_state W.contents out.new; errors = E.contents errors.new })
+        result.status }
 {
     match fault {
         CommandFault::NoMemory(_) => {
@@ -143,8 +145,8 @@ fn reject<W: Write, E: Write>(fault: &CommandFault, out: &mut LineOutput<W>, err
     }
 }
 
-/// Carries out a command line: performs its command, or prints why it is none. What is outside is returned, as all
-/// that was asked of it left it.
+/// Carries out a command line: performs its command, or prints why it is none. Returns what is outside, as the calls
+/// left it.
 pub fn carry_out<M: Machine + Drop, O: Os + Drop, P: Platform, W: Write, E: Write>(
     outside: Outside<M, O>,
     platform: &mut P,
@@ -154,8 +156,9 @@ pub fn carry_out<M: Machine + Drop, O: Os + Drop, P: Platform, W: Write, E: Writ
 ) -> (Exit, Outside<M, O>)
     ensures { CarriedOut (program M.Machine O.Os P.Platform P.Results.Keeping) command
         (state platform.old outside) (state platform.new result.1)
-        (given_bytes W.contents out.old) (line_state W.contents out.new)
-        (E.contents errors.old) (E.contents errors.new) result.0.status }
+        (record { out = line_state W.contents out.old; errors = E.contents errors.old })
+        (record { out = line_state W.contents out.new; errors = E.contents errors.new })
+        result.0.status }
 {
     match command {
         Ok(command) => perform(outside, platform, &command, out),

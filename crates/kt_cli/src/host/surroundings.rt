@@ -27,7 +27,7 @@ pub struct Surroundings {
     pub user: Option<Text>,
 }
 
-/// The value of a variable, by what the system told of it and the buffer that it filled.
+/// The value of a variable, from the answer of the system and the buffer that it filled.
 fn value_of(
     alloc: Global,
     told: Result<usize, FillError>,
@@ -59,7 +59,7 @@ fn variable<R: Env + AllocGlobal>(
     value_of(rt.alloc(), told, room)
 }
 
-/// The absolute working directory, by what the system told of it.
+/// The absolute working directory, from the answer of the system.
 fn here_of(alloc: Global, told: io::Result<PathBuf>) -> Result<Text, DriverFault>
     ensures { IsHere (result_map_both path_buf_bytes (λ error. error) told) result }
 {

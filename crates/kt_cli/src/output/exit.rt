@@ -2,6 +2,7 @@ ghost use Rattle.std.specs.Prelude.{◌≡◌, if◌then◌else◌, is_err};
 ghost use Rattle.kt_cli.specs.Testing.{exit_of};
 
 use kt_base::OutputFault;
+use kt_plan::Chosen;
 
 /// The status of a command that failed.
 pub const FAILED: u8 = 2;
@@ -23,9 +24,10 @@ pub fn ended(written: Result<(), OutputFault>, due: u8) -> Exit
 }
 
 /// The status of a command over cases: 0 if no case is bad and every filter selects some, else 1.
-pub fn status_of(bad: u64, unmatched: &[usize]) -> u8
-    ensures { result ≡ exit_of bad unmatched.now }
+pub fn status_of(bad: u64, chosen: &Chosen) -> u8
+    ensures { result ≡ exit_of bad chosen.now.unmatched }
 {
+    let unmatched = chosen.unmatched.as_slice();
     if bad == 0 && unmatched.is_empty() {
         0
     } else {

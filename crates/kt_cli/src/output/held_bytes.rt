@@ -23,7 +23,7 @@ impl Model for HeldBytes {
 }
 
 impl HeldBytes {
-    /// No byte.
+    /// An empty buffer.
     pub fn new() -> HeldBytes
         ensures { result ≡ [] }
     {
@@ -58,7 +58,7 @@ impl HeldBytes {
         self.count = count + more.len();
     }
 
-    /// Lets go of the first bytes, and moves the rest to the front.
+    /// Drops the first bytes, and moves the rest to the front.
     pub fn let_go(&mut self, amount: usize)
         requires { amount ≤ length self.old }
         ensures { self.new ≡ drop amount self.old }

@@ -71,7 +71,7 @@ impl<W: Write> LineOutput<W> {
 
     /// Sets whether each line is written when it is complete.
     pub fn set_by_line(&mut self, by_line: bool)
-        ensures { given_bytes W.contents self.new ≡ given_bytes W.contents self.old }
+        ensures { line_state W.contents self.new ≡ line_state W.contents self.old }
     {
         self.by_line = by_line;
     }
@@ -83,7 +83,7 @@ impl<W: Write> LineOutput<W> {
         self.failed || self.unflushed.is_some()
     }
 
-    /// The exit of a command that wrote here: what is still held is written, and where that fails the exit is 2.
+    /// The exit of a command that wrote here: what is still held is written, and if that fails the exit is 2.
     pub fn finish(&mut self, exit: Exit) -> Exit
         ensures { Flushed (given_bytes W.contents self.old) (line_state W.contents self.new)
             exit.status result.status }

@@ -28,7 +28,7 @@ impl MemRuns {
     ghost use Rattle.std.specs.Prelude.{◌≡◌, [], IfErr};
     ghost use Rattle.kt_cli.specs.Common.{IsStoreFault, Began, Put, Finished, Heads, Outline, Outputs, seen_as, FindsPlace, ServesInMemory};
 
-    /// No runs, which take no memory.
+    /// No runs. Allocates nothing.
     pub fn new(alloc: Global) -> MemRuns
         ensures { result ≡ [] }
     {

@@ -12,7 +12,7 @@ use Rattle.kt_plan.specs.Stops.{IsShort}
 use Rattle.kt_plan.specs.Told.{Told, Lists}
 use Rattle.kt_plan.specs.Collecting.{Collects, CollectsFirst, variables_for}
 
--- the first question for them, where memory ran out: the list is asked for, or not yet
+-- the first question for them, if memory ran out: the list is asked for, or not yet
 pub data ListsFirst (config : Values) (program : Program) : List Told → Type 0 where
   before_list : ListsFirst config program []
   after_list : (listing : Listing) → ListsFirst config program (Lists program (variables_for config program.suite) listing ∷ [])
@@ -21,11 +21,12 @@ pub data ListsFirst (config : Values) (program : Program) : List Told → Type 0
 abbrev pub CollectsOrShort : Settings → List ℕ → List Asked → List Told → Result Chosen Stop → Type 0
 CollectsOrShort settings kyuafile asked told result = (IsShort result × CollectsFirst settings kyuafile asked told) ⊎ Collects settings kyuafile asked told result
 
--- a world was asked for the tree and then for the lists, and this came of it
-pub record Collected {W : Type 0} (asks : W → Asked → W → Type 0) (tells : W → Told → W → Type 0) (settings : Settings) (kyuafile : List ℕ) (old new : W) (result : Result Chosen Stop) : Type 0 where
-  pub asked : List Asked
-  pub told : List Told
-  pub loaded : W
-  pub chain : Chain asks old asked loaded
-  pub lists : Chain tells loaded told new
-  pub holds : CollectsOrShort settings kyuafile asked told result
+module _ {W : Type 0} (asks : W → Asked → W → Type 0) (tells : W → Told → W → Type 0) where
+  -- a world was asked for the tree and then for the lists, and this came of it
+  pub record Collected (settings : Settings) (kyuafile : List ℕ) (old new : W) (result : Result Chosen Stop) : Type 0 where
+    pub asked : List Asked
+    pub told : List Told
+    pub loaded : W
+    pub chain : Chain asks old asked loaded
+    pub lists : Chain tells loaded told new
+    pub holds : CollectsOrShort settings kyuafile asked told result

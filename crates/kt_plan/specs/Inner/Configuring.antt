@@ -40,7 +40,7 @@ pub record Configured (Means : Result (List Definition) Stop → Type 0) (outcom
 abbrev pub GivesMore : Values → Result Values Stop → Result (List Definition) Stop → Type 0
 GivesMore config outcome meant = (before : List Definition) → Holds config before → Gives outcome (behind before meant)
 
--- the same of one definition
+-- whatever definitions a configuration has, this one comes after them
 abbrev pub GivesOne : Values → Result Values Stop → Result Definition Stop → Type 0
 GivesOne config outcome meant = GivesMore config outcome (in_front meant (Ok []))
 

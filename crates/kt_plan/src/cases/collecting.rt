@@ -70,6 +70,10 @@ fn tree_stop(fault: SuiteFault) -> Stop
 
 /// The selected cases of a tree: the Kyuafiles are read, each ATF program that some filter may match is asked for its
 /// list, one after the other, and the filters select among all cases (kyua(1)).
+///
+/// The whole tree is read first, so a faulty Kyuafile starts no program. A list that can't be had is no fault: it makes
+/// one case, which will be broken, so that the other programs are still tested. The limit of 100,000 holds before the
+/// filters select, and is looked at after the last list.
 pub fn collect<W: World>(
     alloc: Global,
     settings: &Settings,

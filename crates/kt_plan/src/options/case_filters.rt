@@ -73,7 +73,7 @@ fn lacks_case(needs_case: bool, filters: &[Filter]) -> bool
 }
 
 /// The filters of words. The first word that is no filter is refused, then the first filter that shares a case with an
-/// earlier one, and then, where a case is needed, what isn't one filter of one case.
+/// earlier one, and then, if a case is needed, anything but one filter of one case.
 pub fn read_filters(alloc: Global, needs_case: bool, words: &[Text]) -> Result<Items<Filter>, Stop>
     ensures { IsShort result ⊎ Filters needs_case words.now result }
 {

@@ -1,9 +1,9 @@
-ghost use Rattle.std.specs.Prelude.{◌∷◌, [], MatchResult};
-ghost use Rattle.kt_plan.specs.Common.{effective, needed, Answered, Notes, LooksFor, meta_in, needs_among, needs_by, needs_in, needs_of, Surveys, SurveysFirst, AreFirst, Finds, IsIdle};
+ghost use Rattle.std.specs.Prelude.{◌≡◌, ◌∷◌, [], MatchResult};
+ghost use Rattle.kt_plan.specs.Common.{Answered, Notes, LooksFor, meta_in, needs_among, needs_by, needs_in, needs_of, Surveys, SurveysFirst, AreFirst, Finds, IsIdle};
 
 use crate::{Candidate, World};
 use kt_base::{NoMemory, Text};
-use kt_metadata::{Host, Need, Props};
+use kt_metadata::{Host, Need};
 use std::alloc::Global;
 
 /// Asks whether a required file or program is found.
@@ -51,42 +51,18 @@ fn look_for_words<W: World>(
     Ok(())
 }
 
-/// Asks for all of a kind that a case requires, and notes what is there.
-fn look_for_need<W: World>(
-    need: &Need,
-    props: &Props,
-    world: &mut W,
-    host: &mut Host,
-) -> Result<(), NoMemory>
-    ensures { Answered W.tells world.old world.new (λ told. MatchResult result
-        (λ _. LooksFor (needs_in need.now (needed need.now (effective props.now))) told
-        × Notes told host.old host.new)
-        (λ _. AreFirst (LooksFor (needs_in need.now (needed need.now (effective props.now))))
-        told)) }
+/// The kinds of what a case may require, none if its list has a fault.
+fn kinds_of(candidate: &Candidate) -> &'static [Need]
+    ensures { needs_among result.now (meta_in candidate.now)
+        ≡ needs_by candidate.now.case.fault (meta_in candidate.now) }
 {
-    look_for_words(*need, props.needed(*need), world, host)?;
-    Ok(())
-}
-
-/// Asks for all of these kinds that a case requires, and notes what is there.
-fn look_for_needs<W: World>(
-    needs: &[Need],
-    props: &Props,
-    world: &mut W,
-    host: &mut Host,
-) -> Result<(), NoMemory>
-    ensures { Answered W.tells world.old world.new (λ told. MatchResult result
-        (λ _. LooksFor (needs_among needs.now (effective props.now)) told
-        × Notes told host.old host.new)
-        (λ _. AreFirst (LooksFor (needs_among needs.now (effective props.now))) told)) }
-{
-    for need in needs {
-        look_for_need(need, props, world, host)?;
+    match &candidate.case.fault {
+        Some(_fault) => &[],
+        None => Need::all(),
     }
-    Ok(())
 }
 
-/// Asks for what a case requires, unless its list has a fault.
+/// Asks for what a case requires, in order, and notes what is there.
 fn look_for_case<W: World>(
     candidate: &Candidate,
     world: &mut W,
@@ -98,10 +74,10 @@ fn look_for_case<W: World>(
         (λ _. AreFirst (LooksFor (needs_by candidate.now.case.fault (meta_in candidate.now)))
         told)) }
 {
-    if candidate.case.fault.is_some() {
-        return Ok(());
+    let props = &candidate.case.props;
+    for need in kinds_of(candidate) {
+        look_for_words(*need, props.needed(*need), world, host)?;
     }
-    look_for_needs(Need::all(), &candidate.case.props, world, host)?;
     Ok(())
 }
 
@@ -123,6 +99,9 @@ fn look_for_all<W: World>(
 
 /// Asks the host for what some cases may require: whether the runner is root, memory and disk
 /// space, and the required files and programs of each case whose list has no fault.
+///
+/// Root, memory and disk are asked for even if no case requires them. A word of several cases is
+/// asked for by each; if the answers differ, it counts as found.
 pub fn survey<W: World>(alloc: Global, cases: &[Candidate], world: &mut W) -> Result<Host, NoMemory>
     requires { IsIdle (W.running world.old) (W.pending world.old) }
     ensures surveyed { Answered W.tells world.old world.new (λ told. MatchResult result

@@ -130,8 +130,9 @@ fn plan_case(
 }
 
 /// The plan of some cases, at most 100,000: one job a case, in order. A case whose list has a fault
-/// is broken before it is started, and one with an unmet requirement is skipped. Cases of one suite
-/// share its variables.
+/// is broken before it is started, and one with an unmet requirement is skipped; the list is looked
+/// at first. The host isn't asked again while the plan runs, so a file that a case makes meets no
+/// requirement of another. Neighbours of one suite share the memory of its variables.
 pub fn make_plan(
     alloc: Global,
     config: &Config,

@@ -14,7 +14,7 @@ impl SharedVariables {
     ghost use Rattle.std.specs.Prelude.{◌≡◌, IfOk};
     ghost use Rattle.kt_plan.specs.Common.{variables_for};
 
-    /// Those of a suite.
+    /// The variables of this suite.
     pub fn of(alloc: Global, config: &Config, suite: &Text) -> Result<SharedVariables, NoMemory>
         ensures suite { IfOk result (λ shared. shared.suite ≡ suite.now) }
         ensures variables { IfOk result (λ shared.
@@ -27,7 +27,7 @@ impl SharedVariables {
         })
     }
 
-    /// Those of the next case's suite, which are the same if the suite is.
+    /// The variables of the next case's suite: these, if it is the same suite.
     pub fn next(
         self,
         alloc: Global,

@@ -51,10 +51,11 @@ pub record MeaningGives (files : List (List ℕ)) (at : Site) (meaning : Meaning
   pub there : Bool
   pub unfolds : Unfolds files (said at there meaning) marks
 
--- a program is looked up, and then counted
-abbrev pub Adds : {S : Type 0} → (S → Asked → S → Type 0) → S → S → Site → Registry → Program → Result Registry SuiteFault → Type 0
-Adds leads old new at r program result =
-    Walked leads old new (λ marks. (there : Bool) × (marks ≡ Asks (Exists program.path there) ∷ looked_up at program there ∷ [])) r result
+module _ {S : Type 0} (leads : S → Asked → S → Type 0) (old new : S) where
+  -- a program is looked up, and then counted
+  abbrev pub Adds : Site → Registry → Program → Result Registry SuiteFault → Type 0
+  Adds at r program result =
+      Walked leads old new (λ marks. (there : Bool) × (marks ≡ Asks (Exists program.path there) ∷ looked_up at program there ∷ [])) r result
 
 -- an include is refused, or its file counted
 pub data Enters (at : Site) (r : Registry) (path : List ℕ) : Result Registry SuiteFault → Type 0 where

@@ -3,7 +3,7 @@ use Rattle.kt_cli.proofs.commands.listing.write_listing.Goals as goal
 
 pub returns-in_err-write_cases : goal.returns-in_err-write_cases
 returns-in_err-write_cases g c =
-    shows_error _ _ c.from_residual.ensures.1 (shows_more (utf8 (warnings c.args.words.now c.args.unmatched.now)) c.in_err-write_cases.ensures)
+    shows_error _ _ c.from_residual.ensures.1 (shows_more (utf8 (warnings c.args.options.now.filters c.args.chosen.now.unmatched)) (rw (c.as_slice.ensures) at c.in_err-write_cases.ensures))
 
 pub returns : goal.returns
-returns g c = shows_both c.in_ok-write_cases.ensures c.write_warnings.ensures
+returns g c = shows_both (rw (c.as_slice.ensures) at c.in_ok-write_cases.ensures) c.write_warnings.ensures

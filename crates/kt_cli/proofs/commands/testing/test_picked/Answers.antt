@@ -1,20 +1,19 @@
 use Rattle.std.proofs.Common.{rules, ◌≡◌, refl}
 use Rattle.kt_cli.proofs.Common.{world_of}
-use Rattle.kt_cli.proofs.Testings.{idle_told, short_only, did_told, did_test_parts as did_test, printed_memory, plan_few}
+use Rattle.kt_words.specs.declared.command.Command.TheVariants as command
+use Rattle.kt_cli.proofs.Testings.{idle_told, short_only, did_told, did_test, printed_as, plan_few}
 use Rattle.kt_cli.proofs.commands.testing.test_picked.Goals as goal
 
 pub returns-in-Err-clause-did : goal.returns-in-Err-clause-did
 returns-in-Err-clause-did g c = λ file start selects.
     did_told (world_of g.W.Tree g.W.Launcher g.W.World) g.R.Keeping _ _ _ _ _ _ _
-    (short_only (world_of g.W.Tree g.W.Launcher g.W.World) _ c.args.options.now _ _ _ _ _ _ _ c.args.picked.now c.as_slice.result.now refl refl selects (search rules) c.in-Err.ensures.planned (printed_memory _ _ _ _ c.write_memory.ensures c.ended.ensures))
+    (short_only (world_of g.W.Tree g.W.Launcher g.W.World) (command.Test c.args.options.now file) c.args.options.now _ _ _ _ _ _ c.args.picked.now c.as_slice-cases.result.now refl selects (search rules) c.in-Err.ensures.planned
+    (printed_as _ _ _ _ _ _ _ c.write_memory.ensures refl c.ended.ensures))
 
 pub run_plan-requires-clause-few : goal.run_plan-requires-clause-few
 run_plan-requires-clause-few g c =
-    let a : c.as_slice.result.now ≡ c.args.picked.now.chosen.cases = search rules in
-    plan_few c.args.picked.now.chosen.cases c.as_slice.result.now c.in-Ok.plan a c.in-Ok.ensures.plan.1 c.requires.few
-
-pub run_plan-requires-clause-width : goal.run_plan-requires-clause-width
-run_plan-requires-clause-width g c = record { positive = c.parallelism.ensures.within.0; limited = c.parallelism.ensures.within.1 }
+    let a : c.as_slice-cases.result.now ≡ c.args.picked.now.chosen.cases = search rules in
+    plan_few c.args.picked.now.chosen.cases c.as_slice-cases.result.now c.in-Ok.plan a c.in-Ok.ensures.plan.1 c.requires.few
 
 pub run_plan-requires-clause-idle : goal.run_plan-requires-clause-idle
 run_plan-requires-clause-idle g c =
@@ -22,7 +21,5 @@ run_plan-requires-clause-idle g c =
 
 pub returns-clause-did : goal.returns-clause-did
 returns-clause-did g c = λ file start selects.
-    let a : c.as_slice.result.now ≡ c.args.picked.now.chosen.cases = search rules in
-    let b : c.as_slice-2.result.now ≡ c.args.options.now.filters = search rules in
-    let d : c.as_slice-3.result.now ≡ c.args.picked.now.chosen.unmatched = search rules in
-    did_test (world_of g.W.Tree g.W.Launcher g.W.World) g.R.Keeping _ _ c.args.options.now file _ _ _ c.args.picked.now c.in-Ok.plan _ _ _ _ _ _ a b d c.parallelism.ensures.value selects c.in-Ok.ensures.planned c.now-moment.ensures.told c.run_plan.ensures.ran
+    let a : c.as_slice-cases.result.now ≡ c.args.picked.now.chosen.cases = search rules in
+    did_test (world_of g.W.Tree g.W.Launcher g.W.World) g.R.Keeping _ _ c.args.options.now file _ _ _ c.args.picked.now c.as_slice-cases.result.now c.in-Ok.plan _ _ selects a c.in-Ok.ensures.planned c.now-moment.ensures.told c.run_plan.ensures.ran

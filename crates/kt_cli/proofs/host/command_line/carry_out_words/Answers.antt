@@ -8,5 +8,5 @@ pub returns : goal.returns
 returns g c = (
   c.read_words-command.result,
   said (λ all. map (λ word. string_bytes word) (drop 1 (into_iter_items all))) c.args.words c.read_words-command.result c.read_words-command.ensures.value c.read_words-command.ensures.refused,
-  given_before (program g.M.Machine g.O.Os g.P.Platform g.P.Results.Keeping) c.read_words-command.result _ _ _ _ _ _ _ _ c.set_by_line.ensures c.carry_out-outside.ensures,
+  given_before (program g.M.Machine g.O.Os g.P.Platform g.P.Results.Keeping) c.read_words-command.result _ _ _ _ _ _ _ c.set_by_line.ensures c.carry_out-outside.ensures,
 )

@@ -1,24 +1,40 @@
-use Rattle.std.proofs.Common.{true, false, is_some, rules, ◌≡◌, subst, List, ℕ}
-use Rattle.kt_plan.proofs.Common.{err_from_is_err_and, Answered, Need, Notes, LooksFor, meta_in, AreFirst}
+use Rattle.std.proofs.Common.{◌≡◌, ◌∷◌, ◌++◌, ◌+◌, ◌<◌, ap, arith, drop, get_or, length, subst, List, ℕ}
+use Rattle.kt_plan.proofs.Common.{common_steps, err_from_is_err_and, Answered, AreFirst, LooksFor, Need, Notes, Meta, meta_in, needed, needs_among, needs_in}
 use Rattle.kt_plan.proofs.Chains.{asked_short}
-use Rattle.kt_plan.proofs.LookLaws.{case_unlooked, needs_all}
+use Rattle.kt_plan.proofs.LookLaws.{looking_next, looking_all, looking_stopped}
 use Rattle.kt_plan.proofs.plan.looking.look_for_case.Goals as goal
+use Rattle.std.proofs.lemmas.List.{nil_from_length}
 
-pub returns-then-is_some : goal.returns-then-is_some
-returns-then-is_some g c =
-    let e : is_some c.args.candidate.now.case.fault ≡ true = search rules in
-    case_unlooked g.W.World.tells c.args.candidate.now c.args.world.now c.args.host.now e
+among_next : (needs : List Need) (i : ℕ) (d : Need) (meta : Meta) (words : List (List ℕ)) → i < length needs → words ≡ needed (get_or needs i d) meta
+    → needs_among (drop i needs) meta ≡ needs_in (get_or needs i d) words ++ needs_among (drop (i + 1) needs) meta
+among_next needs i d meta words few same =
+    let e : drop i needs ≡ get_or needs i d ∷ drop (i + 1) needs = grind (arith, few, common_steps) in
+    rw same (ap (λ (ns : List Need). needs_among ns meta) e)
 
-pub returns-in_err-look_for_needs : goal.returns-in_err-look_for_needs
-returns-in_err-look_for_needs g c =
+pub returns-in_err-look_for_words : goal.returns-in_err-look_for_words
+returns-in_err-look_for_words g c =
     let p = err_from_is_err_and c.from_residual.result c.from_residual.ensures.1 in
-    let e : is_some c.args.candidate.now.case.fault ≡ false = search rules in
-    asked_short g.W.World.tells c.args.world.now c.look_for_needs.new.world _ _ c.from_residual.result p.0 p.1
-    (subst (λ (needs : List (Need × List ℕ)). Answered g.W.World.tells c.args.world.now c.look_for_needs.new.world (λ told. AreFirst (LooksFor needs) told))
-    (needs_all c.args.candidate.now.case.fault c.all.result.now (meta_in c.args.candidate.now) e c.all.ensures) c.in_err-look_for_needs.ensures)
+    let kinds = c.kinds_of-need-items.result.now in
+    let meta = meta_in c.args.candidate.now in
+    let i = c.loop-need.need-index in
+    asked_short g.W.World.tells c.args.world.now c.look_for_words.new.world _ _ c.from_residual.result p.0 p.1
+    (subst (λ (needs : List (Need × List ℕ)). Answered g.W.World.tells c.args.world.now c.look_for_words.new.world (λ told. AreFirst (LooksFor needs) told)) c.kinds_of-need-items.ensures
+    (looking_stopped g.W.World.tells (needs_among kinds meta) c.args.world.now c.args.host.now (needs_among (drop i kinds) meta) _ (needs_among (drop (i + 1) kinds) meta) c.loop-need.world c.look_for_words.new.world c.loop-need.host
+    (among_next kinds i _ meta _ c.loop-need-test.true c.needed.ensures) c.loop-need.invariant c.in_err-look_for_words.ensures))
+
+pub loop-need-preserved : goal.loop-need-preserved
+loop-need-preserved g c =
+    let kinds = c.kinds_of-need-items.result.now in
+    let meta = meta_in c.args.candidate.now in
+    let i = c.loop-need.need-index in
+    looking_next g.W.World.tells (needs_among kinds meta) c.args.world.now c.args.host.now (needs_among (drop i kinds) meta) _ (needs_among (drop (i + 1) kinds) meta) c.loop-need.world c.look_for_words.new.world c.loop-need.host c.look_for_words.new.host
+    (among_next kinds i _ meta _ c.loop-need-test.true c.needed.ensures) c.loop-need.invariant c.in_ok-look_for_words.ensures
 
 pub returns : goal.returns
 returns g c =
-    let e : is_some c.args.candidate.now.case.fault ≡ false = search rules in
-    subst (λ (needs : List (Need × List ℕ)). Answered g.W.World.tells c.args.world.now c.look_for_needs.new.world (λ told. LooksFor needs told × Notes told c.args.host.now c.look_for_needs.new.host))
-    (needs_all c.args.candidate.now.case.fault c.all.result.now (meta_in c.args.candidate.now) e c.all.ensures) c.in_ok-look_for_needs.ensures
+    let kinds = c.kinds_of-need-items.result.now in
+    let meta = meta_in c.args.candidate.now in
+    let left = drop c.loop-need.need-index kinds in
+    let none : length left ≡ 0 = grind (arith, common_steps) in
+    subst (λ (needs : List (Need × List ℕ)). Answered g.W.World.tells c.args.world.now c.loop-need.world (λ told. LooksFor needs told × Notes told c.args.host.now c.loop-need.host)) c.kinds_of-need-items.ensures
+    (looking_all g.W.World.tells (needs_among kinds meta) c.args.world.now c.args.host.now (needs_among left meta) c.loop-need.world c.loop-need.host (ap (λ (needs : List Need). needs_among needs meta) (nil_from_length left none)) c.loop-need.invariant)

@@ -1,7 +1,7 @@
 use Rattle.std.proofs.Common.{slice_get, ℕ, List}
 use Rattle.kt_cli.proofs.Common.{shows_as, shows_error, shows_none, utf8, shows_next, shows_cut_off, shows_whole, warning_at}
 use Rattle.kt_cli.proofs.Utf8Sums.{utf8_flat_map}
-use Rattle.kt_cli.proofs.messages.write_warnings.Goals as goal
+use Rattle.kt_cli.proofs.messages.write_warnings_at.Goals as goal
 
 -- the warning at a position
 abbrev warned : List (List ℕ) → ℕ → List ℕ

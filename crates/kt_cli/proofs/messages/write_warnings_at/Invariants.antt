@@ -1,6 +1,6 @@
 use Rattle.std.proofs.Common.{false, take, flat_map, slice_get}
 use Rattle.kt_cli.proofs.Common.{Shows, utf8, warning_at}
-use Rattle.kt_cli.proofs.messages.write_warnings.Given as goal
+use Rattle.kt_cli.proofs.messages.write_warnings_at.Given as goal
 
 -- the filters at the positions so far are warned of
 abbrev pub invariant-loop-position : goal.invariant-loop-position

@@ -2,10 +2,10 @@ use Rattle.std.proofs.Common.{◌≡◌, ◌++◌, length}
 use Rattle.kt_report.proofs.Common.{chars, escapes}
 use denote.Shadow.{shadow}
 use denote.Text.{Utf8}
-use Rattle.kt_report.proofs.escaping.escape.Given as goal
+use Rattle.kt_report.proofs.escaping.push_escapes.Given as goal
 
 abbrev pub invariant-loop-rest : goal.invariant-loop-rest
-invariant-loop-rest l = (l.escaped ++ escapes l.attribute (chars l.rest) ≡ escapes l.attribute l.text) × shadow (Utf8 l.rest)
+invariant-loop-rest l = (l.escaped ++ escapes l.attribute (chars l.rest) ≡ l.fn.escaped ++ escapes l.attribute (chars l.text)) × shadow (Utf8 l.rest)
 
 abbrev pub decreases-loop-rest : goal.decreases-loop-rest
 decreases-loop-rest l = length l.rest
