@@ -204,7 +204,7 @@ if self.written.is_err() {
 BODY
 
 # The store failed where SQLite, a tree or the system says so, or where a test of what was read fails.
-rule 'makes a failed store' paths 'DAMAGED|NOT_OPENED|(FailedStatement|Shortage)[(]|Trouble::[A-Z][A-Za-z]*[(][A-Z]' <<'PLACES'
+rule 'makes a failed store' paths '(^|[^A-Za-z_])FAULTY|FailedStatement [{] is|Shortage[(]|Trouble::[A-Z][A-Za-z]*[(][A-Z]' <<'PLACES'
 # The values, and the functions that take an error.
 kt_store/src/store_fault/mod.rt
 kt_store/src/store_fault/rules.rt
@@ -212,7 +212,7 @@ kt_store/src/store_fault/statements.rt
 kt_store/src/store_fault/trees.rt
 PLACES
 body kt_store/src/heads.rt 'let head = head_in(row)?;' <<'BODY'
-if rows.len() > 500 { return Err(Trouble::Failed(FailedStatement(Cause::Damaged))); }
+if rows.len() > 500 { return Err(Trouble::Failed(FailedStatement { is_in_use: false })); }
 let head = head_in(row)?;
 BODY
 

@@ -14,7 +14,6 @@ mod lookup;
 mod new_file;
 mod opening;
 mod outlines;
-mod pairs;
 mod places;
 mod put;
 mod reopening;

@@ -1,14 +1,13 @@
 ghost use Rattle.std.specs.Prelude.{◌≡◌, ◌⊎◌, Some, None, IfOk, ◌<◌, ◌≤◌, ◌^◌, OnOk, OnErr, IfErr};
-ghost use Rattle.kt_store.specs.Common.{OnRuns, last_run, IsStorable, IsStoreFault, KeepsRuns, Looked, Changes, MayChange, CommitsLater, RunsAll, CanAdd, IsBareIfPassed, with_entry, kind_code, put_refusal, entry_statements};
+ghost use Rattle.kt_store.specs.Common.{OnRuns, last_run, IsStorable, IsStoreFault, KeepsRuns, Looked, Changes, MayChange, CommitsLater, RunsAll, RunsOne, CanAdd, IsBareIfPassed, with_entry, kind_code, put_refusal, entry_statements, pair_statement, pair_statements};
 
 use crate::StoreFault;
 use crate::batch::Batch;
 use crate::lookup::{look, there};
-use crate::pairs::add_pairs;
 use crate::store_fault::Trouble;
 use crate::store_fault::statements::{commit, step};
 use crate::value::{blob, int, text};
-use kt_base::{Entry, Kind, NoMemory, Text};
+use kt_base::{Entry, Kind, NoMemory, Text, Variable};
 use sqlite::{Alter, Connection, Transaction};
 use std::alloc::Global;
 
@@ -33,6 +32,54 @@ pub(crate) fn reason_of(alloc: Global, entry: &Entry) -> Result<Text, NoMemory>
     let mut reason = Text::new(alloc);
     entry.verdict.write_reason(&mut reason)?;
     Ok(reason)
+}
+
+/// Adds the pair at a place among those of an entry, inside a transaction.
+fn add_pair<S: Alter>(
+    tx: &mut Transaction<'_, S>,
+    run: u64,
+    position: u32,
+    place: u64,
+    pair: &Variable,
+) -> Result<(), Trouble>
+    requires { (run < 2 ^ 63) × (place < 2 ^ 63) }
+    ensures same_reference { tx.new.conn.ghost_name ≡ tx.old.conn.ghost_name }
+    ensures runs { OnOk result (RunsOne S.Store (pair_statement run position place pair.now)
+        tx.old.conn.now tx.new.conn.now) }
+    ensures uncommitted { CommitsLater S.Store tx.old.conn.now tx.new.conn.now }
+{
+    step(
+        tx,
+        "INSERT INTO props (run, position, place, name, value) VALUES (?1, ?2, ?3, ?4, ?5)",
+        &[
+            int(run),
+            int(u64::from(position)),
+            int(place),
+            text(&pair.name),
+            text(&pair.value),
+        ],
+    )
+}
+
+/// Adds the pairs of an entry, inside a transaction.
+fn add_pairs<S: Alter>(
+    tx: &mut Transaction<'_, S>,
+    run: u64,
+    position: u32,
+    pairs: &[Variable],
+) -> Result<(), Trouble>
+    requires { run < 2 ^ 63 }
+    ensures same_reference { tx.new.conn.ghost_name ≡ tx.old.conn.ghost_name }
+    ensures runs { OnOk result (RunsAll S.Store (pair_statements run position 0 pairs.now)
+        tx.old.conn.now tx.new.conn.now) }
+    ensures uncommitted { CommitsLater S.Store tx.old.conn.now tx.new.conn.now }
+{
+    let mut place = 0;
+    for pair in pairs {
+        add_pair(tx, run, position, place, pair)?;
+        place += 1;
+    }
+    Ok(())
 }
 
 /// Adds an entry and its pairs, inside a transaction.

@@ -1,6 +1,3 @@
-ghost use Rattle.std.specs.Prelude.{◌≡◌, ◌⊎◌, ◌<◌, IfOk, IfErr};
-ghost use Rattle.kt_store.specs.Common.{state, IsStoreFault, IsOf, Takes, Refuses};
-
 use crate::attach::settle;
 use crate::entries::all_entries;
 use crate::heads::all_heads;
@@ -126,18 +123,6 @@ impl<S: Alter> Results<S> {
     }
 }
 
-/// The same as `Results::attach`, but a connection that is refused is dropped.
-fn attached<S: Alter + Drop>(alloc: Global, conn: Connection<S>) -> Result<Results<S>, StoreFault>
-    ensures taken { IfOk result (λ r. (was : _) → IsOf was (state S.Store conn)
-        → Takes was (state S.Store conn) (state S.Store r)) }
-    ensures due { IfErr result (λ e. IsStoreFault e ⊎ (e ≡ StoreFault.UnknownSchema)) }
-{
-    match Results::attach(alloc, conn) {
-        Ok(results) => Ok(results),
-        Err((fault, _conn)) => Err(fault),
-    }
-}
-
 impl<S: Start> Results<FileStore<FileFrom<S>>> {
     ghost use Rattle.std.specs.Prelude.{◌≡◌, ◌⊎◌, IfOk, IfErr};
     ghost use Rattle.kt_store.specs.Common.{image_at, IsStoreFault, AreOver};
@@ -150,6 +135,9 @@ impl<S: Start> Results<FileStore<FileFrom<S>>> {
     {
         prepare(rt, file);
         let connection = open_file(rt, file, start)?;
-        attached(rt.alloc(), connection)
+        match Results::attach(rt.alloc(), connection) {
+            Ok(results) => Ok(results),
+            Err((fault, _connection)) => Err(fault),
+        }
     }
 }

@@ -124,13 +124,7 @@ impl<D: Disk + Drop> RunsFile<FileStore<D>> {
         ensures closed { OnOk result (Ends self) }
         ensures failed { IfErr result IsStoreFault }
     {
-        let RunsFile {
-            store,
-            schema: _,
-            places: _,
-            alloc: _,
-        } = self;
-        Ok(close_store(store)?)
+        Ok(close_store(self.into_store())?)
     }
 }
 

@@ -17,24 +17,21 @@ abbrev pub OnTrees : {S : Type 0} → Ghosts S → S → S → (List Run → Typ
 OnTrees g old new P = (runs : List Run) → HasRuns (g.view old) runs → IsClean (g.view new) → P runs
 
 module _ {S : Type 0} (g : Ghosts S) where
-  -- of a store that is only read
-  abbrev pub readings : store.Ghosts S
-  readings = record {
+  -- of a store that has runs in this sense
+  abbrev pub by_trees : (View → List Run → Type 0) → store.Ghosts S
+  by_trees Has = record {
     answers = λ _ _ _. Unit {0};
-    stands = λ s runs. HasRuns (g.view s) runs × AreNumbered 1 runs × (IsClean (g.view s) → AreOrdered runs);
+    stands = λ s runs. Has (g.view s) runs × AreNumbered 1 runs × (IsClean (g.view s) → AreOrdered runs);
     sound = λ s. IsClean (g.view s);
     leaves = λ s may. IsClean (g.view s) → (trees : Trees) → g.recovers s trees → KeepsOne may trees;
     numbered = λ s runs h. h.1;
     ordered = λ s runs h sound. h.2 sound;
   }
 
+  -- of a store that is only read
+  abbrev pub readings : store.Ghosts S
+  readings = by_trees HasRuns
+
   -- of a store that is read and written by its trees
   abbrev pub runs_file : store.Ghosts S
-  runs_file = record {
-    answers = λ _ _ _. Unit {0};
-    stands = λ s runs. HasCommitted (g.view s) runs × AreNumbered 1 runs × (IsClean (g.view s) → AreOrdered runs);
-    sound = λ s. IsClean (g.view s);
-    leaves = λ s may. IsClean (g.view s) → (trees : Trees) → g.recovers s trees → KeepsOne may trees;
-    numbered = λ s runs h. h.1;
-    ordered = λ s runs h sound. h.2 sound;
-  }
+  runs_file = by_trees HasCommitted

@@ -45,7 +45,7 @@ impl StoreFault {
 
     /// Whether the file can't be opened since another process works with it.
     pub(crate) fn is_in_use(&self) -> bool {
-        matches!(self, StoreFault::Store(FailedStatement(Cause::InUse)))
+        matches!(self, StoreFault::Store(failed) if failed.is_in_use)
     }
 }
 
@@ -77,22 +77,13 @@ pub struct Shortage(Refusal);
 /// is in a transaction, a tree is damaged, or a row does not obey the schema. Only the
 /// functions of `rules`, `statements` and `trees` make this value.
 #[derive(Clone, Copy, Debug)]
-pub struct FailedStatement(Cause);
-
-/// What a failed statement comes from.
-#[derive(Clone, Copy, Debug)]
-enum Cause {
-    /// SQLite returned an error.
-    Reported,
-    /// Another process works with the file.
-    InUse,
-    /// The connection is in a transaction, so none was begun.
-    InTransaction,
-    /// A tree or an index is not what its schema says.
-    Damaged,
-    /// A row does not obey the schema.
-    Refused,
+pub struct FailedStatement {
+    /// Whether another process works with the file.
+    is_in_use: bool,
 }
+
+/// What those functions make of every other failure.
+const FAULTY: Trouble = Trouble::Failed(FailedStatement { is_in_use: false });
 
 /// A type of this module, of `rules`, of `statements` and of `trees`, so that no other can write a `Shortage`.
 #[derive(Clone, Copy, Debug)]

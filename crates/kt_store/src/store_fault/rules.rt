@@ -2,7 +2,7 @@ ghost use Rattle.std.specs.Prelude.{◌≡◌, ◌⊎◌, OnOk};
 ghost use Rattle.kt_store.specs.Common.{TellsOfWrite, Obeys, HoldsCommit, PutsRows};
 ghost use Rattle.sqlite_trees.specs.View.{IsClean, IsQuiet, OnlyWrites};
 
-use crate::store_fault::{Cause, FailedStatement, Trouble};
+use crate::store_fault::{FAULTY, Trouble};
 use sqlite_exec::work::Workspace;
 use sqlite_items::Items;
 use sqlite_rules::error::{Refusal, Rowids, WriteError};
@@ -19,7 +19,7 @@ impl From<WriteError> for Trouble {
     fn from(error: WriteError) -> Trouble {
         match error {
             WriteError::Failed(error) => Trouble::from(error),
-            WriteError::Refused(_) => Trouble::Failed(FailedStatement(Cause::Refused)),
+            WriteError::Refused(_) => FAULTY,
         }
     }
 }

@@ -4,7 +4,7 @@ ghost use Rattle.sqlite_std_file.specs.File.{file_is_usable, IsFresh};
 
 use crate::batch::Batch;
 use crate::opening::{is_path, options};
-use crate::store_fault::{Cause, FailedStatement, Refusal, Shortage, Trouble};
+use crate::store_fault::{FAULTY, FailedStatement, Refusal, Shortage, Trouble};
 use crate::{Access, StoreFault};
 use kt_base::{NoMemory, Text};
 use sqlite::types::FromSql;
@@ -38,7 +38,7 @@ impl From<SqlError> for Trouble {
     fn from(error: SqlError) -> Trouble {
         match error {
             SqlError::SqliteFailure(ErrorCode::OutOfMemory) => Trouble::NoMemory(Shortage(Refusal)),
-            _ => Trouble::Failed(FailedStatement(Cause::Reported)),
+            _ => FAULTY,
         }
     }
 }
@@ -183,7 +183,7 @@ pub(crate) fn commit<S: Alter, B: Batch>(conn: &mut Connection<S>, batch: &B) ->
         (MayCommit S.Store (B.statements batch.now) conn.old) }
 {
     if !conn.is_autocommit() {
-        return Err(Trouble::Failed(FailedStatement(Cause::InTransaction)));
+        return Err(FAULTY);
     }
     let mut tx = conn.transaction();
     batch.fill(&mut tx)?;
@@ -193,21 +193,18 @@ pub(crate) fn commit<S: Alter, B: Batch>(conn: &mut Connection<S>, batch: &B) ->
     }
 }
 
-/// A database that can't be opened.
-const NOT_OPENED: Trouble = Trouble::Failed(FailedStatement(Cause::Reported));
-
 /// The fault of files that can't be opened.
 fn unopened(error: &OpenError) -> Trouble {
     let is_short = match error {
         OpenError::OutOfMemory => true,
         OpenError::Io(error) => error.kind() == ErrorKind::OutOfMemory,
-        OpenError::Busy => return Trouble::Failed(FailedStatement(Cause::InUse)),
+        OpenError::Busy => return Trouble::Failed(FailedStatement { is_in_use: true }),
         OpenError::HotJournal => false,
     };
     if is_short {
         Trouble::NoMemory(Shortage(Refusal))
     } else {
-        NOT_OPENED
+        FAULTY
     }
 }
 
@@ -246,11 +243,11 @@ pub(crate) fn open_file<S: Start>(
     ensures opened { IfOk result (IsOver (image_at S.Start)) }
 {
     if !is_path(file.as_str()) {
-        return Err(NOT_OPENED);
+        return Err(FAULTY);
     }
     let files = open_both(rt, file, start)?;
     let Some(options) = options(rt, Access::Record.pages()) else {
-        return Err(NOT_OPENED);
+        return Err(FAULTY);
     };
     done(Connection::open_files(rt.alloc(), files, options))
 }

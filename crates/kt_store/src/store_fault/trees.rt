@@ -10,7 +10,7 @@ ghost use Rattle.sqlite_value.specs.Order.{Row as Values};
 
 use crate::StoreFault;
 use crate::heads::add;
-use crate::store_fault::{Cause, FailedStatement, Refusal, Shortage, Trouble};
+use crate::store_fault::{FAULTY, Refusal, Shortage, Trouble};
 use crate::value::int;
 use kt_base::{Bytes, NoMemory};
 use sqlite::Row;
@@ -23,15 +23,12 @@ use sqlite_value::value::ValueRef;
 use std::alloc::Global;
 use std::cmp::Ordering;
 
-/// A tree has another shape than that of its number, or a place of an index has no row.
-const DAMAGED: Trouble = Trouble::Failed(FailedStatement(Cause::Damaged));
-
 /// Damage, where a test of what was read fails.
 pub(crate) fn sure(is_sound: bool) -> Result<(), Trouble>
     ensures sound { OnOk result (is_sound ≡ true) }
     ensures damaged { OnErr result (is_sound ≡ false) }
 {
-    if is_sound { Ok(()) } else { Err(DAMAGED) }
+    if is_sound { Ok(()) } else { Err(FAULTY) }
 }
 
 /// What has to be there; damage where it isn't.
@@ -41,7 +38,7 @@ pub(crate) fn present<T>(found: Option<T>) -> Result<T, Trouble>
 {
     match found {
         Some(it) => Ok(it),
-        None => Err(DAMAGED),
+        None => Err(FAULTY),
     }
 }
 
@@ -88,7 +85,7 @@ impl From<StoreError> for Trouble {
     fn from(error: StoreError) -> Trouble {
         match error {
             StoreError::OutOfMemory => Trouble::NoMemory(Shortage(Refusal)),
-            _ => Trouble::Failed(FailedStatement(Cause::Reported)),
+            _ => FAULTY,
         }
     }
 }
@@ -110,7 +107,7 @@ pub(crate) fn stored_bytes(alloc: Global, row: &row::Row, at: usize) -> Result<B
             let copy = Bytes::from_slice(alloc, bytes)?;
             Ok(copy)
         }
-        _ => Err(DAMAGED),
+        _ => Err(FAULTY),
     }
 }
 
@@ -120,7 +117,7 @@ pub(crate) fn number_of(row: &row::Row) -> Result<u64, Trouble>
 {
     match row.get(0) {
         ValueRef::Int(number) if number > 0 => Ok(number.unsigned_abs()),
-        _ => Err(DAMAGED),
+        _ => Err(FAULTY),
     }
 }
 
@@ -241,7 +238,7 @@ pub(crate) fn next_row<S: Store>(
     sure(store.get(table.tree, id, row)?)?;
     let own = columns_of(alloc, row, table.key)?;
     if place.cmp_prefix(Order::PLAIN, &own) != Ordering::Equal || !has_blobs(row, table.blobs) {
-        return Err(DAMAGED);
+        return Err(FAULTY);
     }
     Ok(place.cmp_prefix(Order::PLAIN, key) == Ordering::Equal)
 }
@@ -298,7 +295,7 @@ pub(crate) fn rows_behind<S: Store>(
         }
         add_shown(alloc, &found.row, columns, &mut rows)?;
     }
-    Err(DAMAGED)
+    Err(FAULTY)
 }
 
 /// These columns of the rows of a run, in the order of their key. The last place before them is read too, and its row:
@@ -355,7 +352,7 @@ pub(crate) fn count_under<S: Store>(
             return Ok(count);
         }
     }
-    Err(DAMAGED)
+    Err(FAULTY)
 }
 
 /// These columns of each of these rows.

@@ -3,4 +3,4 @@ use Rattle.kt_store.specs.Files.{Ends}
 use Rattle.kt_store.proofs.runs_file.RunsFile+FileStore+D.close.Goals as goal
 
 pub returns-clause-closed : goal.returns-clause-closed
-returns-clause-closed g c = subst (λ s. Ends s) c.self.view_is c.in_ok-close_store.ensures.closed
+returns-clause-closed g c = subst Ends c.into_store.ensures c.in_ok-close_store.ensures.closed

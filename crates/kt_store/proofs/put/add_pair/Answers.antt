@@ -1,7 +1,7 @@
 use Rattle.std.proofs.lemmas.Result.{on_ok_weaker}
 use Rattle.std.proofs.Common.{inr}
 use Rattle.kt_store.proofs.SqlFacts.{pair_is}
-use Rattle.kt_store.proofs.pairs.add_pair.Goals as goal
+use Rattle.kt_store.proofs.put.add_pair.Goals as goal
 
 pub step-requires : goal.step-requires
 step-requires g c = inr (inr (inr (inr pair_is.1)))

@@ -1,7 +1,7 @@
 use Rattle.std.proofs.Common.{◌≡◌, drop}
 use Rattle.kt_store.proofs.Common.{pair_statements}
 use Rattle.kt_store.proofs.TurnLemmas.{SoFar}
-use Rattle.kt_store.proofs.pairs.add_pairs.Given as goal
+use Rattle.kt_store.proofs.put.add_pairs.Given as goal
 
 abbrev pub invariant-loop-pair : goal.invariant-loop-pair
 invariant-loop-pair g l =
