@@ -41,6 +41,7 @@ use sqlite_wal::{PageSize, probe_first_page, probe_page_size};
 use std::alloc::Global;
 use std::fs;
 use std::hash::{BuildHasher, RandomState};
+use std::os::unix::fs::MetadataExt;
 use std::rt::Files as FileSystem;
 
 /// Bytes 20 to 23 of a database whose pages end in sums of their bytes.
@@ -294,10 +295,11 @@ fn says_2<S: Store>(store: &mut S, alloc: Global) -> Option<bool>
 
 /// Whether all pages and trees of a file are tested before it is read: those of a file of at most 16 MiB, which takes some
 /// 60 ms, of one whose log may have frames, since a runner was killed or the machine lost power, and of one that a link leads
-/// to. `None` of a file that is missing or empty, which an opening would make.
+/// to. `None` of a file that is missing or empty, which an opening would make, and of one with two names, which can't be
+/// opened before `prepare` has removed one.
 fn is_tested<R: FileSystem>(rt: &R, file: &Text) -> Option<bool> {
     let found = fs::metadata(rt, file.as_str()).ok()?;
-    if !found.is_file() || found.len() == 0 {
+    if !found.is_file() || found.len() == 0 || found.nlink() > 1 {
         return None;
     }
     // Beside a link lies no log.
