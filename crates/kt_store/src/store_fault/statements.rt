@@ -32,14 +32,13 @@ impl From<NoMemory> for Trouble {
     }
 }
 
-impl From<SqlError> for Trouble {
-    ghost from_gives = { Tells };
-
-    fn from(error: SqlError) -> Trouble {
-        match error {
-            SqlError::SqliteFailure(ErrorCode::OutOfMemory) => Trouble::NoMemory(Shortage(Refusal)),
-            _ => FAULTY,
-        }
+/// What an error of SQLite is.
+fn trouble_of(error: SqlError) -> Trouble
+    ensures { Tells error result }
+{
+    match error {
+        SqlError::SqliteFailure(ErrorCode::OutOfMemory) => Trouble::NoMemory(Shortage(Refusal)),
+        _ => FAULTY,
     }
 }
 
@@ -50,7 +49,7 @@ pub(crate) fn value_in<T: FromSql>(row: &Row, at: usize) -> Result<T, Trouble>
 {
     match row.get::<T>(at) {
         Ok(value) => Ok(value),
-        Err(error) => Err(Trouble::from(error)),
+        Err(error) => Err(trouble_of(error)),
     }
 }
 
@@ -67,7 +66,7 @@ pub(crate) fn probe<S: Alter>(conn: &mut Connection<S>, sql: &str) -> Result<(),
 {
     match conn.prepare(sql) {
         Ok(_statement) => Ok(()),
-        Err(error) => Err(Trouble::from(error)),
+        Err(error) => Err(trouble_of(error)),
     }
 }
 
@@ -88,11 +87,11 @@ pub(crate) fn ask<S: Alter>(
 {
     let statement = match conn.prepare(sql) {
         Ok(statement) => statement,
-        Err(error) => return Err(Trouble::from(error)),
+        Err(error) => return Err(trouble_of(error)),
     };
     match statement.query_all(conn, params) {
         Ok(rows) => Ok(rows),
-        Err(error) => Err(Trouble::from(error)),
+        Err(error) => Err(trouble_of(error)),
     }
 }
 
@@ -104,7 +103,7 @@ fn have_columns(rows: &[Row], width: usize) -> Result<(), Trouble>
     let mut rest = rows;
     while let Some((row, after)) = rest.split_first() {
         if let Err(error) = row.get_ref(width - 1) {
-            return Err(Trouble::from(error));
+            return Err(trouble_of(error));
         }
         rest = after;
     }
@@ -146,11 +145,11 @@ pub(crate) fn tell<S: Alter>(
 {
     let statement = match conn.prepare(sql) {
         Ok(statement) => statement,
-        Err(error) => return Err(Trouble::from(error)),
+        Err(error) => return Err(trouble_of(error)),
     };
     match statement.execute(conn, params) {
         Ok(_count) => Ok(()),
-        Err(error) => Err(Trouble::from(error)),
+        Err(error) => Err(trouble_of(error)),
     }
 }
 
@@ -168,7 +167,7 @@ pub(crate) fn step<S: Alter>(
 {
     match tx.execute(sql, params) {
         Ok(_count) => Ok(()),
-        Err(error) => Err(Trouble::from(error)),
+        Err(error) => Err(trouble_of(error)),
     }
 }
 
@@ -189,7 +188,7 @@ pub(crate) fn commit<S: Alter, B: Batch>(conn: &mut Connection<S>, batch: &B) ->
     batch.fill(&mut tx)?;
     match tx.commit() {
         Ok(()) => Ok(()),
-        Err(error) => Err(Trouble::from(error)),
+        Err(error) => Err(trouble_of(error)),
     }
 }
 
@@ -214,7 +213,7 @@ fn done<T, L: Drop>(returned: Result<T, (SqlError, L)>) -> Result<T, Trouble>
 {
     match returned {
         Ok(it) => Ok(it),
-        Err((error, _left)) => Err(Trouble::from(error)),
+        Err((error, _left)) => Err(trouble_of(error)),
     }
 }
 
