@@ -1,0 +1,32 @@
+#!/usr/bin/env bash
+# Says how late a limit of two seconds is seen while 6,000 files are removed, each of which takes a millisecond: within five, since a
+# removal that is bounded by its steps alone holds the run for 5,000 of them. Exits with 1 if that isn't so.
+# KYUA names the program to measure; else the one that kyua.sh runs. It needs a C compiler and wants a quiet machine.
+set -eu
+. "$(dirname "$0")/../scratch.sh"
+find_program
+cd "$scratch"
+${CC:-cc} -O2 -shared -fPIC -o slow.so -x c - << 'C'
+#include <fcntl.h>
+#include <unistd.h>
+int unlink(const char *path)
+{
+    usleep(1000);
+    return unlinkat(AT_FDCWD, path, 0);
+}
+C
+mkdir work
+printf '#!/bin/sh\nexec sleep 10\n' > sleeper
+printf '#!/bin/sh\nseq 6000 | xargs touch\n' > files
+chmod +x sleeper files
+cat > Kyuafile << 'K'
+syntax(2)
+test_suite('s')
+plain_test_program{name='sleeper', timeout=2}
+plain_test_program{name='files'}
+K
+LD_PRELOAD=$scratch/slow.so "$program" -v parallelism=8 test -r x.db --work="$scratch/work" > out || [ $? = 1 ]
+[ -z "$(ls -A work)" ]
+millis=$(sed -n 's/^sleeper:main  ->  broken: Test case timed out  \[0*\([0-9][0-9]*\)\.\([0-9]*\)s\]$/\1\2/p' out)
+echo "a limit of 2 s beside files that take a millisecond each to be removed is over after ${millis:-no} ms; at most 5000 are allowed"
+[ "${millis:-5001}" -le 5000 ]
