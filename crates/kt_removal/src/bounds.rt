@@ -90,6 +90,12 @@ impl Bound {
         Some(now.duration_since(started).as_micros())
     }
 
+    /// The microseconds since it began, 0 if the clock fails.
+    pub(crate) fn passed<C: Clock>(&self, clock: &C) -> u64 {
+        let taken = self.taken(clock).unwrap_or(0);
+        u64::try_from(taken).unwrap_or(u64::MAX)
+    }
+
     /// Counts a step, and returns whether a removal has to stop after it.
     pub(crate) fn is_over<C: Clock>(&mut self, clock: &C) -> bool
         ensures least { IsTrue result → self.old.least ≤ self.new.steps }

@@ -1,4 +1,4 @@
-ghost use Rattle.std.specs.Prelude.{◌≡◌, ◌++◌, ◌∷◌, [], false, ◌==◌, IfOk, IfSome};
+ghost use Rattle.std.specs.Prelude.{◌≡◌, ◌≤◌, ◌++◌, ◌∷◌, [], false, ◌==◌, IfOk, IfSome};
 ghost use Rattle.std.specs.List.{list_any};
 ghost use Rattle.kt_removal.specs.Common.{IsCaseOf, IsHeld, IsMoved, MayEmpty, MayRemove, Stays, at_close, is_name, moved_dir, steps_at_close, waiting};
 
@@ -440,14 +440,22 @@ impl Removals {
     }
 }
 
-/// Spends some microseconds on the removals that are left, or asleep if none is.
-pub fn rest<R: Files + Clock + AllocGlobal>(removals: &mut Option<Removals>, rt: &R, micros: u64) {
+/// Spends some microseconds on the removals that are left, or asleep if none is, and returns how many those were. They are
+/// more than these if the system takes longer to remove some names.
+pub fn rest<R: Files + Clock + AllocGlobal>(
+    removals: &mut Option<Removals>,
+    rt: &R,
+    micros: u64,
+) -> u64
+    ensures { micros ≤ result }
+{
     if let Some(removals) = removals {
         if removals.is_pending() {
             let mut bound = Bound::starting(rt, micros);
             removals.go_on(rt, &mut bound);
-            return;
+            return bound.passed(rt).max(micros);
         }
     }
     thread::sleep(rt, Duration::from_micros(micros));
+    micros
 }

@@ -169,8 +169,8 @@ pub(crate) fn await_end<P: OpenProcess + Drop, R: Files + Clock + AllocGlobal>(
     let mut rested = 0;
     while rested < PAUSE {
         let slice = slice_after(children.len(), pauses, rested);
-        rest(removals, rt, slice);
-        rested += slice;
+        let spent = rest(removals, rt, slice);
+        rested = rested.saturating_add(spent).min(PAUSE);
         let due = is_due(
             children.len(),
             pauses,
