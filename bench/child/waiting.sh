@@ -12,15 +12,14 @@ printf '#!/bin/sh\nexec sleep 25\n' > long
 printf '#!/bin/sh\nexec sleep 0.5\n' > short
 printf '#!/bin/sh\nexec sleep 4\n' > longer
 chmod +x long short longer
-cc -O2 -o ends.20 "$here/bench/case.c"
-for millis in 24 28 32 36 40; do ln ends.20 "ends.$millis"; done
-cc -O2 -shared -fPIC -o notice.so "$here/bench/notice.c"
+. "$here/bench/child/late.sh"
+for millis in 20 24 28 32 36 40; do ends_of "$millis"; done
 #   spent PID: the hundredths of a second that a process has taken of the processor
 spent() {
   cut -d ')' -f 2 "/proc/$1/stat" | awk '{ print $12 + $13 }'
 }
-#   late WIDTH MICROSECONDS: so late may the ends of cases of 20 to 40 ms be heard, in the mean
-late() {
+#   late_beside WIDTH MICROSECONDS: so late may the ends of cases of 20 to 40 ms be heard beside longer ones
+late_beside() {
   {
     printf '%s\n' 'syntax(2)' "test_suite('s')"
     for _ in $(seq 2 "$1"); do echo "plain_test_program{name='longer'}"; done
@@ -28,14 +27,7 @@ late() {
       for millis in 20 24 28 32 36 40; do echo "plain_test_program{name='ends.$millis'}"; done
     done
   } > Kyuafile
-  rm -f notices
-  NOTICES="$scratch/notices" LD_PRELOAD="$scratch/notice.so" "$program" -v parallelism="$1" test -r late.db --work="$scratch" > out
-  mean=$(awk '
-    $1 in ended { late += $2 - ended[$1]; count++ }
-    { ended[$1] = $2 }
-    END { printf "%d", late / count / 1000 }' notices)
-  echo "width $1: ends are heard $mean microseconds late in the mean; $2 are allowed"
-  [ "$mean" -le "$2" ]
+  late "$1" "$2"
 }
 #   waiting WIDTH TENTHS: so many tenths of a per cent are allowed
 waiting() {
@@ -54,9 +46,9 @@ waiting() {
   echo "width $1: $((tenths / 10)).$((tenths % 10)) % of a processor; $(($2 / 10)).$(($2 % 10)) are allowed"
   [ "$tenths" -le "$2" ]
 }
-late 8 1000
-late 64 1000
-late 256 2000
+late_beside 8 1000
+late_beside 64 1000
+late_beside 256 2000
 waiting 8 10
 waiting 64 15
 waiting 256 30
