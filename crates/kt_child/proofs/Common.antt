@@ -36,8 +36,8 @@ pub use Rattle.kt_child.specs.Host.HostStands.{AllProceed, AllStay, OthersStay, 
 pub use Rattle.kt_child.specs.Inner.Children.{IsChildrenState, IsOn, IsShort, IsWatched, TakesBytes, count_at, count_in, one_if, state_after_start, times, with_pending}
 pub use Rattle.kt_child.specs.Inner.Host.{RunsIn, TakesPiece, after_removed, after_set}
 pub use Rattle.kt_child.specs.Planning.ChildPlan.{child_of, paths_of, test_variable, variable_word}
-pub use Rattle.kt_child.specs.Polling.ChildOutcome.{Heard, HeardKill, HeardPoll, Told, ToldAfterKill, answered, running}
-pub use Rattle.kt_child.specs.Polling.Polls.{asked_by_poll, heard_of, is_killed, turn_of, watch_after}
+pub use Rattle.kt_child.specs.Polling.ChildOutcome.{Heard, HeardKill, HeardPoll, Yields, YieldsAfterKill, answered, running}
+pub use Rattle.kt_child.specs.Polling.Polls.{asked_by_poll, heard_of, is_killed, after_poll, watch_after}
 pub use Rattle.kt_child.specs.Polling.Turns.{PolledAll, PolledLast, PolledUntil, WaitedOn, advanced, advanced_below, last_turn, whole_turn}
 pub use Rattle.kt_child.specs.Driving.Starting.{Ask, SetUpAs, Started, Tried, cause_of, child_asks, open_ask, spawn_ask, spawned, work_ask}
 pub use Rattle.kt_child.specs.System.Calls.{Call, Kill, MakeDir, Now, Pause, Poll, ReadFile, RemoveTree, SetLimit}
@@ -48,8 +48,8 @@ pub use Rattle.kt_child.specs.declared.host.host_child.HostChild.{HostChild}
 pub use Rattle.kt_child.specs.declared.planning.Case.{Case}
 pub use Rattle.kt_child.specs.declared.planning.Spawning.{Spawning}
 pub use Rattle.kt_child.specs.declared.planning.workdir.Paths.{Paths}
-pub use Rattle.kt_child.specs.declared.polling.Turn.{Turn}
-pub use Rattle.kt_child.specs.declared.polling.Turn.TheVariants.{More}
+pub use Rattle.kt_child.specs.declared.polling.AfterPoll.{AfterPoll}
+pub use Rattle.kt_child.specs.declared.polling.AfterPoll.TheVariants.{More}
 pub use Rattle.kt_child.specs.declared.polling.Watch.{Watch}
 pub use Rattle.kt_child.specs.declared.polling.Watched.{Watched}
 pub use Rattle.kt_child.specs.declared.system.OsFault.{OsFault}

@@ -1,10 +1,10 @@
 -- A poll of a child, after what it has answered so far: either it goes on, or the table tells its outcome.
 use Rattle.std.proofs.Common.{◌≡◌, ◌≢◌, ℕ, ◌+◌, ◌*◌, ◌<◌, ◌==◌, List, [], ◌∷◌, ◌++◌, Bool, true, false, Result, Ok, Err, Some, refl, sym, ◌∙◌, ap, subst, arith, inl, inr, if◌then◌else◌, append_assoc, replicate}
 use Rattle.std.proofs.lemmas.List.{replicate-append-replicate}
-use Rattle.kt_child.proofs.Common.{nat_tests, Outcome, Polled, OsFault, Watch, More, IsShort, IsWatched, turn_of, watch_after, answered, heard_of, Heard, HeardKill, Told, ToldAfterKill, running}
+use Rattle.kt_child.proofs.Common.{nat_tests, Outcome, Polled, OsFault, Watch, More, IsShort, IsWatched, after_poll, watch_after, answered, heard_of, Heard, HeardKill, Yields, YieldsAfterKill, running}
 use Rattle.kt_base.specs.declared.child.Outcome.TheVariants.{Exited, Signaled, TimedOut, WaitFailed}
 use Rattle.kt_child.specs.declared.system.Polled.TheVariants.{Running, Exited as PolledExit, Signaled as PolledSignal}
-use Rattle.kt_child.specs.declared.polling.Turn.TheVariants.{Ended}
+use Rattle.kt_child.specs.declared.polling.AfterPoll.TheVariants.{Ended}
 
 -- one more answer `running`
 once_more : (n : ℕ) → replicate (n + 1) running ≡ replicate n running ++ running ∷ []
@@ -27,7 +27,7 @@ alive_at b = record { before = b; killed = false; after = 0 }
 -- a poll that ends nothing is one more of the answers so far
 abbrev Goes : ℕ → Watch → Result Polled OsFault → Bool → Type 0
 Goes limit w answer done =
-    turn_of limit w answer done ≡ More
+    after_poll limit w answer done ≡ More
     → (answered limit (watch_after limit w) ≡ answered limit w ++ heard_of limit w answer done) × IsWatched limit (watch_after limit w)
 
 goes_killed : (limit b a : ℕ) (answer : Result Polled OsFault) (done : Bool) → a < 500 → Goes limit (killed_at b a) answer done
@@ -64,20 +64,20 @@ goes_alive limit b (Ok Running) done lt e = by (b + 1 == 100 * limit) refl done 
 
 -- a poll that ends a child tells its outcome by all that it answered
 abbrev Tells : ℕ → Watch → Result Polled OsFault → Bool → Outcome → Type 0
-Tells limit w answer done o = turn_of limit w answer done ≡ Ended o → Told limit (answered limit w ++ heard_of limit w answer done) o
+Tells limit w answer done o = after_poll limit w answer done ≡ Ended o → Yields limit (answered limit w ++ heard_of limit w answer done) o
 
 same_end : (o p : Outcome) → Ended o ≡ Ended p → p ≡ o
 same_end o p e = cc
 
 -- after a kill
-killed_rows : (limit b a : ℕ) (answer : Result Polled OsFault) (done : Bool) (o : Outcome) → a < 500 → turn_of limit (killed_at b a) answer done ≡ Ended o
-    → ToldAfterKill 500 (replicate a running ++ heard_of limit (killed_at b a) answer done) o
+killed_rows : (limit b a : ℕ) (answer : Result Polled OsFault) (done : Bool) (o : Outcome) → a < 500 → after_poll limit (killed_at b a) answer done ≡ Ended o
+    → YieldsAfterKill 500 (replicate a running ++ heard_of limit (killed_at b a) answer done) o
 killed_rows limit b a (Err f) done o lt e = inr (inr (a, f, done, lt, refl, same_end WaitFailed o e))
 killed_rows limit b a (Ok (PolledExit c)) done o lt e = inl (a, PolledExit c, Exited c, lt, refl, refl, same_end TimedOut o e)
 killed_rows limit b a (Ok (PolledSignal c x)) done o lt e = inl (a, PolledSignal c x, Signaled c x, lt, refl, refl, same_end TimedOut o e)
 killed_rows limit b a (Ok Running) done o lt e = by (a + 1 == 500) refl e
   where
-    by : (t : Bool) → (a + 1 == 500) ≡ t → (if t then Ended WaitFailed else More) ≡ Ended o → ToldAfterKill 500 (replicate a running ++ running ∷ []) o
+    by : (t : Bool) → (a + 1 == 500) ≡ t → (if t then Ended WaitFailed else More) ≡ Ended o → YieldsAfterKill 500 (replicate a running ++ running ∷ []) o
     by true t e = inr (inl (sym (once_more a) ∙ ap (λ n. replicate n running) (tested a 500 t), same_end WaitFailed o e))
     by false t e = let no : ⊥ = cc in absurd no
 
@@ -94,7 +94,7 @@ tells_alive limit b (Ok (PolledSignal c x)) done o lt e = inl (b, PolledSignal c
 tells_alive limit b (Ok Running) done o lt e = by (b + 1 == 100 * limit) refl done e
   where
     by : (t : Bool) → (b + 1 == 100 * limit) ≡ t → (d : Bool) → (if t then (if d then More else Ended WaitFailed) else More) ≡ Ended o
-        → Told limit (replicate b running ++ (if t then running ∷ HeardKill d ∷ [] else running ∷ [])) o
+        → Yields limit (replicate b running ++ (if t then running ∷ HeardKill d ∷ [] else running ∷ [])) o
     by true t true e = let no : ⊥ = cc in absurd no
     by true t false e =
         inr (inr (inl (

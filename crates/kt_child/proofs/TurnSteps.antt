@@ -1,9 +1,9 @@
 -- One turn, poll by poll.
 use Rattle.std.proofs.Common.{◌≡◌, ℕ, zero, suc, ◌+◌, ◌<◌, List, [], ◌∷◌, ◌++◌, length, take, Bool, Option, Result, refl, sym, ◌∙◌, ap, subst, add-one, append_assoc, append-nil}
-use Rattle.kt_child.proofs.Common.{set, take_more, Child, All, All-get_or, slice_get-get_or, Outcome, Polled, OsFault, Watch, Turn, More, Watched, Chain, Call, child_of, asked_by_poll, turn_of, watch_after, IsOn, PolledAll, PolledLast, PolledUntil, advanced, advanced_below}
+use Rattle.kt_child.proofs.Common.{set, take_more, Child, All, All-get_or, slice_get-get_or, Outcome, Polled, OsFault, Watch, AfterPoll, More, Watched, Chain, Call, child_of, asked_by_poll, after_poll, watch_after, IsOn, PolledAll, PolledLast, PolledUntil, advanced, advanced_below}
 use Rattle.std.proofs.Math.ListN.{get_or}
 use Rattle.std.proofs.lemmas.List.{get_or_default}
-use Rattle.kt_child.specs.declared.polling.Turn.TheVariants.{Ended}
+use Rattle.kt_child.specs.declared.polling.AfterPoll.TheVariants.{Ended}
 use Rattle.kt_child.proofs.Chains.{chain_append}
 use Rattle.kt_child.proofs.Outcomes.{ends_so}
 
@@ -20,24 +20,24 @@ set_next (suc i) [] d = refl
 set_next (suc i) (k ∷ s) d = ap (λ t. advanced k ∷ t) (set_next i s d)
 
 -- one poll of a child
-abbrev pub OnePoll : {O : Type 0} → (O → Call → O → Type 0) → O → O → Turn → Watched → Type 0
+abbrev pub OnePoll : {O : Type 0} → (O → Call → O → Type 0) → O → O → AfterPoll → Watched → Type 0
 OnePoll leads now new turn k =
     (answer : Result Polled OsFault) × (done : Bool)
     × Chain leads now (asked_by_poll (child_of k.case) k.limit k.watch answer done) new
-    × (turn ≡ turn_of k.limit k.watch answer done)
+    × (turn ≡ after_poll k.limit k.watch answer done)
 
 -- by the name that its case has
-pub one_poll : {O : Type 0} (leads : O → Call → O → Type 0) (now new : O) (turn : Turn) (name : Child) (k : Watched) → name ≡ child_of k.case
+pub one_poll : {O : Type 0} (leads : O → Call → O → Type 0) (now new : O) (turn : AfterPoll) (name : Child) (k : Watched) → name ≡ child_of k.case
     → (answer : Result Polled OsFault) × (done : Bool)
-    × Chain leads now (asked_by_poll name k.limit k.watch answer done) new × (turn ≡ turn_of k.limit k.watch answer done)
+    × Chain leads now (asked_by_poll name k.limit k.watch answer done) new × (turn ≡ after_poll k.limit k.watch answer done)
     → OnePoll leads now new turn k
 one_poll leads now new turn name k e h =
     let P : Child → Type 0 = λ t. (answer : Result Polled OsFault) × (done : Bool)
-    × Chain leads now (asked_by_poll t k.limit k.watch answer done) new × (turn ≡ turn_of k.limit k.watch answer done) in
+    × Chain leads now (asked_by_poll t k.limit k.watch answer done) new × (turn ≡ after_poll k.limit k.watch answer done) in
     subst P e h
 
 polled_snoc : (ks : List Watched) (k : Watched) (xs : List Call) (answer : Result Polled OsFault) (done : Bool)
-    → PolledAll ks xs → More ≡ turn_of k.limit k.watch answer done
+    → PolledAll ks xs → More ≡ after_poll k.limit k.watch answer done
     → PolledAll (ks ++ k ∷ []) (xs ++ asked_by_poll (child_of k.case) k.limit k.watch answer done)
 polled_snoc [] k xs answer done h e =
     let ys : List Call = asked_by_poll (child_of k.case) k.limit k.watch answer done in

@@ -35,7 +35,7 @@ pub use Rattle.kt_child.specs.Inner.Host.{IsAt, IsCommandOf, IsFaultOf, IsFree, 
 pub use Rattle.kt_child.specs.Inner.Started.{IsStart}
 pub use Rattle.kt_child.specs.Planning.ChildPlan.{child_of, common_variables, env_of, own_variables, paths_of, removed_names, test_variable, variable, variable_word, words_of}
 pub use Rattle.kt_child.specs.Polling.ChildOutcome.{fresh}
-pub use Rattle.kt_child.specs.Polling.Polls.{asked_by_poll, is_due, turn_of, watch_after}
+pub use Rattle.kt_child.specs.Polling.Polls.{asked_by_poll, is_due, after_poll, watch_after}
 pub use Rattle.kt_child.specs.Polling.Turns.{PolledAll, PolledUntil, WaitedOn, advanced_below}
 pub use Rattle.kt_child.specs.System.Calls.{Call, Kill, MakeDir, Now, OpenOutput, Pause, Poll, ReadFile, ReadPart, RemoveTree, SetLimit, Spawn}
 pub use Rattle.kt_child.specs.System.Moments.{moment_of, recordable_moment}

@@ -6,7 +6,7 @@ use Rattle.kt_sched.specs.declared.job.StartAnswer.TheVariants.{Started as Start
 use Rattle.kt_child.specs.declared.driving.driver.Driver.{Driver}
 use Rattle.kt_child.specs.System.Calls.{Call, Kill, Pause, Poll}
 use Rattle.kt_child.specs.Planning.ChildPlan.{child_of, paths_of}
-use Rattle.kt_child.specs.Polling.ChildOutcome.{Heard, HeardKill, HeardPoll, Told, answered}
+use Rattle.kt_child.specs.Polling.ChildOutcome.{Heard, HeardKill, HeardPoll, Yields, answered}
 use Rattle.kt_child.specs.Polling.Turns.{WaitedOn}
 use Rattle.kt_child.specs.Ending.Ends.{Leaves}
 use Rattle.kt_child.specs.Driving.ChildrenState.{ChildrenState, pending_with}
@@ -77,10 +77,10 @@ pub data Hears : List Alive → Call → List Alive → Type 0 where
   later : (a : Alive) (others after : List Alive) (call : Call) → Hears others call after → Hears (a ∷ others) call (a ∷ after)
   paused : (alive : List Alive) (done : Bool) → Hears alive (Pause done) alive
 
--- after these calls the child at a place has ended: its outcome follows from all its answers (Told)
+-- after these calls the child at a place has ended: its outcome follows from all its answers (Yields)
 abbrev pub IsOver : List Alive → List Call → List Alive → ℕ → Alive → Outcome → Type 0
 IsOver old polls after place over outcome =
-    Chain Hears old polls after × (slice_get after place ≡ Some over) × Told over.limit over.heard outcome
+    Chain Hears old polls after × (slice_get after place ≡ Some over) × Yields over.limit over.heard outcome
 
 -- An end: a child has ended after its polls, what follows deals with its case, and it is on the board no more.
 pub record Ends (old : Board) (calls : List Call) (e : Ended) (new : Board) : Type 0 where

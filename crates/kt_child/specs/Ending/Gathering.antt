@@ -19,29 +19,29 @@ use Rattle.kt_child.specs.Ending.Parts.{Reads}
 
 -- The claim of a result file whose reading ended so, with these bytes. Where memory is refused it counts as a file that can't be read.
 abbrev pub IsClaim : ReadEnd → List ℕ → Claim → Type 0
-IsClaim Missing bytes told = told ≡ claim.Missing
-IsClaim Unreadable bytes told = told ≡ claim.Unreadable
-IsClaim TooLong bytes told = told ≡ claim.Malformed claim_fault.TooLong
-IsClaim Complete bytes told = (told ≡ claim.Unreadable) ⊎ IsClaimOf bytes told
+IsClaim Missing bytes found = found ≡ claim.Missing
+IsClaim Unreadable bytes found = found ≡ claim.Unreadable
+IsClaim TooLong bytes found = found ≡ claim.Malformed claim_fault.TooLong
+IsClaim Complete bytes found = (found ≡ claim.Unreadable) ⊎ IsClaimOf bytes found
 
 -- What an output that was read so says, as a TAP stream. Where memory is refused it counts as one that can't be read.
 abbrev pub IsTap : ReadEnd → List ℕ → Tap → Type 0
-IsTap TooLong bytes told = told ≡ tap.Invalid tap_fault.TooLong
-IsTap Complete bytes told = (told ≡ tap.Invalid tap_fault.Unreadable) ⊎ (told ≡ tap_of bytes)
-IsTap end bytes told = told ≡ tap.Invalid tap_fault.Unreadable
+IsTap TooLong bytes found = found ≡ tap.Invalid tap_fault.TooLong
+IsTap Complete bytes found = (found ≡ tap.Invalid tap_fault.Unreadable) ⊎ (found ≡ tap_of bytes)
+IsTap end bytes found = found ≡ tap.Invalid tap_fault.Unreadable
 
 -- a result file was read, and claims this
 abbrev pub ReadsClaim : List ℕ → List Call → Claim → Type 0
-ReadsClaim path calls told = (end : ReadEnd) × (bytes : List ℕ) × Reads path 4096 65536 [] calls end bytes × IsClaim end bytes told
+ReadsClaim path calls found = (end : ReadEnd) × (bytes : List ℕ) × Reads path 4096 65536 [] calls end bytes × IsClaim end bytes found
 
 -- an output was read as a TAP stream, and says this
 abbrev pub ReadsTap : List ℕ → List Call → Tap → Type 0
-ReadsTap path calls told = (end : ReadEnd) × (bytes : List ℕ) × Reads path 65536 16777216 [] calls end bytes × IsTap end bytes told
+ReadsTap path calls found = (end : ReadEnd) × (bytes : List ℕ) × Reads path 65536 16777216 [] calls end bytes × IsTap end bytes found
 
 -- an ATF body leaves its result file, a TAP body its output
 abbrev pub BodyGathers : Interface → Paths → List Call → Evidence → Type 0
-BodyGathers interface.Atf paths calls left = (told : Claim) × ReadsClaim paths.result calls told × (left ≡ evidence.Atf told)
-BodyGathers interface.Tap paths calls left = (told : Tap) × ReadsTap paths.out calls told × (left ≡ evidence.Tap told)
+BodyGathers interface.Atf paths calls left = (found : Claim) × ReadsClaim paths.result calls found × (left ≡ evidence.Atf found)
+BodyGathers interface.Tap paths calls left = (found : Tap) × ReadsTap paths.out calls found × (left ≡ evidence.Tap found)
 BodyGathers interface.Plain paths calls left = (calls ≡ []) × (left ≡ evidence.Plain)
 
 -- of other children nothing is asked

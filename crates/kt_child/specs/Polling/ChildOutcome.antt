@@ -19,8 +19,8 @@ outcome_of (PolledExit code) = Some (Exited code)
 outcome_of (PolledSignal signal core) = Some (Signaled signal core)
 
 -- after a kill, with this many answers `running` to its end: a status is a timeout, a failed poll or the last of them a failed wait
-abbrev pub ToldAfterKill : ℕ → List Heard → Outcome → Type 0
-ToldAfterKill left heard outcome =
+abbrev pub YieldsAfterKill : ℕ → List Heard → Outcome → Type 0
+YieldsAfterKill left heard outcome =
     ((k : ℕ) × (s : Polled) × (x : Outcome) × (k < left) × (outcome_of s ≡ Some x)
     × (heard ≡ replicate k running ++ HeardPoll (Ok s) ∷ []) × (outcome ≡ TimedOut))
     ⊎ ((heard ≡ replicate left running) × (outcome ≡ WaitFailed))
@@ -28,18 +28,18 @@ ToldAfterKill left heard outcome =
     × (heard ≡ replicate k running ++ HeardPoll (Err f) ∷ HeardKill done ∷ []) × (outcome ≡ WaitFailed))
 
 -- before a kill, with this many answers `running` to the deadline
-abbrev pub ToldWithin : ℕ → List Heard → Outcome → Type 0
-ToldWithin left heard outcome =
+abbrev pub YieldsWithin : ℕ → List Heard → Outcome → Type 0
+YieldsWithin left heard outcome =
     ((k : ℕ) × (s : Polled) × (k < left) × (outcome_of s ≡ Some outcome)
     × (heard ≡ replicate k running ++ HeardPoll (Ok s) ∷ []))
-    ⊎ ((rest : List Heard) × (heard ≡ replicate left running ++ HeardKill true ∷ rest) × ToldAfterKill 500 rest outcome)
+    ⊎ ((rest : List Heard) × (heard ≡ replicate left running ++ HeardKill true ∷ rest) × YieldsAfterKill 500 rest outcome)
     ⊎ ((heard ≡ replicate left running ++ HeardKill false ∷ []) × (outcome ≡ WaitFailed))
     ⊎ ((k : ℕ) × (f : OsFault) × (done : Bool) × (k < left)
     × (heard ≡ replicate k running ++ HeardPoll (Err f) ∷ HeardKill done ∷ []) × (outcome ≡ WaitFailed))
 
 -- the outcome of a child's answers, by its limit in seconds
-abbrev pub Told : ℕ → List Heard → Outcome → Type 0
-Told limit heard outcome = ToldWithin (100 * limit) heard outcome
+abbrev pub Yields : ℕ → List Heard → Outcome → Type 0
+Yields limit heard outcome = YieldsWithin (100 * limit) heard outcome
 
 -- what is kept of a child that was just spawned
 abbrev pub fresh : Watch

@@ -3,8 +3,8 @@ use Rattle.std.specs.Prelude.{ℕ, ◌+◌, ◌*◌, ◌==◌, List, [], ◌∷�
 use Rattle.kt_base.specs.declared.child.Outcome.TheVariants.{Exited, Signaled, TimedOut, WaitFailed}
 use Rattle.kt_child.specs.Types.{Child, OsFault, Polled, Watch}
 use Rattle.kt_child.specs.declared.system.Polled.TheVariants.{Running, Exited as PolledExit, Signaled as PolledSignal}
-use Rattle.kt_child.specs.declared.polling.Turn.{Turn}
-use Rattle.kt_child.specs.declared.polling.Turn.TheVariants.{More, Ended}
+use Rattle.kt_child.specs.declared.polling.AfterPoll.{AfterPoll}
+use Rattle.kt_child.specs.declared.polling.AfterPoll.TheVariants.{More, Ended}
 use Rattle.kt_child.specs.System.Calls.{Call, Poll, Kill}
 use Rattle.kt_child.specs.Polling.ChildOutcome.{Heard, HeardKill, HeardPoll}
 
@@ -28,11 +28,11 @@ abbrev pub heard_of : ℕ → Watch → Result Polled OsFault → Bool → List 
 heard_of limit w answer done = if is_killed limit w answer then HeardPoll answer ∷ HeardKill done ∷ [] else HeardPoll answer ∷ []
 
 -- what a poll makes of a child, by its answers
-abbrev pub turn_of : ℕ → Watch → Result Polled OsFault → Bool → Turn
-turn_of limit w (Err _) done = Ended WaitFailed
-turn_of limit w (Ok (PolledExit code)) done = Ended (if w.killed then TimedOut else Exited code)
-turn_of limit w (Ok (PolledSignal signal core)) done = Ended (if w.killed then TimedOut else Signaled signal core)
-turn_of limit w (Ok Running) done =
+abbrev pub after_poll : ℕ → Watch → Result Polled OsFault → Bool → AfterPoll
+after_poll limit w (Err _) done = Ended WaitFailed
+after_poll limit w (Ok (PolledExit code)) done = Ended (if w.killed then TimedOut else Exited code)
+after_poll limit w (Ok (PolledSignal signal core)) done = Ended (if w.killed then TimedOut else Signaled signal core)
+after_poll limit w (Ok Running) done =
     if w.killed then (if w.after + 1 == 500 then Ended WaitFailed else More)
     else (if w.before + 1 == 100 * limit then (if done then More else Ended WaitFailed) else More)
 

@@ -1,11 +1,11 @@
 -- Turns over the running children.
 use Rattle.std.specs.Prelude.{◌≡◌, ℕ, zero, suc, List, [], ◌∷◌, ◌++◌, Bool, Option, Some, None, Result, take, slice_get, map}
 use Rattle.kt_child.specs.Types.{OsFault, Outcome, Polled, Watched}
-use Rattle.kt_child.specs.declared.polling.Turn.TheVariants.{More, Ended}
+use Rattle.kt_child.specs.declared.polling.AfterPoll.TheVariants.{More, Ended}
 use Rattle.kt_child.specs.System.Calls.{Call, Pause}
 use Rattle.kt_child.specs.Planning.ChildPlan.{child_of}
-use Rattle.kt_child.specs.Polling.Polls.{asked_by_poll, heard_of, turn_of, watch_after}
-use Rattle.kt_child.specs.Polling.ChildOutcome.{Told, answered}
+use Rattle.kt_child.specs.Polling.Polls.{asked_by_poll, heard_of, after_poll, watch_after}
+use Rattle.kt_child.specs.Polling.ChildOutcome.{Yields, answered}
 
 -- a child after one more Running answer
 abbrev pub advanced : Watched → Watched
@@ -23,7 +23,7 @@ PolledAll [] calls = calls ≡ []
 PolledAll (k ∷ children) calls =
     (answer : Result Polled OsFault) × (done : Bool) × (more : List Call)
     × (calls ≡ asked_by_poll (child_of k.case) k.limit k.watch answer done ++ more)
-    × (turn_of k.limit k.watch answer done ≡ More)
+    × (after_poll k.limit k.watch answer done ≡ More)
     × PolledAll children more
 
 -- one poll of this child, which ends it: its outcome follows from all its answers
@@ -32,8 +32,8 @@ PolledLast None calls outcome = ⊥
 PolledLast (Some k) calls outcome =
     (answer : Result Polled OsFault) × (done : Bool)
     × (calls ≡ asked_by_poll (child_of k.case) k.limit k.watch answer done)
-    × (turn_of k.limit k.watch answer done ≡ Ended outcome)
-    × Told k.limit (answered k.limit k.watch ++ heard_of k.limit k.watch answer done) outcome
+    × (after_poll k.limit k.watch answer done ≡ Ended outcome)
+    × Yields k.limit (answered k.limit k.watch ++ heard_of k.limit k.watch answer done) outcome
 
 -- the children before this one were polled and aren't over, and then this one is
 abbrev pub PolledUntil : List Watched → ℕ → List Call → Outcome → Type 0

@@ -80,9 +80,9 @@ impl<O: Os + Drop> Launcher for Driver<O> {
         }
     }
 
-    /// The end of the first child, polled in the order of their starts, that is over: it has ended, its limit was used up
-    /// and it was killed, or a poll failed. If all run, a pause follows. Evidence and outputs that can't be read for want
-    /// of memory count as not read.
+    /// The end of the first child, polled in the order of their starts, that is over: it has ended, by itself or killed at
+    /// its limit, a poll or the kill failed, or it still ran 500 polls after the kill. If all run, a pause follows.
+    /// Evidence and outputs that can't be read for want of memory count as not read.
     fn wait(&mut self) -> Ended {
         self.running.wait(self.alloc, &mut self.os)
     }

@@ -4,7 +4,7 @@ ghost use Rattle.kt_child.specs.Common.{Chain, Call, fresh, list_case, list_purp
 use crate::driving::starts::{memory_refusal, set_up, spawned, spawning, take_number};
 use crate::ending::ends::read_list;
 use crate::planning::{Case, Purpose, Spawning};
-use crate::polling::polls::wait;
+use crate::polling::polls::first_over;
 use crate::{Driver, Os, Want, workdir_plan};
 use kt_atflist::{ListBytes, Listing};
 use kt_base::{Interface, NoMemory, Outcome, Refused, Role, Text, Variables};
@@ -21,10 +21,10 @@ fn watch_list<O: Os>(os: &mut O, plan: &Spawning, case: Case) -> (Outcome, ListB
         × WatchedList plan.now case calls result.0 result.1 }
 {
     let mut children = [spawned(plan.limit, case)];
-    let over = wait(os, &mut children);
+    let first = first_over(os, &mut children);
     let bytes = read_list(os, &plan.out);
     let _ = os.remove_tree(&plan.dir);
-    (over.outcome, bytes)
+    (first.outcome, bytes)
 }
 
 fn run_list<O: Os>(os: &mut O, plan: &Spawning, case: Case) -> Listing

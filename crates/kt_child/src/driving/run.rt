@@ -5,7 +5,8 @@ use kt_base::Items;
 use kt_sched::{Job, Launcher, RunFault, Sink, Totals, run_cases};
 use std::alloc::Global;
 
-/// Runs the cases of a plan over a driver, at most `width` at once, and puts the entry of each into a sink.
+/// Runs the cases of a plan over a driver, at most `width` at once, and puts the entry of each into a sink. A law of
+/// drivers: the program calls `run_cases` over its world.
 pub fn run_driver<O: Os + Drop, S: Sink>(
     alloc: Global,
     plan: Items<Job>,

@@ -9,10 +9,10 @@ ghost use Rattle.kt_child.specs.System.Calls.{Call};
 
 use crate::Os;
 use crate::driving::starts::{memory_refusal, spawned, start_child};
-use crate::ending::ends::{leave, over, remove_if};
+use crate::ending::ends::{is_over, leave, remove_if};
 use crate::planning::{Case, Spawning};
 use crate::polling::Watched;
-use crate::polling::polls::wait;
+use crate::polling::polls::first_over;
 use kt_base::{NoMemory, Refused, Role, Text};
 use kt_sched::{Ended, StartAnswer};
 use std::alloc::Global;
@@ -80,7 +80,7 @@ fn forget(children: &mut Vec<Watched>, pending: &mut Vec<Case>, place: usize)
     ensures room { vec_len children.new + vec_len pending.new ≤ vec_capacity pending.new }
 {
     let Watched { case, .. } = children.remove(place);
-    if over(&case) {
+    if is_over(&case) {
         return;
     }
     pending.push_reserved(case);
@@ -162,9 +162,9 @@ impl RunningChildren {
         ensures pending { (k : ℕ) → is_among self.new.pending k
             ≡ pending_after_end (shown_in self.old) (is_among self.old.pending) result k }
     {
-        let over = wait(os, &mut self.children);
-        let ended = leave(alloc, os, &self.children[over.place].case, over.outcome);
-        forget(&mut self.children, &mut self.pending, over.place);
+        let first = first_over(os, &mut self.children);
+        let ended = leave(alloc, os, &self.children[first.place].case, first.outcome);
+        forget(&mut self.children, &mut self.pending, first.place);
         ended
     }
 }

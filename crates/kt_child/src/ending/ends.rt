@@ -53,7 +53,7 @@ pub(crate) fn output_paths(role: Role, paths: &Paths) -> (&Text, &Text)
 }
 
 /// Whether a case is over with the end of its child: no cleanup follows.
-pub(crate) fn over(case: &Case) -> bool
+pub(crate) fn is_over(case: &Case) -> bool
     ensures { result ≡ is_over case.now }
 {
     case.role == Role::Cleanup || !case.cleanup
@@ -82,7 +82,7 @@ pub(crate) fn leave<O: Os>(alloc: Global, os: &mut O, case: &Case, outcome: Outc
     let out = read_kept(alloc, os, out);
     let err = read_kept(alloc, os, err);
     // Last, since the files lie in that directory.
-    remove_if(os, over(case), &case.paths.dir);
+    remove_if(os, is_over(case), &case.paths.dir);
     Ended {
         position: case.position,
         role: case.role,

@@ -11,7 +11,7 @@ use std::alloc::Global;
 /// How many bytes of a result file are read at once (this profile).
 const RESULT_PART: u64 = 4096;
 
-/// How many bytes a result file has at the most (this profile).
+/// How many bytes a result file has at the most, as `LIMIT` of kt_claim (this profile).
 const RESULT_LIMIT: u64 = 65_536;
 
 /// How many bytes of a TAP stream are read at once (this profile).

@@ -26,7 +26,7 @@ pub(crate) struct Watched {
 
 /// What a poll makes of a child.
 #[derive(Clone, Copy)]
-pub(crate) enum Turn {
+pub(crate) enum AfterPoll {
     /// It is not over.
     More,
     Ended(Outcome),

@@ -1,7 +1,7 @@
 ghost use Rattle.std.specs.Prelude.{◌≡◌, ℕ, ◌+◌, ◌*◌, ◌<◌, ◌≤◌, ◌^◌, [], ◌∷◌, Ok, Bool, Result, if◌then◌else◌, is_ok, List, All, IfSome, length, None};
-ghost use Rattle.kt_child.specs.Common.{OsFault, Polled, Running, Chain, Kill, IsWatched, asked_by_poll, is_due, turn_of, watch_after, Call, IsOn, PolledAll, PolledUntil, WaitedOn, advanced_below};
+ghost use Rattle.kt_child.specs.Common.{OsFault, Polled, Running, Chain, Kill, IsWatched, asked_by_poll, is_due, after_poll, watch_after, Call, IsOn, PolledAll, PolledUntil, WaitedOn, advanced_below};
 
-use crate::polling::{Turn, Watch, Watched};
+use crate::polling::{AfterPoll, Watch, Watched};
 use crate::{Child, Os, Polled};
 use kt_base::Outcome;
 
@@ -11,31 +11,31 @@ const POLLS_A_SECOND: u64 = 100;
 /// How often a killed child may still be running (this profile).
 const REAPING_POLLS: u64 = 500;
 
-/// What a status means: after a kill it is the limit's.
-fn ended(watch: &Watch, outcome: Outcome) -> Turn
-    ensures { result ≡ Turn.Ended (if watch.now.killed then Outcome.TimedOut else outcome) }
+/// The end by an outcome; after a kill it is `TimedOut`, whatever the status.
+fn ended(watch: &Watch, outcome: Outcome) -> AfterPoll
+    ensures { result ≡ AfterPoll.Ended (if watch.now.killed then Outcome.TimedOut else outcome) }
 {
     if watch.killed {
-        Turn::Ended(Outcome::TimedOut)
+        AfterPoll::Ended(Outcome::TimedOut)
     } else {
-        Turn::Ended(outcome)
+        AfterPoll::Ended(outcome)
     }
 }
 
 /// Polls a child once. Kills it if the poll failed or the limit (in seconds) is used up.
-pub(crate) fn poll_once<O: Os>(os: &mut O, child: Child, limit: u64, watch: &mut Watch) -> Turn
+pub(crate) fn poll_once<O: Os>(os: &mut O, child: Child, limit: u64, watch: &mut Watch) -> AfterPoll
     requires in_range { limit ≤ 1000000 }
     requires watched { IsWatched limit watch.old }
     ensures asked { (answer : Result Polled OsFault) × (done : Bool)
         × Chain O.leads os.old (asked_by_poll child limit watch.old answer done) os.new
-        × (result ≡ turn_of limit watch.old answer done) }
-    ensures watched { result ≡ Turn.More → (watch.new ≡ watch_after limit watch.old)
+        × (result ≡ after_poll limit watch.old answer done) }
+    ensures watched { result ≡ AfterPoll.More → (watch.new ≡ watch_after limit watch.old)
         × IsWatched limit watch.new }
 {
     match os.poll(child) {
         Err(_) => {
             let _ = os.kill(child);
-            Turn::Ended(Outcome::WaitFailed)
+            AfterPoll::Ended(Outcome::WaitFailed)
         }
         Ok(Polled::Exited(code)) => ended(watch, Outcome::Exited(code)),
         Ok(Polled::Signaled(signal, core)) => ended(watch, Outcome::Signaled(signal, core)),
@@ -43,31 +43,31 @@ pub(crate) fn poll_once<O: Os>(os: &mut O, child: Child, limit: u64, watch: &mut
     }
 }
 
-fn still_running<O: Os>(os: &mut O, child: Child, limit: u64, watch: &mut Watch) -> Turn
+fn still_running<O: Os>(os: &mut O, child: Child, limit: u64, watch: &mut Watch) -> AfterPoll
     requires in_range { limit ≤ 1000000 }
     requires watched { IsWatched limit watch.old }
     ensures asked { (done : Bool)
         × Chain O.leads os.old (if is_due limit watch.old then Kill child done ∷ [] else []) os.new
-        × (result ≡ turn_of limit watch.old (Ok Running) done) }
-    ensures watched { result ≡ Turn.More → (watch.new ≡ watch_after limit watch.old)
+        × (result ≡ after_poll limit watch.old (Ok Running) done) }
+    ensures watched { result ≡ AfterPoll.More → (watch.new ≡ watch_after limit watch.old)
         × IsWatched limit watch.new }
 {
     if watch.killed {
         watch.after += 1;
         if watch.after == REAPING_POLLS {
-            return Turn::Ended(Outcome::WaitFailed);
+            return AfterPoll::Ended(Outcome::WaitFailed);
         }
-        return Turn::More;
+        return AfterPoll::More;
     }
     watch.before += 1;
     if watch.before < POLLS_A_SECOND * limit {
-        return Turn::More;
+        return AfterPoll::More;
     }
     if os.kill(child).is_err() {
-        return Turn::Ended(Outcome::WaitFailed);
+        return AfterPoll::Ended(Outcome::WaitFailed);
     }
     watch.killed = true;
-    Turn::More
+    AfterPoll::More
 }
 
 /// The child that is over, by its place among the running children.
@@ -94,15 +94,15 @@ fn turn<O: Os>(os: &mut O, children: &mut [Watched]) -> Option<Over>
         let watched = &children[i];
         let mut watch = watched.watch;
         match poll_once(os, watched.case.child(), watched.limit, &mut watch) {
-            Turn::Ended(outcome) => return Some(Over { place: i, outcome }),
-            Turn::More => children[i].watch = watch,
+            AfterPoll::Ended(outcome) => return Some(Over { place: i, outcome }),
+            AfterPoll::More => children[i].watch = watch,
         }
     }
     None
 }
 
 /// Polls turn by turn until a child is over. A pause follows each turn in which none is.
-pub(crate) fn wait<O: Os>(os: &mut O, children: &mut [Watched]) -> Over
+pub(crate) fn first_over<O: Os>(os: &mut O, children: &mut [Watched]) -> Over
     requires some { 0 < length children.old }
     requires on { All IsOn children.old }
     ensures waited { (calls : List Call) × Chain O.leads os.old calls os.new

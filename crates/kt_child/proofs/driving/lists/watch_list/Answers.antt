@@ -6,20 +6,20 @@ use Rattle.kt_child.proofs.driving.lists.watch_list.Goals as goal
 
 pub returns : goal.returns
 returns g c =
-    let w = c.wait-over.ensures.waited in
+    let w = c.first_over-first.ensures.waited in
     let r = c.read_list-bytes.ensures.asked in
     let p = c.args.plan.now in
     let d = is_ok c.remove_tree.result in
-    let W : Watched → Type 0 = λ t. WaitedOn (t ∷ []) w.0 c.wait-over.result.place c.wait-over.result.outcome c.wait-over.new.children in
-    let on : WaitedOn (spawned p.limit c.args.case ∷ []) w.0 c.wait-over.result.place c.wait-over.result.outcome c.wait-over.new.children = subst W c.spawned.ensures w.2 in
+    let W : Watched → Type 0 = λ t. WaitedOn (t ∷ []) w.0 c.first_over-first.result.place c.first_over-first.result.outcome c.first_over-first.new.children in
+    let on : WaitedOn (spawned p.limit c.args.case ∷ []) w.0 c.first_over-first.result.place c.first_over-first.result.outcome c.first_over-first.new.children = subst W c.spawned.ensures w.2 in
     let k = spawned p.limit c.args.case in
-    let heard = wait_heard (k ∷ []) w.0 c.wait-over.result.place c.wait-over.result.outcome _ (All-cons IsOn k [] c.requires (All-nil IsOn)) on in
+    let heard = wait_heard (k ∷ []) w.0 c.first_over-first.result.place c.first_over-first.result.outcome _ (All-cons IsOn k [] c.requires (All-nil IsOn)) on in
     let last : List Call = ReadFile p.out 1048576 r.0 ∷ RemoveTree p.dir d ∷ [] in (
       w.0 ++ last,
       chain_append g.O.Os.leads _ _ _ w.0 last w.1 (_, r.1, (_, c.remove_tree.ensures, refl)),
       (
-        c.wait-over.result.place,
-        c.wait-over.new.children,
+        c.first_over-first.result.place,
+        c.first_over-first.new.children,
         w.0,
         r.0,
         d,

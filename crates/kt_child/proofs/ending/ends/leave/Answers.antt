@@ -17,5 +17,5 @@ returns-clause-left g c =
       Now n.0 ∷ (r.0 ++ ReadFile (out_of k.role k.paths) 1048576 o.0 ∷ ReadFile (err_of k.role k.paths) 1048576 e.0 ∷ l.0),
       chain_ends g.O.Os.leads _ _ _ _ _ _ (Now n.0) (ReadFile (out_of k.role k.paths) 1048576 o.0) (ReadFile (err_of k.role k.paths) 1048576 e.0) r.0 l.0
           n.1 r.1 (subst P c.output_paths.ensures.out o.1) (subst Q c.output_paths.ensures.err e.1) l.1,
-      (n.0, r.0, o.0, e.0, l.0, refl, r.2, subst R c.over.ensures l.2, refl, refl, refl, o.2, e.2, n.2, c.read_kept-out.ensures.within, c.read_kept-err.ensures.within),
+      (n.0, r.0, o.0, e.0, l.0, refl, r.2, subst R c.is_over.ensures l.2, refl, refl, refl, o.2, e.2, n.2, c.read_kept-out.ensures.within, c.read_kept-err.ensures.within),
     )

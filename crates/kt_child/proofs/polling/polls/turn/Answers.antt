@@ -1,7 +1,7 @@
 use Rattle.std.proofs.Common.{arith, refl, subst}
 use Rattle.std.proofs.Math.ListN.{get_or}
 use Rattle.kt_child.proofs.Common.{All-set, IsOn, IsWatched, More, Watched}
-use Rattle.kt_child.specs.declared.polling.Turn.TheVariants.{Ended}
+use Rattle.kt_child.specs.declared.polling.AfterPoll.TheVariants.{Ended}
 use Rattle.kt_child.proofs.TurnSteps.{on_at, one_poll, same_at, step_more, step_over, step_set}
 use Rattle.kt_child.proofs.polling.polls.turn.Goals as goal
 

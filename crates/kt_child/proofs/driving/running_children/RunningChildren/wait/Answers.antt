@@ -8,36 +8,36 @@ use Rattle.kt_child.proofs.driving.running_children.RunningChildren.wait.Goals a
 
 -- the children after the polls
 abbrev row : (g : _) → goal.After-forget g → List Watched
-row g c = take c.self.inside.children.len (c.wait-over.new.children ++ drop (length c.wait-over.new.children) c.self.inside.children.items)
+row g c = take c.self.inside.children.len (c.first_over-first.new.children ++ drop (length c.first_over-first.new.children) c.self.inside.children.items)
 
-polled : (g : _) (c : goal.After-forget g) → row g c ≡ c.wait-over.new.children
+polled : (g : _) (c : goal.After-forget g) → row g c ≡ c.first_over-first.new.children
 polled g c =
-    let n : length c.wait-over.new.children ≡ c.self.inside.children.len = c.wait-over.ensures.same ∙ c.deref_mut.ensures.len in
-    take_at c.wait-over.new.children (drop (length c.wait-over.new.children) c.self.inside.children.items) c.self.inside.children.len n
+    let n : length c.first_over-first.new.children ≡ c.self.inside.children.len = c.first_over-first.ensures.same ∙ c.deref_mut.ensures.len in
+    take_at c.first_over-first.new.children (drop (length c.first_over-first.new.children) c.self.inside.children.items) c.self.inside.children.len n
 
 -- the child that is over
-at : (g : _) (c : goal.After-forget g) → slice_get c.wait-over.new.children c.wait-over.result.place ≡ Some c.index.result.now
+at : (g : _) (c : goal.After-forget g) → slice_get c.first_over-first.new.children c.first_over-first.result.place ≡ Some c.index.result.now
 at g c =
-    let same = c.wait-over.ensures.same in
-    let i = c.wait-over.result.place in
+    let same = c.first_over-first.ensures.same in
+    let i = c.first_over-first.result.place in
     let d = c.index.result.now in
-    let lt : i < length c.wait-over.new.children = omega (arith, c.wait-over.ensures.place, same) in
-    slice_get-get_or c.wait-over.new.children i d lt ∙ ap (λ t. Some t) (sym (c.index.ensures ∙ ap (λ t. get_or t i d) (polled g c)))
+    let lt : i < length c.first_over-first.new.children = omega (arith, c.first_over-first.ensures.place, same) in
+    slice_get-get_or c.first_over-first.new.children i d lt ∙ ap (λ t. Some t) (sym (c.index.ensures ∙ ap (λ t. get_or t i d) (polled g c)))
 
 -- the children that are left
-still : (g : _) (c : goal.After-forget g) → c.forget.new.children.items ≡ remove c.wait-over.new.children c.wait-over.result.place
-still g c = c.forget.ensures.children ∙ ap (λ t. remove t c.wait-over.result.place) (polled g c)
+still : (g : _) (c : goal.After-forget g) → c.forget.new.children.items ≡ remove c.first_over-first.new.children c.first_over-first.result.place
+still g c = c.forget.ensures.children ∙ ap (λ t. remove t c.first_over-first.result.place) (polled g c)
 
 -- and the cases that are owed a cleanup
 owed : (g : _) (c : goal.After-forget g) → c.forget.new.pending.items ≡ pending_with c.index.result.now.case c.self.inside.pending.items
-owed g c = c.forget.ensures.pending c.index.result.now (ap (λ t. slice_get t c.wait-over.result.place) (polled g c) ∙ at g c)
+owed g c = c.forget.ensures.pending c.index.result.now (ap (λ t. slice_get t c.first_over-first.result.place) (polled g c) ∙ at g c)
 
 pub invariant_of-self : goal.invariant_of-self
 invariant_of-self g c =
-    let w = c.wait-over.ensures.waited.2 in
+    let w = c.first_over-first.ensures.waited.2 in
     let same = cases_waited _ _ _ _ _ w ∙ ap cases_of c.deref_mut.ensures.value in (
-      state_after c.self.inside.children.items c.wait-over.new.children c.forget.new.children.items c.self.inside.pending.items c.forget.new.pending.items
-          c.wait-over.result.place c.index.result.now c.self.invariant.0 same c.wait-over.ensures.on (at g c) (still g c) (owed g c),
+      state_after c.self.inside.children.items c.first_over-first.new.children c.forget.new.children.items c.self.inside.pending.items c.forget.new.pending.items
+          c.first_over-first.result.place c.index.result.now c.self.invariant.0 same c.first_over-first.ensures.on (at g c) (still g c) (owed g c),
       c.forget.ensures.room,
     )
 
@@ -50,9 +50,9 @@ new g c = record { children = c.forget.new.children.items; pending = c.forget.ne
 
 waited : (g : _) (c : goal.After-forget g) → (calls : List Call) × Chain g.O.Os.leads c.args.os.now calls c.leave-ended.new.os × ((w : Left (old g c) calls c.leave-ended.result (new g c)) × (w.over ≡ c.index.result.now))
 waited g c =
-    waited_all g.O.Os.leads c.args.os.now c.wait-over.new.os c.leave-ended.new.os (old g c) (new g c) c.deref_mut.result.now c.wait-over.new.children
-    c.wait-over.result.place c.wait-over.result.outcome c.index.result.now c.leave-ended.result
-    c.wait-over.ensures.waited c.leave-ended.ensures.left c.deref_mut.ensures.value (at g c) (still g c) (owed g c)
+    waited_all g.O.Os.leads c.args.os.now c.first_over-first.new.os c.leave-ended.new.os (old g c) (new g c) c.deref_mut.result.now c.first_over-first.new.children
+    c.first_over-first.result.place c.first_over-first.result.outcome c.index.result.now c.leave-ended.result
+    c.first_over-first.ensures.waited c.leave-ended.ensures.left c.deref_mut.ensures.value (at g c) (still g c) (owed g c)
 
 pub returns-clause-waited : goal.returns-clause-waited
 returns-clause-waited g c =

@@ -1,6 +1,6 @@
 use Rattle.kt_child.proofs.Common.{All, IsOn}
 use Rattle.kt_child.proofs.WaitSteps.{Waiting, first_left}
-use Rattle.kt_child.proofs.polling.polls.wait.Given as goal
+use Rattle.kt_child.proofs.polling.polls.first_over.Given as goal
 
 abbrev pub invariant-turns : goal.invariant-turns
 invariant-turns g l =

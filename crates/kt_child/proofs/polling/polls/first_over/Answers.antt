@@ -1,7 +1,7 @@
 use Rattle.std.proofs.Common.{◌<◌, List, length, refl, sym, subst, is_ok, arith}
 use Rattle.kt_child.proofs.Common.{Watched}
 use Rattle.kt_child.proofs.WaitSteps.{Waiting, first_left, turn_falls, waiting_more, waiting_none, waiting_over}
-use Rattle.kt_child.proofs.polling.polls.wait.Goals as goal
+use Rattle.kt_child.proofs.polling.polls.first_over.Goals as goal
 
 pub turns-init : goal.turns-init
 turns-init g c = record { waiting = waiting_none g.O.Os.leads c.args.os.now c.args.children.now; on = c.requires.on }
