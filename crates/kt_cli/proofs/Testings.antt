@@ -9,7 +9,7 @@ use Rattle.kt_words.specs.declared.options.CaseOptions.{CaseOptions}
 use Rattle.kt_plan.specs.declared.cases.Picked.{Picked}
 use Rattle.kt_plan.specs.declared.stop.Stop.{Stop}
 use Rattle.kt_plan.specs.Selecting.{Selects, SelectsOrShort}
-use Rattle.kt_cli.specs.Inner.Meaning.{HasSelected, asked_only, ToldOnly}
+use Rattle.kt_cli.specs.Inner.Meaning.{HasSelected, asked_only, AsksOnly}
 use Rattle.kt_plan.specs.Planning.{Surveys, SurveysFirst, ArePlanned}
 use Rattle.kt_plan.proofs.LookLaws.{all_surveyed}
 use Rattle.kt_cli.specs.StopLines.{stop_line, stop_exit}
@@ -46,7 +46,7 @@ module _ {W : Type 0} (w : World W) where
 
   told_only : (c : Command) (old new : W) (was now : Option (List ℕ)) (exit : ℕ) (questions : List Question) (bytes : List ℕ) (due : ℕ) → Chain (leads_by w.asks w.tells) old questions new
       → Means (asked_only questions) c bytes due ⊎ CutShort (asked_only questions) c bytes due
-      → Printed was now exit bytes due → ToldOnly w c old new was now exit
+      → Printed was now exit bytes due → AsksOnly w c old new was now exit
   told_only c old new was now exit questions bytes due p m q = record { seen = asked_only questions; course = course_of questions old new p; uncalled = refl; bytes = bytes; due = due; is = m; printed = q }
 
   only_asked : (questions : List Question) → IsAskedOnly (asked_only questions)
@@ -62,7 +62,7 @@ module _ {W : Type 0} (w : World W) where
   -- a fault of the steps ended the command
   pub stopped_only : (c : Command) (options : CaseOptions) (old new : W) (was now : Option (List ℕ)) (exit : ℕ) (fault : Stop) → cases_of c ≡ Some options
       → Answered (leads_by w.asks w.tells) old new (λ questions. SelectsOrShort (needs_case c) options questions (Err fault))
-      → Printed was now exit (utf8 (stop_line fault)) (stop_exit fault) → ToldOnly w c old new was now exit
+      → Printed was now exit (utf8 (stop_line fault)) (stop_exit fault) → AsksOnly w c old new was now exit
   stopped_only c options old new was now exit fault e a p =
       told_only c old new was now exit a.asked (utf8 (stop_line fault)) (stop_exit fault) a.chain (stop_means c options a.asked fault e a.holds) p
 
@@ -73,7 +73,7 @@ module _ {W : Type 0} (w : World W) where
   -- cases were listed
   pub listed_only : (options : CaseOptions) (old new : W) (was now : Option (List ℕ)) (exit : ℕ) (picked : Picked)
       → Answered (leads_by w.asks w.tells) old new (λ questions. SelectsOrShort false options questions (Ok picked))
-      → Printed was now exit (listing options.filters picked.chosen) (listing_exit picked.chosen) → ToldOnly w (command.List options) old new was now exit
+      → Printed was now exit (listing options.filters picked.chosen) (listing_exit picked.chosen) → AsksOnly w (command.List options) old new was now exit
   listed_only options old new was now exit picked a p =
       told_only (command.List options) old new was now exit a.asked (listing options.filters picked.chosen) (listing_exit picked.chosen) a.chain
       (inl (listed options picked (picked_is false options a.asked picked a.holds) (only_asked a.asked))) p
@@ -87,7 +87,7 @@ module _ {W : Type 0} (w : World W) where
   -- memory ran out before a plan was made
   pub short_only : (c : Command) (options : CaseOptions) (old mid new : W) (was now : Option (List ℕ)) (exit : ℕ) (picked : Picked) (cases : List Candidate) → cases_of c ≡ Some options
       → HasSelected w c options old picked mid → cases ≡ taken (needs_case c) picked.chosen.cases → Answered w.tells mid new (λ told. SurveysFirst cases told)
-      → Printed was now exit (utf8 memory_line) 2 → ToldOnly w c old new was now exit
+      → Printed was now exit (utf8 memory_line) 2 → AsksOnly w c old new was now exit
   short_only c options old mid new was now exit picked cases e a same b p =
       told_only c old new was now exit (a.asked ++ of_host b.asked) (utf8 memory_line) 2 (chain-append (leads_by w.asks w.tells) a.asked (of_host b.asked) old mid new a.chain (chain_of_host w.asks w.tells b.asked mid new b.chain))
       (inr (no_memory c options e (prepared_first (needs_case c) options a.asked b.asked picked cases a.holds same b.holds) (only_asked (a.asked ++ of_host b.asked)))) p
@@ -95,7 +95,7 @@ module _ {W : Type 0} (w : World W) where
   -- no case was selected for `debug`
   pub idle_only : (options : CaseOptions) (old new : W) (was now : Option (List ℕ)) (exit : ℕ) (picked : Picked)
       → Answered (leads_by w.asks w.tells) old new (λ questions. SelectsOrShort true options questions (Ok picked)) → picked.chosen.cases ≡ []
-      → Printed was now exit (utf8 (warnings options.filters picked.chosen.unmatched)) 1 → ToldOnly w (command.Debug options) old new was now exit
+      → Printed was now exit (utf8 (warnings options.filters picked.chosen.unmatched)) 1 → AsksOnly w (command.Debug options) old new was now exit
   idle_only options old new was now exit picked a n p =
       told_only (command.Debug options) old new was now exit a.asked (utf8 (warnings options.filters picked.chosen.unmatched)) 1 a.chain
       (inl (idle options picked (picked_is true options a.asked picked a.holds) n (only_asked a.asked))) p
@@ -109,7 +109,7 @@ module _ {W : Type 0} (w : World W) where
       → HasSelected w (command.Debug options) options old picked mid → cases ≡ picked.chosen.cases → cases ≡ first ∷ others → some ≡ take 1 cases
       → Answered w.tells mid begun (Prepares picked some plan)
       → Debugged (launcher_of w) plan begun new was now failed (Ok totals) → due ≡ (if totals.bad == 0 then 0 else 1) → exit ≡ (if failed then 2 else due)
-      → ToldOnly w (command.Debug options) old new was now exit
+      → AsksOnly w (command.Debug options) old new was now exit
   debug_only options old mid begun new was now exit picked first others cases some plan failed totals due a x n s b d k e =
       let one : Answered w.tells mid begun (Prepares picked (first ∷ []) plan) = subst (λ (xs : List Candidate). Answered w.tells mid begun (Prepares picked xs plan)) (s ∙ ap (λ (xs : List Candidate). take 1 xs) n) b in
       record {
@@ -138,7 +138,7 @@ module _ {W : Type 0} (w : World W) where
   pub debug_short : (options : CaseOptions) (old mid begun new : W) (was between now : Option (List ℕ)) (exit : ℕ) (picked : Picked) (some : List Candidate) (plan : List Job) (f g : Bool) (fault : RunFault)
       → Answered (leads_by w.asks w.tells) old mid (λ questions. SelectsOrShort true options questions (Ok picked))
       → some ≡ take 1 picked.chosen.cases → Answered w.tells mid begun (Prepares picked some plan) → Debugged (launcher_of w) plan begun new was between f (Err fault) → Says between f now g (utf8 (run_line fault)) → exit ≡ (if g then 2 else 2)
-      → ToldOnly w (command.Debug options) old new was now exit
+      → AsksOnly w (command.Debug options) old new was now exit
   debug_short options old mid begun new was between now exit picked some plan f g (SinkFailed why) a same b d s e = absurd d.ends
   debug_short options old mid begun new was between now exit picked some plan f g (NoMemory refusal) a same b d s e =
       let q = d.ends in
@@ -154,7 +154,7 @@ module _ {W : Type 0} (w : World W) where
 
   module _ {R : Type 0} (keep : keeping.Ghosts R) where
     -- a command that calls no store is a command
-    pub did_told : (c : Command) (old new : W) (store : R) (was now : Option (List ℕ)) (exit : ℕ) → ToldOnly w c old new was now exit → Did w keep c (scene old store was) (scene new store now) exit
+    pub did_told : (c : Command) (old new : W) (store : R) (was now : Option (List ℕ)) (exit : ℕ) → AsksOnly w c old new was now exit → Did w keep c (scene old store was) (scene new store now) exit
     did_told c old new store was now exit t = record {
       seen = t.seen;
       course = t.course;

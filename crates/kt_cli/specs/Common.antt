@@ -29,7 +29,7 @@ pub use Rattle.kt_cli.specs.HostAnswers.{HostStarts, HostWaits, IsHostAnswer, lo
 pub use Rattle.kt_cli.specs.Inner.Debugging.{Debugged, Prints}
 pub use Rattle.kt_cli.specs.Inner.FaultLines.{run_line}
 pub use Rattle.kt_cli.specs.Inner.HostFiles.{may_execute}
-pub use Rattle.kt_cli.specs.Inner.Meaning.{HasSelected, ToldOnly}
+pub use Rattle.kt_cli.specs.Inner.Meaning.{HasSelected, AsksOnly}
 pub use Rattle.kt_cli.specs.Inner.MemoryRuns.{FindsPlace, ServesInMemory, closing_refusal, entry_refusal, place_among}
 pub use Rattle.kt_cli.specs.Inner.Pages.{Says}
 pub use Rattle.kt_cli.specs.Inner.Recording.{Recorded, Took, recording, sink_fault_of}

@@ -66,7 +66,7 @@ pub record IsPrepared (needed : Bool) (options : CaseOptions) (seen : Seen) (pic
   pub asked : seen.questions ≡ before ++ (of_host told ++ of_host last)
   pub planned : ArePlanned picked.settings.config host 0 cases seen.plan
 
--- nothing was started, and the store was not called
+-- no case was started, and the store was not called; programs may have been asked for their lists
 pub record IsAskedOnly (seen : Seen) : Type 0 where
   pub trace : seen.trace ≡ NoEvent
   pub calls : seen.calls ≡ []

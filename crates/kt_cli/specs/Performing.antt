@@ -22,6 +22,7 @@ use Rattle.kt_store.specs.declared.result_store.Keeping as keeping
 use Rattle.kt_store.specs.declared.store_fault.StoreFault.{StoreFault}
 use Rattle.kt_words.specs.Commands.{cases_of, results_of}
 use Rattle.kt_words.specs.declared.command.Command.{Command}
+use Rattle.kt_words.specs.declared.command.Command.TheVariants.{Test}
 use Rattle.kt_words.specs.declared.command_fault.CommandFault.{CommandFault}
 use Rattle.kt_words.specs.declared.command_fault.CommandFault.TheVariants as command
 use Rattle.kt_cli.specs.declared.host.host_world.HostWorld.{HostWorld}
@@ -106,7 +107,8 @@ no_world = record { running = λ w k role. None; pending = λ w k. false; starts
 
 module _ {M O P S R : Type 0} (p : Program M O P S) (r : keeping.Ghosts R) where
   -- a command was executed over a store: a report by itself; a command over test cases with what was found around the process and a driver of
-  -- its own, or, without one of these, a line says so and the store is as it was. Nothing else is asked of the machine and the system
+  -- its own, or, without one of these, a line says so and the store is as it was. Nothing else is asked of the machine
+  -- and the system, and of the platform what is found around the process
   pub data DoneOver (c : Command) (old new : Scene (State M O P) R) (exit : ℕ) : Type 0 where
     alone : cases_of c ≡ None → new.world ≡ old.world → Did no_world r c (with_world tt old) (with_world tt new) exit → DoneOver c old new exit
     done : (options : CaseOptions) (around : Surroundings) → cases_of c ≡ Some options → p.platform.provides old.world.platform (Found (Ok around)) new.world.platform
@@ -126,7 +128,7 @@ pub record Flushed (told : Option (List ℕ)) (now : LineState) (due exit : ℕ)
   pub exits : exit ≡ (if failed then failure_exit else due)
 
 -- memory ran out as the arguments were read: one line says so on standard output
-pub record ToldShortage (was : Option (List ℕ)) (now : LineState) (exit : ℕ) : Type 0 where
+pub record PrintsShortage (was : Option (List ℕ)) (now : LineState) (exit : ℕ) : Type 0 where
   pub told : Option (List ℕ)
   pub due : ℕ
   pub refused : Refused was told due (utf8 memory_line) failure_exit
@@ -139,16 +141,13 @@ pub record Streams : Type 0 where
 
 -- why arguments are no command is printed on standard error, and nothing on standard output
 abbrev pub Rejected : CommandFault → Streams → Streams → ℕ → Type 0
-Rejected (command.NoMemory shortage) was now exit = ToldShortage was.out.given now.out exit × (now.errors ≡ was.errors)
+Rejected (command.NoMemory shortage) was now exit = PrintsShortage was.out.given now.out exit × (now.errors ≡ was.errors)
 Rejected fault was now exit = Refused was.errors now.errors exit (utf8 (command_text fault)) wrong_words_exit × (now.out.given ≡ was.out.given)
 
--- what a command opens results for: one over test cases adds a run to them, another shows them alone
-abbrev pub access_for : Option CaseOptions → Access
-access_for (Some options) = Record
-access_for None = Read
-
+-- what a command opens its results for: `test` adds a run to them, another command shows them alone
 abbrev pub access_of : Command → Access
-access_of c = access_for (cases_of c)
+access_of (Test options file) = Record
+access_of _ = Read
 
 module _ {M O P S : Type 0} (p : Program M O P S) where
   -- a command was executed over the results in a file: they were opened first, for what it does with them, and closed last, once, as the

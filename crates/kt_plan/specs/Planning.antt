@@ -24,7 +24,7 @@ use Rattle.kt_plan.specs.Told.{Told, Finds, IsRoot, HasMemory, HasDisk}
 abbrev pub meta_in : Candidate → Meta
 meta_in candidate = effective candidate.case.props
 
--- these words are files or programs
+-- each of these words, with what it names
 abbrev pub needs_in : Need → List (List ℕ) → List (Need × List ℕ)
 needs_in need words = map (λ word. (need, word)) words
 
@@ -33,7 +33,7 @@ abbrev pub needs_among : List Need → Meta → List (Need × List ℕ)
 needs_among [] meta = []
 needs_among (need ∷ needs) meta = needs_in need (needed need meta) ++ needs_among needs meta
 
--- what must be found for a case: its required files, and then its required programs; nothing if its list has a fault
+-- what must be found for a case, kind after kind; nothing if its list has a fault
 abbrev pub needs_by : Option Reason → Meta → List (Need × List ℕ)
 needs_by (Some reason) meta = []
 needs_by None meta = needs_among all_needs meta
@@ -49,13 +49,13 @@ pub data LooksFor : List (Need × List ℕ) → List Told → Type 0 where
   asked : (need : Need) (word : List ℕ) (needs : List (Need × List ℕ)) (answer : Bool) (told : List Told) → LooksFor needs told
       → LooksFor ((need, word) ∷ needs) (Finds need word answer ∷ told)
 
--- an answer says that this file or program is there
+-- an answer says that this is there
 abbrev pub finds : Need → List ℕ → Told → Bool
 finds need word (Finds other_need other answer) = is_same_need other_need other need word && answer
 finds need word other = false
 
--- the host is asked whether the runner is root, for its memory and its disk space, and for the files and programs of the cases; a file or
--- a program is there if one of the answers says so
+-- the host is asked whether the runner is root, for its memory and its disk space, and for what the cases require to be found; it is there
+-- if one of the answers says so
 pub record Surveys (candidates : List Candidate) (told : List Told) (host : Host) : Type 0 where
   pub looked : List Told
   pub asked : told ≡ IsRoot host.root ∷ HasMemory host.memory ∷ HasDisk host.disk ∷ looked

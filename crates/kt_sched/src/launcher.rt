@@ -36,7 +36,7 @@ pub trait Launcher {
         ensures pending { (k : ℕ) → pending self.new k
             ≡ pending_after_start (pending self.old) job.now.position role k };
 
-    /// Waits until a running child has ended.
+    /// Waits for a running child that has ended, or that can't be waited for.
     fn wait(&mut self) -> Ended
         requires { (i : ℕ) × (role : Role) × (child : Child)
             × (running self.old i role ≡ Some child) }

@@ -92,7 +92,7 @@ pub fn owing(stage: &Stage, i: u32) -> Option<u32>
     }
 }
 
-/// The position of a case to put, if it is over and no put failed.
+/// The position of a case to put, if it is over and no put failed. An event leaves no case `Decided` or `Taken`.
 pub fn ready(stage: &Stage, failed: bool, i: u32) -> Option<u32>
     ensures { result ≡ ready_at stage.now failed i }
 {

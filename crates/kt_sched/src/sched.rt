@@ -106,7 +106,7 @@ impl Sched {
         taken
     }
 
-    /// Takes the answer to what was asked last.
+    /// Takes the answer to what was asked last: `started`, `ended` and `put` in one, for who keeps the answers.
     pub fn feed(&mut self, answer: Answer)
         requires { IsAnswer self.old answer }
         ensures works { Works self.old.asked (work_left self.old) (work_left self.new) }

@@ -59,6 +59,7 @@ fn run_over<P: Platform>(rt: &HostRuntime, platform: &mut P) -> u8 {
         machine: HostMachine { rt },
         os: HostOs::new(rt),
     };
+    // Line by line for `test`: `carry_out_words` sets that.
     let mut out = LineOutput::new(io::writer(rt), false);
     let (status, _outside) = carry_out_words(
         outside,

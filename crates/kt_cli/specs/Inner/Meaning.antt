@@ -12,7 +12,7 @@ use Rattle.kt_plan.specs.Selecting.{SelectsOrShort}
 use Rattle.kt_cli.specs.Meaning.{Course, CutShort, Means, Seen}
 use Rattle.kt_cli.specs.Scenes.{World}
 
--- nothing was started, and the store was not called
+-- what was seen of a command that asked these questions, started no case and called no store
 abbrev pub asked_only : List Question → Seen
 asked_only questions = record { questions = questions; plan = []; trace = NoEvent; calls = [] }
 
@@ -22,7 +22,7 @@ module _ {W : Type 0} (w : World W) where
   HasSelected c options old picked new = Answered (leads_by w.asks w.tells) old new (λ questions. SelectsOrShort (needs_case c) options questions (Ok picked))
 
   -- what a command did that calls no store: what it saw, its bytes and its exit
-  pub record ToldOnly (c : Command) (old new : W) (was now : Option (List ℕ)) (exit : ℕ) : Type 0 where
+  pub record AsksOnly (c : Command) (old new : W) (was now : Option (List ℕ)) (exit : ℕ) : Type 0 where
     pub seen : Seen
     pub course : Course w seen old new
     pub uncalled : seen.calls ≡ []

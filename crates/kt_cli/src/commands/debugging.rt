@@ -1,5 +1,5 @@
 ghost use Rattle.std.specs.Prelude.{◌≡◌, ◌==◌, if◌then◌else◌, is_err};
-ghost use Rattle.kt_cli.specs.Common.{IsIdle, IsPlan, Debugged, HasSelected, ToldOnly};
+ghost use Rattle.kt_cli.specs.Common.{IsIdle, IsPlan, Debugged, HasSelected, AsksOnly};
 ghost use Rattle.kt_words.specs.declared.command.Command.TheVariants as command;
 
 use crate::Exit;
@@ -54,7 +54,7 @@ fn debug_picked<W: World, O: Write>(
 ) -> Exit
     requires { IsIdle (W.running world.old) (W.pending world.old) }
     ensures told { (start : _) → HasSelected W.World (command.Debug options.now) options.now start picked.now world.old
-        → ToldOnly W.World (command.Debug options.now) start world.new
+        → AsksOnly W.World (command.Debug options.now) start world.new
         (O.contents out.old) (O.contents out.new) result.status }
     ensures idle { IsIdle (W.running world.new) (W.pending world.new) }
 {
@@ -81,7 +81,7 @@ pub fn debug<W: World, O: Write>(
     out: &mut O,
 ) -> Exit
     requires { IsIdle (W.running world.old) (W.pending world.old) }
-    ensures told { ToldOnly W.World (command.Debug options.now) world.old world.new
+    ensures told { AsksOnly W.World (command.Debug options.now) world.old world.new
         (O.contents out.old) (O.contents out.new) result.status }
     ensures idle { IsIdle (W.running world.new) (W.pending world.new) }
 {

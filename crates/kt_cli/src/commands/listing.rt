@@ -1,5 +1,5 @@
 ghost use Rattle.std.specs.Prelude.{flat_map, is_err};
-ghost use Rattle.kt_cli.specs.Common.{Shows, utf8, IsIdle, case_line, listing, ToldOnly};
+ghost use Rattle.kt_cli.specs.Common.{Shows, utf8, IsIdle, case_line, listing, AsksOnly};
 ghost use Rattle.kt_words.specs.declared.command.Command.TheVariants as command;
 
 use crate::Exit;
@@ -52,7 +52,7 @@ pub fn list<W: World, O: Write>(
     out: &mut O,
 ) -> Exit
     requires { IsIdle (W.running world.old) (W.pending world.old) }
-    ensures told { ToldOnly W.World (command.List options.now) world.old world.new
+    ensures told { AsksOnly W.World (command.List options.now) world.old world.new
         (O.contents out.old) (O.contents out.new) result.status }
     ensures idle { IsIdle (W.running world.new) (W.pending world.new) }
 {

@@ -71,13 +71,13 @@ fn perform_over<M: Machine + Drop, O: Os + Drop, P: Platform, S: ResultStore, W:
     }
 }
 
-/// What a command opens results for.
+/// What a command opens its results for: `test` adds a run, a report shows runs. The others have no file of results.
 fn access_of(command: &Command) -> Access
     ensures { result ≡ access_of command.now }
 {
-    match command.cases() {
-        Some(_options) => Access::Record,
-        None => Access::Read,
+    match command {
+        Command::Test { .. } => Access::Record,
+        _ => Access::Read,
     }
 }
 
@@ -104,7 +104,7 @@ fn perform_in_file<M: Machine + Drop, O: Os + Drop, P: Platform, W: Write>(
 }
 
 /// Performs a command of the program: over this machine, this system and the results that the platform opens and
-/// closes, or over none in memory, with its text on standard output, line for line.
+/// closes, or, for `list` and `debug`, over none in memory. At its end all its text is handed on.
 pub fn perform<M: Machine + Drop, O: Os + Drop, P: Platform, W: Write>(
     outside: Outside<M, O>,
     platform: &mut P,

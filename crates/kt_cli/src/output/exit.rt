@@ -10,7 +10,8 @@ pub const FAILED: u8 = 2;
 /// How a command ends, as kyua(1) has it.
 #[derive(Clone, Copy)]
 pub struct Exit {
-    /// 0 if all is well, 1 if a case is bad, 2 if something failed, 3 for a wrong command line.
+    /// 0 if all is well, 1 if a case is bad or a filter selects none, 2 if something failed, 3 for a wrong command line,
+    /// filter or variable.
     pub status: u8,
 }
 

@@ -8,7 +8,8 @@ use std::mem;
 /// The most runs that are recorded.
 const RUN_LIMIT: usize = 1_000_000;
 
-/// Recorded runs in memory. Contracts see their list; a run's number is its place in it, counted from 1.
+/// Recorded runs in memory, as rows use them; `list` and `debug` are lent none, and so call nothing of them. Contracts
+/// see their list; a run's number is its place in it, counted from 1.
 #[derive(Drop)]
 pub struct MemRuns {
     runs: Vec<Run>,
@@ -136,7 +137,7 @@ impl Keeping for MemRuns {
     ghost use Rattle.std.specs.Prelude.{◌≡◌, ⊤};
     ghost use Rattle.kt_cli.specs.Common.{AreNumbered, AreOrdered};
 
-    // What each call returns is its own clause.
+    // Nothing: what a call returns is said by its own clause.
     ghost answers = { λ _ _ _. Unit {0} };
 
     ghost stands = { λ m runs. (m ≡ runs) × AreNumbered 1 runs × AreOrdered runs };

@@ -6,7 +6,7 @@ use kt_base::{NoMemory, Text};
 use kt_metadata::{Host, Need};
 use std::alloc::Global;
 
-/// Asks whether a required file or program is found.
+/// Asks whether something that is required is found.
 fn is_found<W: World>(need: Need, word: &Text, world: &mut W) -> bool
     ensures { W.tells world.old (Finds need word.now result) world.new }
 {
@@ -16,7 +16,7 @@ fn is_found<W: World>(need: Need, word: &Text, world: &mut W) -> bool
     }
 }
 
-/// Asks for a required file or program, and notes it if it is there.
+/// Asks for something that is required, and notes it if it is there.
 fn look_for_word<W: World>(
     need: Need,
     word: &Text,
@@ -34,7 +34,7 @@ fn look_for_word<W: World>(
     Ok(())
 }
 
-/// Asks for each of some required files or programs, in order, and notes those that are there.
+/// Asks for each of some required words of a kind, in order, and notes those that are there.
 fn look_for_words<W: World>(
     need: Need,
     words: &[Text],
