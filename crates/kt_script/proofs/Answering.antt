@@ -1,6 +1,6 @@
 -- From the characters' tokens to the text.
 use Rattle.std.proofs.Common.{◌≡◌, ℕ, ◌≤◌, List, length, Result, Ok, Err, sym, subst, inr, IfOk, IsUtf8}
-use Rattle.kt_script.proofs.Common.{ScriptFault, NoMemory, NotUtf8, BadToken, NotLiteral, Unclosed, TooLong, Stmt, Token, Script, IfFault, IsFaultOf, tokens, limit, Spells, IsDue, Answers}
+use Rattle.kt_script.proofs.Common.{ScriptFault, NoMemory, Stmt, Token, Script, IfFault, IsFaultOf, tokens, limit, Spells, IsDue, Answers}
 use Rattle.kt_script.proofs.Sound.{one_script}
 use Rattle.kt_script.proofs.OneReading.{one_reading}
 use Rattle.kt_script.proofs.SomeReading.{some_reading}
@@ -24,11 +24,7 @@ pub only_answer : (r : Result (List Stmt) ScriptFault) (text cs : List ℕ) → 
     → IfFault r (λ f. IsFaultOf (tokens 1 0 cs) f) → (others : List Stmt) → Spells text others → Answers r others
 only_answer (Ok stmts) text cs is script fault others s = answers_ok stmts others text cs is script s
 only_answer (Err (NoMemory refusal)) text cs is script fault others s = tt
-only_answer (Err NotUtf8) text cs is script fault others s = never NotUtf8 others text cs is fault s
-only_answer (Err (BadToken n)) text cs is script fault others s = never (BadToken n) others text cs is fault s
-only_answer (Err (NotLiteral n)) text cs is script fault others s = never (NotLiteral n) others text cs is fault s
-only_answer (Err (Unclosed n)) text cs is script fault others s = never (Unclosed n) others text cs is fault s
-only_answer (Err TooLong) text cs is script fault others s = never TooLong others text cs is fault s
+only_answer (Err f) text cs is script fault others s = never f others text cs is fault s
 
 for_tokens : (f : ScriptFault) (text cs : List ℕ) → length text ≤ limit → IsUtf8 text → cs ≡ text → IsFaultOf (tokens 1 0 cs) f → IsDue text f
 for_tokens f text cs short utf8 is fault = inr (inr (short, utf8, tokens 1 0 text, some_reading 1 text, subst (λ (xs : List ℕ). IsFaultOf (tokens 1 0 xs) f) is fault))
@@ -37,8 +33,4 @@ pub refused : (r : Result (List Stmt) ScriptFault) (text cs : List ℕ) → leng
     → IfFault r (λ f. IsFaultOf (tokens 1 0 cs) f) → IfFault r (λ f. IsDue text f)
 refused (Ok stmts) text cs short utf8 is fault = tt
 refused (Err (NoMemory refusal)) text cs short utf8 is fault = tt
-refused (Err NotUtf8) text cs short utf8 is fault = for_tokens NotUtf8 text cs short utf8 is fault
-refused (Err (BadToken n)) text cs short utf8 is fault = for_tokens (BadToken n) text cs short utf8 is fault
-refused (Err (NotLiteral n)) text cs short utf8 is fault = for_tokens (NotLiteral n) text cs short utf8 is fault
-refused (Err (Unclosed n)) text cs short utf8 is fault = for_tokens (Unclosed n) text cs short utf8 is fault
-refused (Err TooLong) text cs short utf8 is fault = for_tokens TooLong text cs short utf8 is fault
+refused (Err f) text cs short utf8 is fault = for_tokens f text cs short utf8 is fault

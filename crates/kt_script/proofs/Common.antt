@@ -1,7 +1,8 @@
 -- The names that most proofs of this crate cite, passed on from one place. Declares nothing.
 pub use Rattle.std.proofs.Math.Seq.{drop-append_seam, take-append_seam}
-pub use Rattle.std.proofs.lemmas.Bool.{and_cases, and_parts, cases_Bool, cases_lt, eq-eqb, eqb-true, false≢true, le-ltb, leb-true, lt-ltb, not-false, not-true, or_cases}
-pub use Rattle.std.proofs.lemmas.List.{append-nil, get_or-drop, nil_from_length}
+pub use Rattle.std.proofs.lemmas.Bool.Decides.{nat_tests}
+pub use Rattle.std.proofs.lemmas.Bool.{cases_Bool, cases_lt, eq-eqb, eqb-true, false≢true, le-ltb, lt-ltb, not-false, or_parts}
+pub use Rattle.std.proofs.lemmas.List.{append-nil, nil_from_length}
 pub use Rattle.std.proofs.lemmas.List.Sums.{prefix_len-le-length, prefix_len_passes, prefix_len_stops}
 pub use Rattle.std.proofs.lemmas.Str.{IsCharBoundary-after_ascii, IsCharBoundary-before_ascii, IsCharBoundary-end, IsCharBoundary-from_rest, IsCharBoundary-start, IsUtf8-append, IsUtf8-drop, IsUtf8-from_ascii, IsUtf8-from_is_utf8, IsUtf8-nil, IsUtf8-take, chars-IsAscii, chars-append, chars-nil, is_utf8-from_IsUtf8}
 pub use Rattle.std.specs.List.{prefix_len, starts_with}
@@ -13,19 +14,19 @@ pub use denote.Shadow.{shadow}
 pub use denote.Text.{Utf8}
 pub use Rattle.kt_script.specs.Faults.{Begins, IfFault, IsFaultOf, Misfit, Unfinished, after_bracket, end_fault, fault_of, last, open_lines}
 pub use Rattle.kt_script.specs.Grammar.{Key, Parts, Script, Separator, Statement, assign, bare_table, by_name, by_text, call, call_table, call_text, comma, ended_and, first_line, kinds, last_pair, named_part, no_pairs, no_parts, no_stmts, pair, pair_and, placed, quoted_part, semicolon, stmt_and, token_of}
-pub use Rattle.kt_script.specs.Inner.Automaton.{IsResting, after_arg, after_comma, after_dot, after_key, after_key_equals, after_key_opened, after_key_quoted, after_name, after_pair, after_paren, after_path, after_path_equals, after_path_opened, after_path_quoted, begin, closed, ended_by, go_on, landed, listed, next, place_of, run, step, value_of, with_pair}
+pub use Rattle.kt_script.specs.Inner.Automaton.{IsResting, begin, closed, ended_by, go_on, landed, listed, next, place_of, run, step, value_of, with_pair}
 pub use Rattle.kt_script.specs.Inner.Comments.{closes_at, comment_at}
 pub use Rattle.kt_script.specs.Inner.Pieces.{blank, broken, token}
 pub use Rattle.kt_script.specs.Inner.Reading.{HasRead, IsMisfit}
 pub use Rattle.kt_script.specs.Inner.Strings.{decoded, escape_at, escape_stop, escaped, quoted, quoted_at, stop_at, string_at, with_front}
-pub use Rattle.kt_script.specs.Inner.Tokens.{marked, tokens_in, tokens_of}
+pub use Rattle.kt_script.specs.Inner.Tokens.{tokens_in, tokens_of}
 unfoldable pub use Rattle.kt_script.specs.Inner.Tokens.{piece_at, tokens}
 pub use Rattle.kt_script.specs.Inner.Words.{begins_with_letter, name_at, number, number_at}
 pub use Rattle.kt_script.specs.Letters.{escape_of, is_letter, is_plain, is_word}
 pub use Rattle.kt_script.specs.Spelling.{Answers, IsAnswer, IsDue, Refuses, Spells, limit}
-pub use Rattle.kt_script.specs.TokenRules.{Blank, Closes, Each, HasFlaw, Inside, IsStrange, IsTokens, NeverCloses, NoEscape, StopsAt, Word, a_mark, a_name, a_number, a_string, bad_escape, blank_and, endless_comment, endless_string, escape, in_line, is_level, is_quote, itself, large_number, lettered_number, leveled_comment, line_after, line_comment, line_past, lone_dash, long_comment, mark_of, no_word, not_yet, nothing, opens_level, opens_long, space, strange, the_end, word, word_and}
+pub use Rattle.kt_script.specs.TokenRules.{Blank, Closes, Each, HasFlaw, Inside, IsStrange, IsTokens, NeverCloses, NoEscape, StopsAt, Word, a_mark, a_name, a_number, a_string, bad_escape, blank_and, endless_comment, endless_string, escape, in_line, is_quote, itself, large_number, lettered_number, leveled_comment, line_after, line_comment, line_past, lone_dash, long_comment, mark_of, no_word, not_yet, nothing, opens_level, opens_long, space, strange, the_end, word, word_and}
 pub use Rattle.kt_script.specs.declared.fault.ScriptFault.{ScriptFault}
-pub use Rattle.kt_script.specs.declared.fault.ScriptFault.TheVariants.{BadToken, NoMemory, NotLiteral, NotUtf8, TooLong, Unclosed}
+pub use Rattle.kt_script.specs.declared.fault.ScriptFault.TheVariants.{NoMemory, NotUtf8, TooLong}
 pub use Rattle.kt_script.specs.declared.syntax.Literal.{Literal}
 pub use Rattle.kt_script.specs.declared.parser.Parser.{Parser}
 pub use Rattle.kt_script.specs.declared.place.Place.{Place}

@@ -1,6 +1,6 @@
 -- The code's steps go through each script, to its statements.
 use Rattle.std.proofs.Common.{◌≡◌, ℕ, true, false, List, [], ◌∷◌, ◌++◌, Option, Some, None, refl, ap, sym, ◌∙◌, append_assoc, option_map, option_and_then}
-use Rattle.kt_script.proofs.Common.{append-nil, Token, Kind, Name, Quoted, OpenParen, CloseParen, OpenBrace, CloseBrace, Equals, Semicolon, Place, Start, Whole, Within, Pair, Stmt, Literal, Action, Call, Assign, Table, State, Named, Pairs, Paired, Path, Step, To, Ends, token_of, pair, Key, by_name, by_text, Separator, comma, semicolon, no_pairs, last_pair, pair_and, Parts, no_parts, named_part, quoted_part, Statement, call, call_table, call_text, bare_table, assign, kinds, placed, Script, no_stmts, stmt_and, ended_and, value_of, closed, with_pair, step, next, landed, listed, run, IsResting}
+use Rattle.kt_script.proofs.Common.{append-nil, Token, Kind, Name, Quoted, OpenParen, CloseParen, OpenBrace, CloseBrace, Equals, Semicolon, Place, Start, Whole, Within, Pair, Stmt, Literal, Action, Call, Assign, Table, Named, Pairs, Paired, Path, Step, To, Ends, token_of, pair, Key, by_name, by_text, Separator, comma, semicolon, no_pairs, last_pair, pair_and, Parts, no_parts, named_part, quoted_part, Statement, call, call_table, call_text, bare_table, assign, kinds, placed, Script, no_stmts, stmt_and, ended_and, value_of, closed, with_pair, step, next, landed, listed, run, IsResting}
 use Rattle.kt_script.specs.declared.syntax.Literal.TheVariants as literal
 use Rattle.kt_script.specs.declared.syntax.Arg.TheVariants as arg
 use Rattle.kt_script.specs.Grammar as grammar
@@ -14,8 +14,7 @@ walk (Ends a) (k ∷ ks) = None
 
 value_of-token_of : (v : Literal) → value_of (token_of v) ≡ Some v
 value_of-token_of (literal.Text t) = refl
-value_of-token_of (literal.Number n) = refl
-value_of-token_of (literal.Truth b) = refl
+value_of-token_of v = refl
 
 -- ---- tables
 
@@ -55,8 +54,7 @@ parts_walk words parts (quoted_part {words = w} {parts = ps} t more) path v = pa
 first_part_walks : (words : List Kind) (parts : List (List ℕ)) → Parts words parts → (n : List ℕ) (v : Literal)
     → walk (To (Named n)) (words ++ Equals ∷ token_of v ∷ []) ≡ walk (To (Path (n ∷ []))) (words ++ Equals ∷ token_of v ∷ [])
 first_part_walks words parts no_parts n v = refl
-first_part_walks words parts (named_part m more) n v = refl
-first_part_walks words parts (quoted_part m more) n v = refl
+first_part_walks words parts are n v = refl
 
 -- ---- statements
 
@@ -69,8 +67,7 @@ pub record Walks (words : List Kind) (a : Action) : Type 0 where
 
 call_walks : (n : List ℕ) (v : Literal) → walk (To (Named n)) (OpenParen ∷ token_of v ∷ CloseParen ∷ []) ≡ Some (Ends (Call n (arg.Value v)))
 call_walks n (literal.Text t) = refl
-call_walks n (literal.Number m) = refl
-call_walks n (literal.Truth b) = refl
+call_walks n v = refl
 
 pub statement_walks : (words : List Kind) (a : Action) → Statement words a → Walks words a
 statement_walks words a (call n v) = record { name = n; rest = OpenParen ∷ token_of v ∷ CloseParen ∷ []; parts = refl; ends = call_walks n v }
@@ -87,14 +84,6 @@ statement_walks words a (assign {words = w} {parts = ps} n more v) =
 abbrev pub joined : List Stmt → Place × List Stmt → Place × List Stmt
 joined front end = (end.0, front ++ end.1)
 
-pub ends_is : (b a : Action) (rest : List Kind) → walk (Ends b) rest ≡ Some (Ends a) → (rest ≡ []) × (b ≡ a)
-ends_is b a [] e = (refl, cc)
-ends_is b a (k ∷ rest) e = absurd cc
-
-pub kinds-nil : (ts : List Token) → kinds ts ≡ [] → ts ≡ []
-kinds-nil [] e = refl
-kinds-nil (t ∷ ts) e = absurd cc
-
 pub bind_some : {A B : Type 0} (o : Option A) (f : A → Option B) (y : B) → option_and_then f o ≡ Some y → (x : A) × (o ≡ Some x) × (f x ≡ Some y)
 bind_some None f y e = absurd cc
 bind_some (Some x) f y e = (x, refl, e)
@@ -103,21 +92,6 @@ pub map_some : {A B : Type 0} (o : Option A) (f : A → B) (y : B) → option_ma
 map_some None f y e = absurd cc
 map_some (Some x) f y e = (x, refl, cc)
 
--- the rest of a statement, as tokens
-within_step : (to : Step) (ts : List Token) (line : ℕ) (a : Action)
-    → ((r : State) → walk (To r) (kinds ts) ≡ Some (Ends a) → run (Within line r) ts ≡ Some (Whole, record { line = line; action = a } ∷ []))
-    → walk to (kinds ts) ≡ Some (Ends a)
-    → option_map (joined (listed (landed line to).1)) (run (landed line to).0 ts) ≡ Some (Whole, record { line = line; action = a } ∷ [])
-within_step (To r) ts line a later h = rw (later r h) refl
-within_step (Ends b) ts line a later h = let d = ends_is b a (kinds ts) h in rw (kinds-nil ts d.0, d.1) refl
-
-within_runs : (ts : List Token) (line : ℕ) (q : State) (a : Action) → walk (To q) (kinds ts) ≡ Some (Ends a)
-    → run (Within line q) ts ≡ Some (Whole, record { line = line; action = a } ∷ [])
-within_runs [] line q a e = absurd cc
-within_runs (t ∷ ts) line q a e =
-    let b = bind_some (step q t.kind) (λ s. walk s (kinds ts)) (Ends a) e in
-    rw b.1 (within_step b.0 ts line a (λ r h. within_runs ts line r a h) b.2)
-
 joined_twice : (xs ys : List Stmt) (o : Option (Place × List Stmt)) → option_map (joined xs) (option_map (joined ys) o) ≡ option_map (joined (xs ++ ys)) o
 joined_twice xs ys None = refl
 joined_twice xs ys (Some end) = ap (λ (zs : List Stmt). Some (end.0, zs)) (sym (append_assoc xs ys end.1))
@@ -125,6 +99,19 @@ joined_twice xs ys (Some end) = ap (λ (zs : List Stmt). Some (end.0, zs)) (sym 
 joined_none : (o : Option (Place × List Stmt)) → option_map (joined []) o ≡ o
 joined_none None = refl
 joined_none (Some end) = refl
+
+-- where a step leads, and the statements that it ends
+abbrev pub reached : ℕ → Step → Place × List Stmt
+reached line s = ((landed line s).0, listed (landed line s).1)
+
+-- the rest of a statement, as tokens
+steps_run : (ts : List Token) (line : ℕ) (s r : Step) → walk s (kinds ts) ≡ Some r → option_map (joined (listed (landed line s).1)) (run (landed line s).0 ts) ≡ Some (reached line r)
+steps_run [] line (To q) r e = ap (λ (s : Step). Some (reached line s)) (same_Some (To q) r e)
+steps_run [] line (Ends a) r e = ap (λ (s : Step). Some (reached line s)) (same_Some (Ends a) r e)
+steps_run (t ∷ ts) line (To q) r e =
+    let b = bind_some (step q t.kind) (λ s. walk s (kinds ts)) r e in
+    joined_none (run (Within line q) (t ∷ ts)) ∙ rw b.1 (steps_run ts line b.0 r b.2)
+steps_run (t ∷ ts) line (Ends a) r e = absurd cc
 
 pub run-append : (xs : List Token) (p q : Place) (ys : List Token) (ss : List Stmt) → run p xs ≡ Some (q, ss) → run p (xs ++ ys) ≡ option_map (joined ss) (run q ys)
 run-append [] p q ys ss e =
@@ -139,22 +126,23 @@ run-append (t ∷ xs) p q ys ss e =
 
 -- ---- scripts
 
-pub name_from_resting : (p : Place) (t : Token) (n : List ℕ) → IsResting p → t.kind ≡ Name n → next p t ≡ Some (Within t.line (Named n), None)
+name_from_resting : (p : Place) (t : Token) (n : List ℕ) → IsResting p → t.kind ≡ Name n → next p t ≡ Some (Within t.line (Named n), None)
 name_from_resting Start t n r e = rw e refl
 name_from_resting Whole t n r e = rw e refl
 name_from_resting (Within line q) t n r e = elim r [ ]
 
-named_runs : (t : Token) (ts : List Token) (p : Place) (a : Action) (n : List ℕ) (rest : List Kind) → IsResting p
-    → t.kind ≡ Name n → kinds ts ≡ rest → walk (To (Named n)) rest ≡ Some (Ends a) → run p (t ∷ ts) ≡ Some (Whole, placed (t ∷ ts) a ∷ [])
-named_runs t ts p a n rest r first others ends =
-    rw (name_from_resting p t n r first, within_runs ts t.line (Named n) a (ap (walk (To (Named n))) others ∙ ends)) refl
+-- a statement's name, and tokens after it
+pub named_runs : (t : Token) (ts : List Token) (p : Place) (n : List ℕ) (s : Step) → IsResting p → t.kind ≡ Name n → walk (To (Named n)) (kinds ts) ≡ Some s
+    → run p (t ∷ ts) ≡ Some (reached t.line s)
+named_runs t ts p n s r first leads = rw (name_from_resting p t n r first) (steps_run ts t.line (To (Named n)) s leads)
 
 phrase_runs : (phrase : List Token) (p : Place) (a : Action) → IsResting p → Statement (kinds phrase) a → run p phrase ≡ Some (Whole, placed phrase a ∷ [])
 phrase_runs [] p a r st = let w = statement_walks [] a st in let e = w.parts in absurd cc
 phrase_runs (t ∷ ts) p a r st =
     let w = statement_walks (kinds (t ∷ ts)) a st in
     let parts = w.parts in
-    named_runs t ts p a w.name w.rest r (cc) (cc) w.ends
+    let others : kinds ts ≡ w.rest = cc in
+    named_runs t ts p w.name (Ends a) r (cc) (ap (walk (To (Named w.name))) others ∙ w.ends)
 
 -- some resting place is where a script leads
 pub record Rests (p : Place) (ts : List Token) (stmts : List Stmt) : Type 0 where

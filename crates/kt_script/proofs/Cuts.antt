@@ -1,6 +1,6 @@
 -- Where a text may be cut: after a piece, the rest is UTF-8 again.
-use Rattle.std.proofs.Common.{◌≡◌, ℕ, zero, suc, ◌+◌, ◌<◌, ◌≤◌, Bool, true, false, eqb, leb, ◌&&◌, ◌||◌, List, ◌∷◌, length, drop, get_or, refl, ap, sym, subst, ◌∙◌, arith, inl, inr, IsUtf8}
-use Rattle.kt_script.proofs.Common.{IsCharBoundary, prefix_len, eqb-true, leb-true, and_parts, or_cases, cases_lt, prefix_len-le-length, prefix_len_passes, prefix_len_stops, IsCharBoundary-start, IsCharBoundary-end, IsCharBoundary-before_ascii, IsCharBoundary-after_ascii, is_space, is_letter, is_word, is_digit}
+use Rattle.std.proofs.Common.{◌≡◌, ℕ, zero, suc, ◌+◌, ◌<◌, ◌≤◌, Bool, true, false, List, ◌∷◌, length, drop, get_or, refl, ap, sym, subst, ◌∙◌, arith, inl, inr, IsUtf8}
+use Rattle.kt_script.proofs.Common.{nat_tests, IsCharBoundary, prefix_len, cases_lt, prefix_len-le-length, prefix_len_passes, prefix_len_stops, IsCharBoundary-start, IsCharBoundary-end, IsCharBoundary-before_ascii, IsCharBoundary-after_ascii, is_space, is_word, is_digit}
 
 -- ---- runs of bytes
 
@@ -24,35 +24,16 @@ stopping_cut p small bs =
       | inr le ↦ let e : length bs ≡ prefix_len p bs = omega (arith, prefix_len-le-length p bs) in subst (IsCharBoundary bs) e (IsCharBoundary-end bs)
     ]
 
--- after one ASCII byte
-pub first_cut : (c : ℕ) (cs : List ℕ) → IsUtf8 (c ∷ cs) → c < 128 → IsCharBoundary (c ∷ cs) 1
-first_cut c cs u small = let e : 0 + 1 ≡ 1 = refl in subst (IsCharBoundary (c ∷ cs)) e (IsCharBoundary-after_ascii (c ∷ cs) 0 u (omega arith) small)
-
 -- ---- classes
 
 pub digit_small : (c : ℕ) → is_digit c ≡ true → c < 128
-digit_small c e = omega (arith, leb-true c 57 (and_parts (leb 48 c) (leb c 57) e).1)
+digit_small c e = grind (arith, nat_tests, e)
 
 pub space_small : (c : ℕ) → is_space c ≡ true → c < 128
-space_small c e =
-    elim (or_cases (eqb c 32) (leb 9 c && leb c 13) e) [
-      | inl one ↦ omega (arith, eqb-true c 32 one)
-      | inr two ↦ omega (arith, leb-true c 13 (and_parts (leb 9 c) (leb c 13) two).1)
-    ]
-
-cased_small : (c : ℕ) → (leb 97 c && leb c 122) || (leb 65 c && leb c 90) ≡ true → c < 128
-cased_small c e =
-    elim (or_cases (leb 97 c && leb c 122) (leb 65 c && leb c 90) e) [
-      | inl low ↦ omega (arith, leb-true c 122 (and_parts (leb 97 c) (leb c 122) low).1)
-      | inr up ↦ omega (arith, leb-true c 90 (and_parts (leb 65 c) (leb c 90) up).1)
-    ]
-
-pub letter_small : (c : ℕ) → is_letter c ≡ true → c < 128
-letter_small c e =
-    elim (or_cases ((leb 97 c && leb c 122) || (leb 65 c && leb c 90)) (eqb c 95) e) [ inl cased ↦ cased_small c cased | inr line ↦ omega (arith, eqb-true c 95 line) ]
+space_small c e = grind (arith, nat_tests, e)
 
 pub word_small : (c : ℕ) → is_word c ≡ true → c < 128
-word_small c e = elim (or_cases (is_letter c) (is_digit c) e) [ inl letter ↦ letter_small c letter | inr digit ↦ digit_small c digit ]
+word_small c e = grind (arith, nat_tests, e)
 
 pub passing_cut_at : (p : ℕ → Bool) → ((c : ℕ) → p c ≡ true → c < 128) → (text bs : List ℕ) (n : ℕ) → n ≡ prefix_len p bs → bs ≡ text → IsUtf8 text → IsCharBoundary text n
 passing_cut_at p small text bs n value same u = subst (IsCharBoundary text) (sym (value ∙ ap (prefix_len p) same)) (passing_cut p small text u)
@@ -60,5 +41,9 @@ passing_cut_at p small text bs n value same u = subst (IsCharBoundary text) (sym
 pub stopping_cut_at : (p : ℕ → Bool) → ((c : ℕ) → p c ≡ false → c < 128) → (text bs : List ℕ) (n : ℕ) → n ≡ prefix_len p bs → bs ≡ text → IsCharBoundary text n
 stopping_cut_at p small text bs n value same = subst (IsCharBoundary text) (sym (value ∙ ap (prefix_len p) same)) (stopping_cut p small text)
 
-pub first_cut_of : (c : ℕ) (text : List ℕ) → text ≡ c ∷ drop 1 text → IsUtf8 text → c < 128 → IsCharBoundary text 1
-first_cut_of c text parts u small = subst (λ (xs : List ℕ). IsCharBoundary xs 1) (sym parts) (first_cut c (drop 1 text) (subst IsUtf8 parts u) small)
+pub first_cut : (c : ℕ) (text : List ℕ) → text ≡ c ∷ drop 1 text → IsUtf8 text → c < 128 → IsCharBoundary text 1
+first_cut c text parts u small =
+    let e : 0 + 1 ≡ 1 = refl in
+    let len = ap (λ (xs : List ℕ). length xs) parts in
+    let here = ap (λ (xs : List ℕ). get_or xs 0 0) parts in
+    subst (IsCharBoundary text) e (IsCharBoundary-after_ascii text 0 u (omega (arith, len)) (omega (arith, here, small)))

@@ -1,95 +1,163 @@
--- What may still come: which words end the statement that a state is within.
-use Rattle.std.proofs.Common.{◌≡◌, ℕ, Bool, true, false, List, [], ◌∷◌, ◌++◌, ap, sym, subst, append_assoc, if◌then◌else◌}
-use Rattle.kt_script.proofs.Common.{append-nil, Kind, Name, Quoted, OpenParen, CloseParen, CloseBrace, OpenBracket, CloseBracket, Equals, Dot, Literal, Pair, Action, Call, Assign, Table, State, Named, Opened, Closing, Pairs, KeyOpened, KeyQuoted, Keyed, KeyEquals, Paired, Dotted, PathOpened, PathQuoted, Path, PathEquals, Step, To, Ends, token_of, pair, Key, Separator, no_pairs, last_pair, pair_and, Parts, no_parts, named_part, quoted_part, Statement, assign, closed, with_pair}
+-- Words that lead from a statement's name to its end are the rest of a statement; and each state has words that lead to an end.
+use Rattle.std.proofs.Common.{◌≡◌, ℕ, Bool, true, false, List, [], ◌∷◌, ◌++◌, Some, refl, ap, append_assoc, if◌then◌else◌}
+use Rattle.kt_script.proofs.Common.{append-nil, Kind, Name, Quoted, Number, Truth, OpenParen, CloseParen, OpenBrace, CloseBrace, OpenBracket, CloseBracket, Equals, Comma, Semicolon, Dot, Literal, Pair, Action, Call, Assign, Table, State, Named, Opened, Closing, Pairs, KeyOpened, KeyQuoted, Keyed, KeyEquals, Paired, Dotted, PathOpened, PathQuoted, Path, PathEquals, Step, To, Ends, token_of, pair, Key, by_name, by_text, Separator, comma, semicolon, no_pairs, last_pair, pair_and, Parts, no_parts, named_part, quoted_part, Statement, call, call_table, call_text, bare_table, assign, with_pair, step}
 use Rattle.kt_script.specs.declared.syntax.Arg.TheVariants as arg
+use Rattle.kt_script.specs.declared.syntax.Literal.TheVariants as literal
 use Rattle.kt_script.specs.Grammar as grammar
+use Rattle.kt_script.proofs.Complete.{walk, bind_some}
+use Rattle.std.proofs.lemmas.Option.{same_Some}
 
-abbrev pub closing : Bool → List Kind
-closing true = CloseBrace ∷ CloseParen ∷ []
-closing false = CloseBrace ∷ []
-
-pub data EndsTable (t : Table) : List Kind → Action → Type 0 where
-  table_ends : {words : List Kind} {pairs : List Pair} → grammar.Pairs words pairs → EndsTable t (words ++ closing t.in_parens) (Call t.name (arg.Table (t.pairs ++ pairs)))
-
-pub data AfterPair (t : Table) : List Kind → Action → Type 0 where
-  pair_closes : AfterPair t (closing t.in_parens) (Call t.name (arg.Table t.pairs))
-  pair_goes_on : {s : Kind} {rest : List Kind} {a : Action} → Separator s → EndsTable t rest a → AfterPair t (s ∷ rest) a
-
-pub data AfterKey (t : Table) (key : List ℕ) : List Kind → Action → Type 0 where
-  key_goes_on : (v : Literal) {rest : List Kind} {a : Action} → AfterPair (with_pair t key v) rest a → AfterKey t key (Equals ∷ token_of v ∷ rest) a
-
-pub data EndsPath (path : List (List ℕ)) : List Kind → Action → Type 0 where
-  path_ends : {words : List Kind} {parts : List (List ℕ)} (v : Literal) → Parts words parts → EndsPath path (words ++ Equals ∷ token_of v ∷ []) (Assign (path ++ parts) v)
-
--- the words end the statement, which is then this action
-abbrev pub Ending : State → List Kind → Action → Type 0
-Ending (Named n) w a = Statement (Name n ∷ w) a
-Ending (Opened n) w a = Statement (Name n ∷ OpenParen ∷ w) a
-Ending (Closing c) w a = (w ≡ CloseParen ∷ []) × (a ≡ c)
-Ending (Pairs t) w a = EndsTable t w a
-Ending (KeyOpened t) w a = (key : List ℕ) × (rest : List Kind) × (w ≡ Quoted key ∷ CloseBracket ∷ rest) × AfterKey t key rest a
-Ending (KeyQuoted t key) w a = (rest : List Kind) × (w ≡ CloseBracket ∷ rest) × AfterKey t key rest a
-Ending (Keyed t key) w a = AfterKey t key w a
-Ending (KeyEquals t key) w a = (v : Literal) × (rest : List Kind) × (w ≡ token_of v ∷ rest) × AfterPair (with_pair t key v) rest a
-Ending (Paired t) w a = AfterPair t w a
-Ending (Dotted path) w a = (n : List ℕ) × (rest : List Kind) × (w ≡ Name n ∷ rest) × EndsPath (path ++ n ∷ []) rest a
-Ending (PathOpened path) w a = (t : List ℕ) × (rest : List Kind) × (w ≡ Quoted t ∷ CloseBracket ∷ rest) × EndsPath (path ++ t ∷ []) rest a
-Ending (PathQuoted path) w a = (rest : List Kind) × (w ≡ CloseBracket ∷ rest) × EndsPath path rest a
-Ending (Path path) w a = EndsPath path w a
-Ending (PathEquals path) w a = (v : Literal) × (w ≡ token_of v ∷ []) × (a ≡ Assign path v)
-
-abbrev pub EndsFrom : Step → List Kind → Action → Type 0
-EndsFrom (To q) w a = Ending q w a
-EndsFrom (Ends b) w a = (w ≡ []) × (a ≡ b)
+-- words, and what follows where they lead
+pub walk-append : (xs ys : List Kind) (s r : Step) → walk s xs ≡ Some r → walk s (xs ++ ys) ≡ walk r ys
+walk-append [] ys s r e = ap (λ (s : Step). walk s ys) (same_Some s r e)
+walk-append (k ∷ xs) ys (To q) r e = let b = bind_some (step q k) (λ s. walk s xs) r e in rw b.1 (walk-append xs ys b.0 r b.2)
+walk-append (k ∷ xs) ys (Ends a) r e = absurd cc
 
 -- ---- tables
 
-brace_closes : (b : Bool) (c : Action) (w : List Kind) (a : Action) → EndsFrom (if b then To (Closing c) else Ends c) w a → (CloseBrace ∷ w ≡ closing b) × (a ≡ c)
-brace_closes true c w a h = (ap (λ (x : List Kind). CloseBrace ∷ x) h.0, h.1)
-brace_closes false c w a h = (ap (λ (x : List Kind). CloseBrace ∷ x) h.0, h.1)
+-- what follows the brace that closes a table
+abbrev parens : Bool → List Kind
+parens true = CloseParen ∷ []
+parens false = []
 
-pub closes_pair : (t : Table) (w : List Kind) (a : Action) → EndsFrom (closed t) w a → AfterPair t (CloseBrace ∷ w) a
-closes_pair t w a h =
-    let d = brace_closes t.in_parens (Call t.name (arg.Table t.pairs)) w a h in
-    rw (d.0, d.1) pair_closes
+-- the rest of a table, and of its statement
+data EndsTable (t : Table) : List Kind → Action → Type 0 where
+  table_ends : {words : List Kind} {pairs : List Pair} → grammar.Pairs words pairs → EndsTable t (words ++ CloseBrace ∷ parens t.in_parens) (Call t.name (arg.Table (t.pairs ++ pairs)))
 
-pub closes_table : (t : Table) (w : List Kind) (a : Action) → EndsFrom (closed t) w a → EndsTable t (CloseBrace ∷ w) a
-closes_table t w a h =
-    let d = brace_closes t.in_parens (Call t.name (arg.Table t.pairs)) w a h in
-    let none : EndsTable t (closing t.in_parens) (Call t.name (arg.Table (t.pairs ++ []))) = table_ends no_pairs in
-    rw (d.0, d.1) (subst (λ (ps : List Pair). EndsTable t (closing t.in_parens) (Call t.name (arg.Table ps))) (append-nil t.pairs) none)
+-- what a brace closes
+closes : (b : Bool) (c a : Action) (w : List Kind) → walk (if b then To (Closing c) else Ends c) w ≡ Some (Ends a) → (w ≡ parens b) × (c ≡ a)
+closes true c a (CloseParen ∷ []) e = (refl, cc)
+closes true c a _ e = absurd cc
+closes false c a [] e = (refl, cc)
+closes false c a (k ∷ w) e = absurd cc
 
--- a pair, and what ends the table after it
-pair_then : (t : Table) (words : List Kind) (key : List ℕ) (v : Literal) (w : List Kind) (a : Action) → Key words key → AfterPair (with_pair t key v) w a
-    → EndsTable t (words ++ Equals ∷ token_of v ∷ w) a
-pair_then t words key v w a is pair_closes =
-    let one : EndsTable t ((words ++ Equals ∷ token_of v ∷ []) ++ closing t.in_parens) (Call t.name (arg.Table (t.pairs ++ pair key v ∷ []))) = table_ends (last_pair is v) in
-    subst (λ (x : List Kind). EndsTable t x (Call t.name (arg.Table (t.pairs ++ pair key v ∷ [])))) (append_assoc words (Equals ∷ token_of v ∷ []) (closing t.in_parens)) one
-pair_then t words key v w a is (pair_goes_on {s = s} sep (table_ends {words = others} {pairs = ps} are)) =
-    let all : EndsTable t ((words ++ Equals ∷ token_of v ∷ s ∷ others) ++ closing t.in_parens) (Call t.name (arg.Table (t.pairs ++ pair key v ∷ ps))) = table_ends (pair_and is v sep are) in
-    let regrouped : EndsTable t (words ++ Equals ∷ token_of v ∷ s ∷ (others ++ closing t.in_parens)) (Call t.name (arg.Table (t.pairs ++ pair key v ∷ ps))) =
-    subst (λ (x : List Kind). EndsTable t x (Call t.name (arg.Table (t.pairs ++ pair key v ∷ ps)))) (append_assoc words (Equals ∷ token_of v ∷ s ∷ others) (closing t.in_parens)) all in
-    subst (λ (x : List Pair). EndsTable t (words ++ Equals ∷ token_of v ∷ s ∷ (others ++ closing t.in_parens)) (Call t.name (arg.Table x))) (sym (append_assoc t.pairs (pair key v ∷ []) ps)) regrouped
+-- a table without another pair
+closed_at_once : (t : Table) (w : List Kind) (a : Action) → (w ≡ parens t.in_parens) × (Call t.name (arg.Table t.pairs) ≡ a) → EndsTable t (CloseBrace ∷ w) a
+closed_at_once t w a d =
+    let none : EndsTable t (CloseBrace ∷ parens t.in_parens) (Call t.name (arg.Table (t.pairs ++ []))) = table_ends no_pairs in
+    rw (d.0, ← d.1) (rw append-nil at none)
 
-pub key_then : (t : Table) (words : List Kind) (key : List ℕ) (w : List Kind) (a : Action) → Key words key → AfterKey t key w a → EndsTable t (words ++ w) a
-key_then t words key w a is (key_goes_on v {rest = rest} after) = pair_then t words key v rest a is after
+-- the last pair of a table
+closed_after : (t : Table) (words : List Kind) (key : List ℕ) (v : Literal) (w : List Kind) (a : Action) → Key words key
+    → (w ≡ parens t.in_parens) × (Call t.name (arg.Table (with_pair t key v).pairs) ≡ a) → EndsTable t (words ++ Equals ∷ token_of v ∷ CloseBrace ∷ w) a
+closed_after t words key v w a is d =
+    let one : EndsTable t ((words ++ Equals ∷ token_of v ∷ []) ++ CloseBrace ∷ parens t.in_parens) (Call t.name (arg.Table (with_pair t key v).pairs)) = table_ends (last_pair is v) in
+    rw (d.0, ← d.1) (rw append_assoc at one)
+
+-- a pair that others follow
+pair_and_more : (t : Table) (words : List Kind) (key : List ℕ) (v : Literal) (s : Kind) (w : List Kind) (a : Action) → Key words key → Separator s → EndsTable (with_pair t key v) w a
+    → EndsTable t (words ++ Equals ∷ token_of v ∷ s ∷ w) a
+pair_and_more t words key v s w a is sep (table_ends {words = others} {pairs = ps} more) =
+    let all : EndsTable t ((words ++ Equals ∷ token_of v ∷ s ∷ others) ++ CloseBrace ∷ parens t.in_parens) (Call t.name (arg.Table (t.pairs ++ pair key v ∷ ps))) = table_ends (pair_and is v sep more) in
+    rw append_assoc (rw append_assoc at all)
+
+-- a pair, if what follows a separator after it ends a table
+module _ (t : Table) (words : List Kind) (key : List ℕ) (is : Key words key) (w : List Kind) (a : Action) (later : (u : Table) → walk (To (Pairs u)) w ≡ Some (Ends a) → EndsTable u w a) where
+  pair_ends : (v : Literal) (s : Kind) → walk (To (Paired (with_pair t key v))) (s ∷ w) ≡ Some (Ends a) → EndsTable t (words ++ Equals ∷ token_of v ∷ s ∷ w) a
+  pair_ends v Comma e = pair_and_more t words key v Comma w a is comma (later (with_pair t key v) e)
+  pair_ends v Semicolon e = pair_and_more t words key v Semicolon w a is semicolon (later (with_pair t key v) e)
+  pair_ends v CloseBrace e = closed_after t words key v w a is (closes t.in_parens (Call t.name (arg.Table (with_pair t key v).pairs)) a w e)
+  pair_ends v _ e = absurd cc
+
+  pair_at : (k s : Kind) → walk (To (KeyEquals t key)) (k ∷ s ∷ w) ≡ Some (Ends a) → EndsTable t (words ++ Equals ∷ k ∷ s ∷ w) a
+  pair_at (Quoted x) s e = pair_ends (literal.Text x) s e
+  pair_at (Number n) s e = pair_ends (literal.Number n) s e
+  pair_at (Truth b) s e = pair_ends (literal.Truth b) s e
+  pair_at _ s e = absurd cc
+
+-- no table ends with a value
+no_end : (t : Table) (key : List ℕ) (k : Kind) (a : Action) → walk (To (KeyEquals t key)) (k ∷ []) ≡ Some (Ends a) → ⊥
+no_end t key (Quoted x) a e = cc
+no_end t key _ a e = cc
+
+-- what leads from a table to an end
+table_is : (t : Table) (w : List Kind) (a : Action) → walk (To (Pairs t)) w ≡ Some (Ends a) → EndsTable t w a
+table_is t (CloseBrace ∷ w) a e = closed_at_once t w a (closes t.in_parens (Call t.name (arg.Table t.pairs)) a w e)
+table_is t (Name n ∷ Equals ∷ k ∷ s ∷ w) a e = pair_at t (Name n ∷ []) n (by_name n) w a (λ u. table_is u w a) k s e
+table_is t (Name n ∷ Equals ∷ k ∷ []) a e = absurd (no_end t n k a e)
+table_is t (OpenBracket ∷ Quoted n ∷ CloseBracket ∷ Equals ∷ k ∷ s ∷ w) a e = pair_at t (OpenBracket ∷ Quoted n ∷ CloseBracket ∷ []) n (by_text n) w a (λ u. table_is u w a) k s e
+table_is t (OpenBracket ∷ Quoted n ∷ CloseBracket ∷ Equals ∷ k ∷ []) a e = absurd (no_end t n k a e)
+table_is t _ a e = absurd cc
 
 -- ---- paths
 
-pub name_then : (path : List (List ℕ)) (n : List ℕ) (w : List Kind) (a : Action) → EndsPath (path ++ n ∷ []) w a → EndsPath path (Dot ∷ Name n ∷ w) a
-name_then path n w a (path_ends {words = words} {parts = parts} v more) =
-    let all : EndsPath path (Dot ∷ Name n ∷ words ++ Equals ∷ token_of v ∷ []) (Assign (path ++ n ∷ parts) v) = path_ends v (named_part n more) in
-    subst (λ (x : List (List ℕ)). EndsPath path (Dot ∷ Name n ∷ words ++ Equals ∷ token_of v ∷ []) (Assign x v)) (sym (append_assoc path (n ∷ []) parts)) all
+-- the rest of a path, and of its statement
+data EndsPath (path : List (List ℕ)) : List Kind → Action → Type 0 where
+  path_ends : {words : List Kind} {parts : List (List ℕ)} (v : Literal) → Parts words parts → EndsPath path (words ++ Equals ∷ token_of v ∷ []) (Assign (path ++ parts) v)
 
-pub text_then : (path : List (List ℕ)) (t : List ℕ) (w : List Kind) (a : Action) → EndsPath (path ++ t ∷ []) w a → EndsPath path (OpenBracket ∷ Quoted t ∷ CloseBracket ∷ w) a
-text_then path t w a (path_ends {words = words} {parts = parts} v more) =
-    let all : EndsPath path (OpenBracket ∷ Quoted t ∷ CloseBracket ∷ words ++ Equals ∷ token_of v ∷ []) (Assign (path ++ t ∷ parts) v) = path_ends v (quoted_part t more) in
-    subst (λ (x : List (List ℕ)). EndsPath path (OpenBracket ∷ Quoted t ∷ CloseBracket ∷ words ++ Equals ∷ token_of v ∷ []) (Assign x v)) (sym (append_assoc path (t ∷ []) parts)) all
+-- a name more
+name_then : (path : List (List ℕ)) (n : List ℕ) (w : List Kind) (a : Action) → EndsPath (path ++ n ∷ []) w a → EndsPath path (Dot ∷ Name n ∷ w) a
+name_then path n w a (path_ends v more) = rw append_assoc (path_ends v (named_part n more))
 
-pub value_then : (path : List (List ℕ)) (v : Literal) → EndsPath path (Equals ∷ token_of v ∷ []) (Assign path v)
-value_then path v =
+-- a string in brackets more
+text_then : (path : List (List ℕ)) (t : List ℕ) (w : List Kind) (a : Action) → EndsPath (path ++ t ∷ []) w a → EndsPath path (OpenBracket ∷ Quoted t ∷ CloseBracket ∷ w) a
+text_then path t w a (path_ends v more) = rw append_assoc (path_ends v (quoted_part t more))
+
+-- the value of an assignment
+value_then : (path : List (List ℕ)) (v : Literal) (a : Action) → Some (Ends (Assign path v)) ≡ Some (Ends a) → EndsPath path (Equals ∷ token_of v ∷ []) a
+value_then path v a e =
+    let same : Assign path v ≡ a = cc in
     let all : EndsPath path (Equals ∷ token_of v ∷ []) (Assign (path ++ []) v) = path_ends v no_parts in
-    subst (λ (x : List (List ℕ)). EndsPath path (Equals ∷ token_of v ∷ []) (Assign x v)) (append-nil path) all
+    rw (← same) (rw append-nil at all)
 
-pub path_is : (n : List ℕ) (w : List Kind) (a : Action) → EndsPath (n ∷ []) w a → Statement (Name n ∷ w) a
-path_is n w a (path_ends v more) = assign n more v
+-- what leads from a path to an end
+path_is : (path : List (List ℕ)) (w : List Kind) (a : Action) → walk (To (Path path)) w ≡ Some (Ends a) → EndsPath path w a
+path_is path (Dot ∷ Name n ∷ w) a e = name_then path n w a (path_is (path ++ n ∷ []) w a e)
+path_is path (OpenBracket ∷ Quoted t ∷ CloseBracket ∷ w) a e = text_then path t w a (path_is (path ++ t ∷ []) w a e)
+path_is path (Equals ∷ Quoted t ∷ []) a e = value_then path (literal.Text t) a e
+path_is path (Equals ∷ Number n ∷ []) a e = value_then path (literal.Number n) a e
+path_is path (Equals ∷ Truth b ∷ []) a e = value_then path (literal.Truth b) a e
+path_is path _ a e = absurd cc
+
+-- ---- statements
+
+-- the same statement, by its end
+ended : (w : List Kind) (b a : Action) → Some (Ends b) ≡ Some (Ends a) → Statement w b → Statement w a
+ended w b a e st = let same : b ≡ a = cc in rw (← same) st
+
+-- a table without parentheses
+bare : (n : List ℕ) (w : List Kind) (a : Action) → EndsTable (record { name = n; in_parens = false; pairs = [] }) w a → Statement (Name n ∷ OpenBrace ∷ w) a
+bare n w a (table_ends are) = bare_table n are
+
+-- a table in parentheses
+in_parens : (n : List ℕ) (w : List Kind) (a : Action) → EndsTable (record { name = n; in_parens = true; pairs = [] }) w a → Statement (Name n ∷ OpenParen ∷ OpenBrace ∷ w) a
+in_parens n w a (table_ends are) = call_table n are
+
+-- an assignment
+assigned : (n : List ℕ) (w : List Kind) (a : Action) → EndsPath (n ∷ []) w a → Statement (Name n ∷ w) a
+assigned n w a (path_ends v more) = assign n more v
+
+-- what leads from a name to an end
+pub statement_is : (n : List ℕ) (w : List Kind) (a : Action) → walk (To (Named n)) w ≡ Some (Ends a) → Statement (Name n ∷ w) a
+statement_is n (Quoted t ∷ []) a e = ended (Name n ∷ Quoted t ∷ []) (Call n (arg.Value (literal.Text t))) a e (call_text n t)
+statement_is n (OpenBrace ∷ w) a e = bare n w a (table_is (record { name = n; in_parens = false; pairs = [] }) w a e)
+statement_is n (OpenParen ∷ OpenBrace ∷ w) a e = in_parens n w a (table_is (record { name = n; in_parens = true; pairs = [] }) w a e)
+statement_is n (OpenParen ∷ Quoted t ∷ CloseParen ∷ []) a e = ended (Name n ∷ OpenParen ∷ Quoted t ∷ CloseParen ∷ []) (Call n (arg.Value (literal.Text t))) a e (call n (literal.Text t))
+statement_is n (OpenParen ∷ Number m ∷ CloseParen ∷ []) a e = ended (Name n ∷ OpenParen ∷ Number m ∷ CloseParen ∷ []) (Call n (arg.Value (literal.Number m))) a e (call n (literal.Number m))
+statement_is n (OpenParen ∷ Truth b ∷ CloseParen ∷ []) a e = ended (Name n ∷ OpenParen ∷ Truth b ∷ CloseParen ∷ []) (Call n (arg.Value (literal.Truth b))) a e (call n (literal.Truth b))
+statement_is n (Dot ∷ w) a e = assigned n (Dot ∷ w) a (path_is (n ∷ []) (Dot ∷ w) a e)
+statement_is n (OpenBracket ∷ w) a e = assigned n (OpenBracket ∷ w) a (path_is (n ∷ []) (OpenBracket ∷ w) a e)
+statement_is n (Equals ∷ w) a e = assigned n (Equals ∷ w) a (path_is (n ∷ []) (Equals ∷ w) a e)
+statement_is n _ a e = absurd cc
+
+-- a brace, and the parenthesis that may follow it
+brace_ends : (b : Bool) (c : Action) → walk (if b then To (Closing c) else Ends c) (parens b) ≡ Some (Ends c)
+brace_ends true c = refl
+brace_ends false c = refl
+
+-- words that lead from a state to an end
+pub some_end : (q : State) → (w : List Kind) × (a : Action) × (walk (To q) w ≡ Some (Ends a))
+some_end (Named n) = (Quoted [] ∷ [], _, refl)
+some_end (Opened n) = (Quoted [] ∷ CloseParen ∷ [], _, refl)
+some_end (Closing c) = (CloseParen ∷ [], _, refl)
+some_end (Pairs t) = (CloseBrace ∷ parens t.in_parens, _, brace_ends t.in_parens _)
+some_end (KeyOpened t) = (Quoted [] ∷ CloseBracket ∷ Equals ∷ Truth true ∷ CloseBrace ∷ parens t.in_parens, _, brace_ends t.in_parens _)
+some_end (KeyQuoted t key) = (CloseBracket ∷ Equals ∷ Truth true ∷ CloseBrace ∷ parens t.in_parens, _, brace_ends t.in_parens _)
+some_end (Keyed t key) = (Equals ∷ Truth true ∷ CloseBrace ∷ parens t.in_parens, _, brace_ends t.in_parens _)
+some_end (KeyEquals t key) = (Truth true ∷ CloseBrace ∷ parens t.in_parens, _, brace_ends t.in_parens _)
+some_end (Paired t) = (CloseBrace ∷ parens t.in_parens, _, brace_ends t.in_parens _)
+some_end (Dotted path) = (Name [] ∷ Equals ∷ Truth true ∷ [], _, refl)
+some_end (PathOpened path) = (Quoted [] ∷ CloseBracket ∷ Equals ∷ Truth true ∷ [], _, refl)
+some_end (PathQuoted path) = (CloseBracket ∷ Equals ∷ Truth true ∷ [], _, refl)
+some_end (Path path) = (Equals ∷ Truth true ∷ [], _, refl)
+some_end (PathEquals path) = (Truth true ∷ [], _, refl)

@@ -1,6 +1,6 @@
 -- What is read of a text, and what is left of it.
 use Rattle.std.proofs.Common.{◌≡◌, ℕ, ◌+◌, ◌<◌, ◌≤◌, List, [], ◌∷◌, ◌++◌, length, take, drop, Option, Some, None, Result, Ok, Err, refl, ap, sym, ◌∙◌, subst, append_assoc, arith, length-take, length-drop, IfOk, IfErr}
-use Rattle.kt_script.proofs.Common.{append-nil, nil_from_length, ScriptFault, NoMemory, NotUtf8, BadToken, NotLiteral, Unclosed, TooLong, Token, Kind, Piece, Place, Start, Whole, Within, Parser, State, Stmt, Script, run, IsResting, IfFault, IsFaultOf, last, open_lines, end_fault, HasRead, IsMisfit, piece_at, tokens, tokens_in, line_past}
+use Rattle.kt_script.proofs.Common.{append-nil, nil_from_length, ScriptFault, NoMemory, Token, Kind, Piece, Place, Start, Whole, Within, Parser, State, Stmt, Script, run, IsResting, IfFault, IsFaultOf, last, open_lines, end_fault, HasRead, IsMisfit, piece_at, tokens, tokens_in, line_past}
 use Rattle.kt_script.specs.Inner.Places.{IsWithin}
 use Rattle.kt_script.proofs.Sound.{accepted, misfit, unfinished}
 use Rattle.kt_script.proofs.PieceTokens.{tokens-piece, tokens-end}
@@ -31,11 +31,7 @@ goes_on place to parser after line next rest left text piece h is some fits read
 
 pub some_fault : (T : Type 0) (f : ScriptFault) (P : ScriptFault → Type 0) → P f → IfFault {T = T} (Err f) P
 some_fault T (NoMemory refusal) P h = tt
-some_fault T NotUtf8 P h = h
-some_fault T (BadToken n) P h = h
-some_fault T (NotLiteral n) P h = h
-some_fault T (Unclosed n) P h = h
-some_fault T TooLong P h = h
+some_fault T fault P h = h
 
 misfit_at : (place : Place) (parser : Parser) (line : ℕ) (rest text : List ℕ) (piece : Piece) (kind : Option Kind) (f : ScriptFault) → kind ≡ piece.kind → GoesOn place parser line rest text
     → piece ≡ piece_at rest → 0 < piece.length → piece.length ≤ length rest → IsMisfit place line kind f → IsFaultOf (tokens 1 0 text) f
@@ -53,11 +49,7 @@ pub stops : (T U : Type 0) (f : ScriptFault) (place : Place) (parser : Parser) (
     → piece ≡ piece_at rest → 0 < piece.length → piece.length ≤ length rest
     → IfFault {T = T} (Err f) (λ f. IsMisfit place line piece.kind f) → IfFault {T = U} (Err f) (λ f. IsFaultOf (tokens 1 0 text) f)
 stops T U (NoMemory refusal) place parser line rest text piece h is some fits m = tt
-stops T U NotUtf8 place parser line rest text piece h is some fits m = misfit_at place parser line rest text piece piece.kind NotUtf8 refl h is some fits m
-stops T U (BadToken n) place parser line rest text piece h is some fits m = misfit_at place parser line rest text piece piece.kind (BadToken n) refl h is some fits m
-stops T U (NotLiteral n) place parser line rest text piece h is some fits m = misfit_at place parser line rest text piece piece.kind (NotLiteral n) refl h is some fits m
-stops T U (Unclosed n) place parser line rest text piece h is some fits m = misfit_at place parser line rest text piece piece.kind (Unclosed n) refl h is some fits m
-stops T U TooLong place parser line rest text piece h is some fits m = misfit_at place parser line rest text piece piece.kind TooLong refl h is some fits m
+stops T U f place parser line rest text piece h is some fits m = misfit_at place parser line rest text piece piece.kind f refl h is some fits m
 
 -- ---- the end
 

@@ -1,7 +1,6 @@
 pub mod Common
 pub mod Complete
 pub mod Ending
-pub mod EndingSteps
 pub mod Standing
 pub mod Sound
 pub mod Feeding

@@ -1,6 +1,6 @@
 -- Each text has one answer: its statements or its fault.
 use Rattle.std.proofs.Common.{◌≡◌, ℕ, ◌≤◌, List, [], ◌∷◌, ◌++◌, length, Option, Some, None, Result, Ok, Err, refl, ap, sym, ◌∙◌, subst, append_assoc, arith, inl, inr, IfOk, IsUtf8}
-use Rattle.kt_script.proofs.Common.{is_utf8, cases_lt, cases_Bool, false≢true, append-nil, IsUtf8-from_is_utf8, is_utf8-from_IsUtf8, ScriptFault, NoMemory, NotUtf8, BadToken, NotLiteral, Unclosed, TooLong, Token, Place, Start, Whole, Within, Stmt, Script, IfFault, IsFaultOf, fault_of, next, listed, run, limit, Spells, IsDue, Refuses, IsAnswer, tokens_of}
+use Rattle.kt_script.proofs.Common.{is_utf8, cases_lt, cases_Bool, false≢true, append-nil, IsUtf8-from_is_utf8, is_utf8-from_IsUtf8, ScriptFault, NoMemory, NotUtf8, TooLong, Token, Place, Start, Whole, Within, Stmt, Script, IfFault, IsFaultOf, fault_of, next, listed, run, limit, Spells, IsDue, Refuses, IsAnswer, tokens_of}
 use Rattle.kt_script.proofs.Sound.{accepted, misfit, unfinished, one_script, run-push}
 use Rattle.kt_script.proofs.OneFault.{one_fault}
 use Rattle.kt_script.proofs.OneReading.{same_tokens}
@@ -90,8 +90,4 @@ some_answer text =
 pub refuses : (r : Result (List Stmt) ScriptFault) (text : List ℕ) → IfOk r (λ stmts. Spells text stmts) → IfFault r (λ f. IsDue text f) → (fault : ScriptFault) → IsDue text fault → Refuses r fault
 refuses (Ok stmts) text ok is fault due = not_both text stmts fault ok due
 refuses (Err (NoMemory refusal)) text ok is fault due = tt
-refuses (Err NotUtf8) text ok is fault due = two_due text NotUtf8 fault is due
-refuses (Err (BadToken n)) text ok is fault due = two_due text (BadToken n) fault is due
-refuses (Err (NotLiteral n)) text ok is fault due = two_due text (NotLiteral n) fault is due
-refuses (Err (Unclosed n)) text ok is fault due = two_due text (Unclosed n) fault is due
-refuses (Err TooLong) text ok is fault due = two_due text TooLong fault is due
+refuses (Err found) text ok is fault due = two_due text found fault is due

@@ -1,8 +1,8 @@
 -- Tokens that are no script have one fault.
 use Rattle.std.proofs.Common.{◌≡◌, ℕ, List, [], ◌∷◌, ◌++◌, Option, Some, refl, ap, sym, ◌∙◌, subst, append_assoc, ◌⊎◌, inl, inr, option_map}
-use Rattle.kt_script.proofs.Common.{append-nil, ScriptFault, Token, Place, Start, Within, Stmt, Action, State, Named, Step, To, Ends, Statement, kinds, first_line, placed, Script, Begins, fault_of, last, open_lines, end_fault, Misfit, Unfinished, IsFaultOf, step, landed, listed, run, IsResting}
-use Rattle.kt_script.proofs.Complete.{walk, bind_some, joined, run-append, ends_is, name_from_resting, statement_walks, script_runs}
-use Rattle.kt_script.proofs.Standing.{Script-append, one_stmt, begins_from}
+use Rattle.kt_script.proofs.Common.{append-nil, ScriptFault, Token, Kind, Place, Start, Within, Stmt, Action, State, Named, Step, To, Ends, Statement, kinds, first_line, placed, Script, Begins, fault_of, last, open_lines, end_fault, Misfit, Unfinished, IsFaultOf, step, run, IsResting}
+use Rattle.kt_script.proofs.Complete.{walk, bind_some, joined, run-append, named_runs, statement_walks, script_runs}
+use Rattle.kt_script.proofs.Standing.{Script-append, one_stmt, begins_from, kinds-append}
 
 -- ---- a token without a place
 
@@ -43,27 +43,18 @@ misfit_unfinished ts f g m u = no_further ts f m m.rest (subst Begins m.parts (b
 
 -- ---- the end within a statement
 
-not_nil : (b : List Token) (m : Token) (ms : List Token) → kinds (b ++ m ∷ ms) ≡ [] → ⊥
-not_nil [] m ms e = cc
-not_nil (t ∷ b) m ms e = cc
+stepped : (q : State) (k : Kind) (ks : List Kind) (s to : Step) → step q k ≡ Some s → walk s ks ≡ Some to → walk (To q) (k ∷ ks) ≡ Some to
+stepped q k ks s to is rest = rw is rest
 
-one_step : (line : ℕ) (q : State) (t : Token) (b : List Token) (s : Step) (end : Option (Place × List Stmt)) → step q t.kind ≡ Some s
-    → option_map (joined (listed (landed line s).1)) (run (landed line s).0 b) ≡ end → run (Within line q) (t ∷ b) ≡ end
-one_step line q t b s end is rest = rw is rest
-
--- the beginning of a statement leads to a place within it
-inside : (b : List Token) (m : Token) (ms : List Token) (line : ℕ) (q : State) (a : Action) → walk (To q) (kinds (b ++ m ∷ ms)) ≡ Some (Ends a)
-    → (r : State) × (run (Within line q) b ≡ Some (Within line r, []))
-inside [] m ms line q a e = (q, refl)
-inside (t ∷ b) m ms line q a e =
-    let s = bind_some (step q t.kind) (λ s. walk s (kinds (b ++ m ∷ ms))) (Ends a) e in
-    let r = after s.0 b m ms line a (λ p h. inside b m ms line p a h) s.2 in
-    (r.0, one_step line q t b s.0 (Some (Within line r.0, [])) s.1 r.1)
-  where
-    after : (s : Step) (b : List Token) (m : Token) (ms : List Token) (line : ℕ) (a : Action) → ((p : State) → walk (To p) (kinds (b ++ m ∷ ms)) ≡ Some (Ends a) → (r : State) × (run (Within line p) b ≡ Some (Within line r, [])))
-        → walk s (kinds (b ++ m ∷ ms)) ≡ Some (Ends a) → (r : State) × (option_map (joined (listed (landed line s).1)) (run (landed line s).0 b) ≡ Some (Within line r, []))
-    after (To p) b m ms line a later e = let r = later p e in (r.0, rw r.1 refl)
-    after (Ends c) b m ms line a later e = absurd (not_nil b m ms (ends_is c a (kinds (b ++ m ∷ ms)) e).0)
+-- what leads further led to a state
+walk_front : (xs : List Kind) (k : Kind) (ys : List Kind) (s r : Step) → walk s (xs ++ k ∷ ys) ≡ Some r → (q : State) × (walk s xs ≡ Some (To q))
+walk_front [] k ys (To q) r e = (q, refl)
+walk_front (x ∷ xs) k ys (To q) r e =
+    let b = bind_some (step q x) (λ s. walk s (xs ++ k ∷ ys)) r e in
+    let f = walk_front xs k ys b.0 r b.2 in
+    (f.0, stepped q x xs b.0 (To f.0) b.1 f.1)
+walk_front [] k ys (Ends a) r e = absurd cc
+walk_front (x ∷ xs) k ys (Ends a) r e = absurd cc
 
 -- where tokens that end within a statement lead
 pub record Leads (ts : List Token) (line : ℕ) : Type 0 where
@@ -71,14 +62,16 @@ pub record Leads (ts : List Token) (line : ℕ) : Type 0 where
   pub done : List Stmt
   pub runs : run Start ts ≡ Some (Within line state, done)
 
+-- the beginning of a statement leads to a place within it
 phrase_leads : (t : Token) (b : List Token) (m : Token) (ms : List Token) (p : Place) (a : Action) → IsResting p → Statement (kinds ((t ∷ b) ++ m ∷ ms)) a
     → (r : State) × (run p (t ∷ b) ≡ Some (Within t.line r, []))
 phrase_leads t b m ms p a rests st =
     let w = statement_walks (kinds ((t ∷ b) ++ m ∷ ms)) a st in
     let parts = w.parts in
     let others : kinds (b ++ m ∷ ms) ≡ w.rest = cc in
-    let r = inside b m ms t.line (Named w.name) a (ap (walk (To (Named w.name))) others ∙ w.ends) in
-    (r.0, rw (name_from_resting p t w.name rests (cc), r.1) refl)
+    let all = ap (walk (To (Named w.name))) (sym (kinds-append b (m ∷ ms)) ∙ others) ∙ w.ends in
+    let f = walk_front (kinds b) m.kind (kinds ms) (To (Named w.name)) (Ends a) all in
+    (f.0, named_runs t b p w.name (To f.0) rests (cc) f.1)
 
 leads : (ts : List Token) (g : ScriptFault) (u : Unfinished ts g) → ((stmts : List Stmt) → Script ts stmts → ⊥) → (begun more : List Token) → u.begun ≡ begun → u.more ≡ more → Leads ts (first_line begun)
 leads ts g u never [] more none is =

@@ -1,12 +1,12 @@
 -- A text has no other tokens than those that are read.
-use Rattle.std.proofs.Common.{◌≡◌, ℕ, suc, ◌+◌, ◌-◌, ◌<◌, Bool, true, false, cond, List, [], ◌∷◌, ◌++◌, length, drop, Option, Some, None, refl, ap, sym, subst, ◌∙◌, arith, length-append, eqb, IfSome}
-use Rattle.kt_script.proofs.Common.{prefix_len, take-append_seam, drop-append_seam, append-nil, Flaw, Kind, OpenParen, CloseParen, OpenBrace, CloseBrace, OpenBracket, CloseBracket, Equals, Comma, Semicolon, Dot, Token, eqb-true, is_space, token, broken, begins_with_letter, decimal_from, mark_of, line_after, line_past, Blank, space, line_comment, long_comment, HasFlaw, large_number, lettered_number, endless_string, bad_escape, endless_comment, leveled_comment, lone_dash, strange, Word, a_name, a_number, a_string, a_mark, no_word, IsTokens, the_end, blank_and, word_and, piece_at, tokens, tokens_in}
+use Rattle.std.proofs.Common.{◌≡◌, ℕ, suc, ◌+◌, ◌-◌, ◌<◌, Bool, true, false, cond, List, [], ◌∷◌, ◌++◌, length, drop, Option, Some, None, refl, ap, sym, subst, ◌∙◌, arith, length-append, IfSome}
+use Rattle.kt_script.proofs.Common.{prefix_len, take-append_seam, drop-append_seam, append-nil, Flaw, Kind, Token, is_space, token, broken, begins_with_letter, decimal_from, mark_of, line_after, line_past, Blank, space, line_comment, long_comment, HasFlaw, large_number, lettered_number, endless_string, bad_escape, endless_comment, leveled_comment, lone_dash, strange, Word, a_name, a_number, a_string, a_mark, no_word, IsTokens, the_end, blank_and, word_and, piece_at, tokens, tokens_in}
 use Rattle.kt_script.proofs.PieceTokens.{tokens-end, tokens-piece}
-use Rattle.kt_script.proofs.ReadWords.{at_strange, name_is, digits_are, number_is, large_is, lettered_is}
+use Rattle.kt_script.proofs.ReadWords.{at_strange, every_mark, name_is, digits_are, number_is, large_is, lettered_is}
 use Rattle.kt_script.proofs.ReadStrings.{string_is, endless_is, bad_escape_is, long_is, endless_comment_is, leveled_is, line_is, dash_is}
 
 -- these bytes are read as this token
-record IsRead (bytes after : List ℕ) (kind : Option Kind) : Type 0 where
+pub record IsRead (bytes after : List ℕ) (kind : Option Kind) : Type 0 where
   pub piece : piece_at (bytes ++ after) ≡ record { length = length bytes; kind = kind }
   pub some : 0 < length bytes
 
@@ -21,26 +21,15 @@ flaw_read text flaw (leveled_comment {text = t} long level) = (leveled_is t long
 flaw_read text flaw (lone_dash {text = t} other) = (dash_is t other, omega arith)
 flaw_read text flaw (strange {c = c} {cs = cs} is) = (at_strange c cs is, omega arith)
 
--- each mark
-test_mark : (c n : ℕ) (after : List ℕ) (k : Kind) (b : Bool) (o : Option Kind) → eqb c n ≡ b → piece_at (n ∷ after) ≡ token 1 k → IfSome o (λ kind. piece_at (c ∷ after) ≡ token 1 kind)
-    → IfSome (cond b (Some k) o) (λ kind. piece_at (c ∷ after) ≡ token 1 kind)
-test_mark c n after k true o e is rest = ap (λ (x : ℕ). piece_at (x ∷ after)) (eqb-true c n e) ∙ is
-test_mark c n after k false o e is rest = rest
-
-marks_read : (c : ℕ) (after : List ℕ) → IfSome (mark_of c) (λ kind. piece_at (c ∷ after) ≡ token 1 kind)
+mark_read : (c : ℕ) (after : List ℕ) → IfSome (mark_of c) (λ kind. piece_at (c ∷ after) ≡ token 1 kind)
 unfolding piece_at
-marks_read c after =
-    test_mark c 40 after OpenParen (eqb c 40) _ refl refl (test_mark c 41 after CloseParen (eqb c 41) _ refl refl
-    (test_mark c 123 after OpenBrace (eqb c 123) _ refl refl (test_mark c 125 after CloseBrace (eqb c 125) _ refl refl
-    (test_mark c 91 after OpenBracket (eqb c 91) _ refl refl (test_mark c 93 after CloseBracket (eqb c 93) _ refl refl
-    (test_mark c 61 after Equals (eqb c 61) _ refl refl (test_mark c 44 after Comma (eqb c 44) _ refl refl
-    (test_mark c 59 after Semicolon (eqb c 59) _ refl refl (test_mark c 46 after Dot (eqb c 46) None refl refl tt)))))))))
+mark_read c after = every_mark (λ c kind. piece_at (c ∷ after) ≡ token 1 kind) refl refl refl refl refl refl refl refl refl refl c
 
-word_read : (bytes after : List ℕ) (kind : Kind) → Word bytes after kind → IsRead bytes after (Some kind)
+pub word_read : (bytes after : List ℕ) (kind : Kind) → Word bytes after kind → IsRead bytes after (Some kind)
 word_read bytes after kind (a_name {c = c} {cs = cs} {after = rest} letter each stop) = record { piece = name_is c cs rest letter each stop; some = omega arith }
 word_read bytes after kind (a_number {c = c} {cs = cs} {after = rest} each stop small) = record { piece = number_is c cs rest each stop small; some = omega arith }
 word_read bytes after kind (a_string {quote = q} {words = w} {bytes = b} {after = rest} quote inside) = record { piece = string_is q w b rest quote inside; some = omega arith }
-word_read bytes after kind (a_mark {c = c} {kind = k} {after = rest} is) = record { piece = subst (λ (o : Option Kind). IfSome o (λ x. piece_at (c ∷ rest) ≡ token 1 x)) is (marks_read c rest); some = omega arith }
+word_read bytes after kind (a_mark {c = c} {kind = k} {after = rest} is) = record { piece = subst (λ (o : Option Kind). IfSome o (λ x. piece_at (c ∷ rest) ≡ token 1 x)) is (mark_read c rest); some = omega arith }
 word_read bytes after kind (no_word {text = t} {flaw = f} flaw) =
     let r = flaw_read t f flaw in
     record { piece = ap piece_at (append-nil t) ∙ r.0; some = r.1 }

@@ -1,169 +1,96 @@
--- A piece is not empty, and the text may be cut after it.
-use Rattle.std.proofs.Common.{◌≡◌, ℕ, suc, ◌+◌, ◌-◌, ◌<◌, ◌≤◌, Bool, true, false, cond, eqb, not, ◌&&◌, ◌||◌, List, [], ◌∷◌, ◌++◌, length, take, drop, get_or, Option, Some, None, Result, Ok, Err, refl, ap, sym, subst, ◌∙◌, arith, length-drop, inl, inr, IsUtf8, IfSome, IfOk, nat_eq, codes, option_map}
-use Rattle.kt_script.proofs.Common.{IsCharBoundary, prefix_len, starts_with, eqb-true, or_cases, not-false, get_or-drop, IsCharBoundary-end, IsCharBoundary-after_ascii, IsCharBoundary-from_rest, Flaw, Endless, Kind, OpenParen, CloseParen, OpenBrace, CloseBrace, OpenBracket, CloseBracket, Equals, Comma, Semicolon, Dot, Piece, is_space, is_letter, is_word, escape_of, is_digit, decimal_from, fits, number, begins_with_letter, with_front, escaped, string_at, decoded, quoted, closes_at, comment_at, is_level, mark_of, marked, piece_at}
-use Rattle.std.proofs.lemmas.Bool.Decides.{Decides-eqb}
-use Rattle.std.proofs.lemmas.Slice.Eq.{starts_is}
-use Rattle.kt_script.specs.Inner.Comments.{long_comment}
-use Rattle.kt_script.proofs.Cuts.{passing_cut, stopping_cut, first_cut, space_small, digit_small, word_small}
+-- A piece is not empty, and the text may be cut after it: it ends with ASCII or with the text, or ASCII follows it.
+use Rattle.std.proofs.Common.{◌≡◌, ℕ, ◌+◌, ◌<◌, Bool, true, false, eqb, ◌||◌, List, [], ◌∷◌, ◌++◌, length, get_or, Option, Some, None, refl, ap, sym, subst, ◌∙◌, arith, append_assoc, length-append, inl, inr, IsUtf8, IfSome}
+use Rattle.kt_script.proofs.Common.{append-nil, IsCharBoundary, prefix_len, eqb-true, not-false, IsCharBoundary-end, IsCharBoundary-after_ascii, IsCharBoundary-from_rest, Kind, Piece, is_space, is_word, is_digit, mark_of, piece_at, Each, StopsAt, in_line, Closes, not_yet, Blank, space, line_comment, long_comment, Word, a_name, a_number, a_string, a_mark, no_word}
+use Rattle.std.proofs.lemmas.List.{get_or_at}
+use Rattle.kt_script.specs.TokenRules.{closed}
+use Rattle.kt_script.proofs.Cuts.{passing_cut, stopping_cut, space_small, digit_small, word_small}
+use Rattle.kt_script.proofs.OneReading.{IsRead, word_read}
+use Rattle.kt_script.proofs.ReadStrings.{long_is, line_is}
+use Rattle.kt_script.proofs.ReadWords.{each_run, every_mark, quote_range, stops_digits}
+use Rattle.kt_script.proofs.SomeReading.{something_first}
 
 -- so many bytes, one or more, after which the rest is UTF-8
 pub record IsCut (text : List ℕ) (n : ℕ) : Type 0 where
   pub some : 0 < n
   pub boundary : IsCharBoundary text n
 
-whole_cut : (c : ℕ) (cs : List ℕ) → IsCut (c ∷ cs) (length (c ∷ cs))
-whole_cut c cs = record { some = omega arith; boundary = IsCharBoundary-end (c ∷ cs) }
+-- after all the bytes of an ASCII class
+run_cut : (p : ℕ → Bool) → ((c : ℕ) → p c ≡ true → c < 128) → (xs after : List ℕ) → Each p xs → StopsAt p after → IsUtf8 (xs ++ after) → IsCharBoundary (xs ++ after) (length xs)
+run_cut p small xs after each stop u = subst (IsCharBoundary (xs ++ after)) (each_run p xs after each stop) (passing_cut p small (xs ++ after) u)
 
 -- after a byte that is ASCII
-byte_cut : (text : List ℕ) (n : ℕ) → IsUtf8 text → 0 < n → n ≤ length text → get_or text (n - 1) 0 < 128 → IsCut text n
-byte_cut text n u some le small =
-    let e : (n - 1) + 1 ≡ n = omega arith in
-    record { some = some; boundary = subst (IsCharBoundary text) e (IsCharBoundary-after_ascii text (n - 1) u (omega arith) small) }
+last_cut : (xs : List ℕ) (c : ℕ) (after : List ℕ) → c < 128 → IsUtf8 ((xs ++ c ∷ []) ++ after) → IsCharBoundary ((xs ++ c ∷ []) ++ after) (length (xs ++ c ∷ []))
+last_cut xs c after small u =
+    let all = length-append (xs ++ c ∷ []) after in
+    let len : length xs + 1 ≡ length (xs ++ c ∷ []) = omega (arith, length-append xs (c ∷ [])) in
+    let last : get_or ((xs ++ c ∷ []) ++ after) (length xs) 0 ≡ c = ap (λ (ys : List ℕ). get_or ys (length xs) 0) (append_assoc xs (c ∷ []) after) ∙ get_or_at xs c after 0 (length xs) refl in
+    subst (IsCharBoundary ((xs ++ c ∷ []) ++ after)) len (IsCharBoundary-after_ascii ((xs ++ c ∷ []) ++ after) (length xs) u (omega arith) (omega (arith, last)))
 
--- ---- runs
+-- ---- words
 
-run_cut : (p : ℕ → Bool) → ((c : ℕ) → p c ≡ true → c < 128) → (c : ℕ) (cs : List ℕ) → IsUtf8 (c ∷ cs) → p c ≡ true → IsCut (c ∷ cs) (prefix_len p (c ∷ cs))
-run_cut p small c cs u passes = record {
-  some = let e : 0 < 1 + prefix_len p cs = omega arith in subst (λ (b : Bool). 0 < cond b (1 + prefix_len p cs) 0) (sym passes) e;
-  boundary = passing_cut p small (c ∷ cs) u;
-}
+mark_small : (c : ℕ) (kind : Kind) → mark_of c ≡ Some kind → c < 128
+mark_small c kind is =
+    let each = every_mark (λ c _. c < 128) (omega arith) (omega arith) (omega arith) (omega arith) (omega arith) (omega arith) (omega arith) (omega arith) (omega arith) (omega arith) c in
+    subst (λ (o : Option Kind). IfSome o (λ _. c < 128)) is each
 
-number_cut : (text : List ℕ) (n : ℕ) (b : Bool) (v : Option ℕ) → IsCut text n → IsCut text (length text) → IsCut text (number text n b v).length
-number_cut text n true v digits all = all
-number_cut text n false None digits all = all
-number_cut text n false (Some v) digits all = digits
+word_cut : (bytes after : List ℕ) (kind : Kind) → Word bytes after kind → IsUtf8 (bytes ++ after) → IsCharBoundary (bytes ++ after) (length bytes)
+word_cut bytes after kind (a_name {c = c} {cs = cs} {after = rest} letter each stop) u = run_cut is_word word_small (c ∷ cs) rest (ap (λ (b : Bool). b || is_digit c) letter, each) stop u
+word_cut bytes after kind (a_number {c = c} {cs = cs} {after = rest} each stop small) u = run_cut is_digit digit_small (c ∷ cs) rest each (stops_digits rest stop).0 u
+word_cut bytes after kind (a_string {quote = q} {words = w} {after = rest} quote inside) u = last_cut (q ∷ w) q rest (omega (arith, (quote_range q quote).1)) u
+word_cut bytes after kind (a_mark {c = c} {kind = k} {after = rest} is) u = last_cut [] c rest (mark_small c k is) u
+word_cut bytes after kind (no_word {text = t} flaw) u = subst (λ (xs : List ℕ). IsCharBoundary xs (length t)) (sym (append-nil t)) (IsCharBoundary-end t)
 
--- ---- strings
+-- ---- blanks
 
--- the last of these bytes is the quote
-Ends : ℕ → List ℕ → Result (List ℕ × ℕ) Flaw → Type 0
-Ends quote text r = IfOk r (λ x. (0 < x.1) × (x.1 ≤ length text) × (get_or text (x.1 - 1) 0 ≡ quote))
+-- a comment in long brackets ends with a bracket
+closes_last : (words after : List ℕ) → Closes words after → (front : List ℕ) × (words ≡ front ++ 93 ∷ [])
+closes_last words after closed = (93 ∷ [], refl)
+closes_last words after (not_yet {c = c} {cs = cs} {after = rest} none more) = let last = closes_last cs rest more in (c ∷ last.0, ap (λ (xs : List ℕ). c ∷ xs) last.1)
 
-front_ends : (quote c : ℕ) (cs front : List ℕ) (r : Result (List ℕ × ℕ) Flaw) → Ends quote cs r → Ends quote (c ∷ cs) (with_front front 1 r)
-unfolding Ends
-front_ends quote c cs front (Err f) h = tt
-front_ends quote c cs front (Ok x) h =
-    let e : (1 + x.1) - 1 ≡ suc (x.1 - 1) = omega (arith, h.0) in
-    let last : get_or (c ∷ cs) ((1 + x.1) - 1) 0 ≡ quote = ap (λ (n : ℕ). get_or (c ∷ cs) n 0) e ∙ h.2 in
-    (omega arith, omega (arith, h.1), last)
-
-escaped_ends : (quote c : ℕ) (cs : List ℕ) (o : Option ℕ) (r : Result (List ℕ × ℕ) Flaw) → Ends quote cs r → Ends quote (c ∷ cs) (escaped o r)
-unfolding Ends
-escaped_ends quote c cs None r h = tt
-escaped_ends quote c cs (Some d) r h = front_ends quote c cs (d ∷ []) r h
-
-tests_end : (quote c : ℕ) (cs : List ℕ) (a b d : Bool) → eqb c quote ≡ a → Ends quote cs (string_at quote true cs) → Ends quote cs (string_at quote false cs)
-    → Ends quote (c ∷ cs) (cond a (Ok ([], 1)) (cond b (Err Endless) (cond d (with_front [] 1 (string_at quote true cs)) (with_front (c ∷ []) 1 (string_at quote false cs)))))
-unfolding Ends
-tests_end quote c cs true b d x after_slash after = (omega arith, omega arith, eqb-true c quote x)
-tests_end quote c cs false true d x after_slash after = tt
-tests_end quote c cs false false true x after_slash after = front_ends quote c cs [] (string_at quote true cs) after_slash
-tests_end quote c cs false false false x after_slash after = front_ends quote c cs (c ∷ []) (string_at quote false cs) after
-
-string_ends : (quote : ℕ) (b : Bool) (text : List ℕ) → Ends quote text (string_at quote b text)
-unfolding Ends
-string_ends quote false [] = tt
-string_ends quote true [] = tt
-string_ends quote true (c ∷ cs) = escaped_ends quote c cs (escape_of c) (string_at quote false cs) (string_ends quote false cs)
-string_ends quote false (c ∷ cs) = tests_end quote c cs (eqb c quote) (eqb c 10) (eqb c 92) refl (string_ends quote true cs) (string_ends quote false cs)
-
-quoted_cut : (quote : ℕ) (cs : List ℕ) (r : Result (List ℕ × ℕ) Flaw) → IsUtf8 (quote ∷ cs) → quote < 128 → Ends quote cs r → IsCut (quote ∷ cs) (quoted (quote ∷ cs) (decoded r)).length
-unfolding Ends
-quoted_cut quote cs (Err f) u small h = whole_cut quote cs
-quoted_cut quote cs (Ok x) u small h =
-    let e : (x.1 + 1) - 1 ≡ suc (x.1 - 1) = omega (arith, h.0) in
-    let last : get_or (quote ∷ cs) ((x.1 + 1) - 1) 0 ≡ quote = ap (λ (n : ℕ). get_or (quote ∷ cs) n 0) e ∙ h.2 in
-    byte_cut (quote ∷ cs) (x.1 + 1) u (omega arith) (omega (arith, h.1)) (omega (arith, last))
-
--- ---- comments
-
--- what a text is that begins so
-pub begins_with : (text needle : List ℕ) → starts_with nat_eq text needle ≡ true → text ≡ needle ++ drop (length needle) text
-begins_with text needle e = (starts_is Decides-eqb text needle (starts_with nat_eq text needle) refl).0 e
-
--- the last byte of a comment in long brackets
-closes_ends : (text : List ℕ) → IfSome (closes_at text) (λ n. (2 ≤ n) × (n ≤ length text) × (get_or text (n - 1) 0 ≡ 93))
-closes_ends [] = tt
-closes_ends (c ∷ cs) = by_test c cs (starts_with nat_eq (c ∷ cs) (codes "]]")) refl (closes_at cs) (closes_ends cs)
-  where
-    one_more : (c : ℕ) (cs : List ℕ) (o : Option ℕ) → IfSome o (λ n. (2 ≤ n) × (n ≤ length cs) × (get_or cs (n - 1) 0 ≡ 93)) → IfSome (option_map suc o) (λ n. (2 ≤ n) × (n ≤ length (c ∷ cs)) × (get_or (c ∷ cs) (n - 1) 0 ≡ 93))
-    one_more c cs None h = tt
-    one_more c cs (Some n) h =
-        let e : suc n - 1 ≡ suc (n - 1) = omega (arith, h.0) in
-        (omega (arith, h.0), omega (arith, h.1), ap (λ (m : ℕ). get_or (c ∷ cs) m 0) e ∙ h.2)
-
-    by_test : (c : ℕ) (cs : List ℕ) (b : Bool) → starts_with nat_eq (c ∷ cs) (codes "]]") ≡ b → (o : Option ℕ) → IfSome o (λ n. (2 ≤ n) × (n ≤ length cs) × (get_or cs (n - 1) 0 ≡ 93))
-        → IfSome (cond b (Some 2) (option_map suc o)) (λ n. (2 ≤ n) × (n ≤ length (c ∷ cs)) × (get_or (c ∷ cs) (n - 1) 0 ≡ 93))
-    by_test c cs false is o h = one_more c cs o h
-    by_test c cs true is o h =
-        let parts = begins_with (c ∷ cs) (codes "]]") is in
-        (omega arith, omega (arith, ap length parts), ap (λ (xs : List ℕ). get_or xs 1 0) parts)
-
-long_cut : (c : ℕ) (cs : List ℕ) (o : Option ℕ) → IsUtf8 (c ∷ cs) → IfSome o (λ n. (2 ≤ n) × (n ≤ length (drop 4 (c ∷ cs))) × (get_or (drop 4 (c ∷ cs)) (n - 1) 0 ≡ 93))
-    → IsCut (c ∷ cs) (long_comment (c ∷ cs) o).length
-long_cut c cs None u h = whole_cut c cs
-long_cut c cs (Some n) u h =
-    let e : 4 + (n - 1) ≡ (n + 4) - 1 = omega (arith, h.0) in
-    let last : get_or (c ∷ cs) ((n + 4) - 1) 0 ≡ 93 = ap (λ (m : ℕ). get_or (c ∷ cs) m 0) (sym e) ∙ sym (get_or-drop 4 (c ∷ cs) (n - 1) 0) ∙ h.2 in
-    byte_cut (c ∷ cs) (n + 4) u (omega arith) (omega (arith, h.1, h.0, length-drop 4 (c ∷ cs))) (omega (arith, last))
-
-newline_small : (c : ℕ) → not (eqb c 10) ≡ false → c < 128
+newline_small : (c : ℕ) → in_line c ≡ false → c < 128
 newline_small c e = omega (arith, eqb-true c 10 (not-false (eqb c 10) e))
 
-line_cut : (text : List ℕ) → starts_with nat_eq text (codes "--") ≡ true → IsCut text (2 + prefix_len (λ c. not (eqb c 10)) (drop 2 text))
-line_cut text e =
-    let parts = begins_with text (codes "--") e in
-    record {
-      some = omega arith;
-      boundary = IsCharBoundary-from_rest text 2 (prefix_len (λ c. not (eqb c 10)) (drop 2 text)) (omega (arith, ap length parts)) (stopping_cut (λ c. not (eqb c 10)) newline_small (drop 2 text));
-    }
+line_cut : (words after : List ℕ) → Each in_line words → StopsAt in_line after → IsCharBoundary (45 ∷ 45 ∷ (words ++ after)) (length (45 ∷ 45 ∷ words))
+line_cut words after each stop =
+    let here = subst (IsCharBoundary (words ++ after)) (each_run in_line words after each stop) (stopping_cut in_line newline_small (words ++ after)) in
+    let len : 2 + length words ≡ length (45 ∷ 45 ∷ words) = omega arith in
+    subst (IsCharBoundary (45 ∷ 45 ∷ (words ++ after))) len (IsCharBoundary-from_rest (45 ∷ 45 ∷ (words ++ after)) 2 (length words) (omega arith) here)
 
-if_cut : (text : List ℕ) (b : Bool) (x y : Piece) → (b ≡ true → IsCut text x.length) → (b ≡ false → IsCut text y.length) → IsCut text (cond b x y).length
-if_cut text true x y h k = h refl
-if_cut text false x y h k = k refl
-
-comment_cut : (c : ℕ) (cs : List ℕ) → IsUtf8 (c ∷ cs) → IsCut (c ∷ cs) (comment_at (c ∷ cs)).length
-comment_cut c cs u =
-    if_cut (c ∷ cs) (starts_with nat_eq (c ∷ cs) (codes "--[[")) _ _ (λ e. long_cut c cs (closes_at (drop 4 (c ∷ cs))) u (closes_ends (drop 4 (c ∷ cs))))
-    (λ _. if_cut (c ∷ cs) (starts_with nat_eq (c ∷ cs) (codes "--[") && is_level (drop 3 (c ∷ cs))) _ _ (λ _. whole_cut c cs)
-    (λ _. if_cut (c ∷ cs) (starts_with nat_eq (c ∷ cs) (codes "--")) _ _ (λ e. line_cut (c ∷ cs) e) (λ _. whole_cut c cs)))
-
--- ---- marks
-
-test_small : (c n : ℕ) (b : Bool) (x : Kind) (o : Option Kind) → n < 128 → eqb c n ≡ b → IfSome o (λ _. c < 128) → IfSome (cond b (Some x) o) (λ _. c < 128)
-test_small c n true x o lt e h = omega (arith, eqb-true c n e)
-test_small c n false x o lt e h = h
-
-mark_small : (c : ℕ) → IfSome (mark_of c) (λ _. c < 128)
-mark_small c =
-    test_small c 40 (eqb c 40) OpenParen _ (omega arith) refl (test_small c 41 (eqb c 41) CloseParen _ (omega arith) refl
-    (test_small c 123 (eqb c 123) OpenBrace _ (omega arith) refl (test_small c 125 (eqb c 125) CloseBrace _ (omega arith) refl
-    (test_small c 91 (eqb c 91) OpenBracket _ (omega arith) refl (test_small c 93 (eqb c 93) CloseBracket _ (omega arith) refl
-    (test_small c 61 (eqb c 61) Equals _ (omega arith) refl (test_small c 44 (eqb c 44) Comma _ (omega arith) refl
-    (test_small c 59 (eqb c 59) Semicolon _ (omega arith) refl (test_small c 46 (eqb c 46) Dot None (omega arith) refl tt)))))))))
-
-marked_cut : (c : ℕ) (cs : List ℕ) (o : Option Kind) → IsUtf8 (c ∷ cs) → IfSome o (λ _. c < 128) → IsCut (c ∷ cs) (marked (c ∷ cs) o).length
-marked_cut c cs None u h = whole_cut c cs
-marked_cut c cs (Some k) u h = record { some = omega arith; boundary = first_cut c cs u h }
+long_cut : (words after : List ℕ) → Closes words after → IsUtf8 (45 ∷ 45 ∷ 91 ∷ 91 ∷ (words ++ after)) → IsCharBoundary (45 ∷ 45 ∷ 91 ∷ 91 ∷ (words ++ after)) (length (45 ∷ 45 ∷ 91 ∷ 91 ∷ words))
+long_cut words after closes u =
+    let last = closes_last words after closes in
+    ended last.0 words after last.1 u
+  where
+    ended : (xs words after : List ℕ) → words ≡ xs ++ 93 ∷ [] → IsUtf8 (45 ∷ 45 ∷ 91 ∷ 91 ∷ (words ++ after)) → IsCharBoundary (45 ∷ 45 ∷ 91 ∷ 91 ∷ (words ++ after)) (length (45 ∷ 45 ∷ 91 ∷ 91 ∷ words))
+    ended xs words after is u = rw is (last_cut (45 ∷ 45 ∷ 91 ∷ 91 ∷ xs) 93 after (omega arith) (rw is at u))
 
 -- ---- pieces
 
-quote_small : (c : ℕ) → (eqb c 34 || eqb c 39) ≡ true → c < 128
-quote_small c e = elim (or_cases (eqb c 34) (eqb c 39) e) [ inl double ↦ omega (arith, eqb-true c 34 double) | inr single ↦ omega (arith, eqb-true c 39 single) ]
+read_cut : (bytes after : List ℕ) (kind : Option Kind) → IsRead bytes after kind → IsCharBoundary (bytes ++ after) (length bytes) → IsCut (bytes ++ after) (piece_at (bytes ++ after)).length
+read_cut bytes after kind read boundary =
+    let e : length bytes ≡ (piece_at (bytes ++ after)).length = ap (λ (p : Piece). p.length) (sym read.piece) in
+    record { some = subst (λ (n : ℕ). 0 < n) e read.some; boundary = subst (IsCharBoundary (bytes ++ after)) e boundary }
 
-letter_is_word : (c : ℕ) → is_letter c ≡ true → is_word c ≡ true
-letter_is_word c e = ap (λ (b : Bool). b || is_digit c) e
-
-pub piece_cut : (text : List ℕ) → IsUtf8 text → 0 < length text → IsCut text (piece_at text).length
+-- spaces are one piece
+blank_cut : (bytes after : List ℕ) → Blank bytes after → IsUtf8 (bytes ++ after) → IsCut (bytes ++ after) (piece_at (bytes ++ after)).length
 unfolding piece_at
-piece_cut [] u some = absurd (omega arith)
-piece_cut (c ∷ cs) u some =
-    if_cut (c ∷ cs) (is_space c) _ _ (λ e. run_cut is_space space_small c cs u e)
-    (λ _. if_cut (c ∷ cs) (is_letter c) _ _ (λ e. run_cut is_word word_small c cs u (letter_is_word c e))
-    (λ _. if_cut (c ∷ cs) (is_digit c) _ _ (λ e. number_cut (c ∷ cs) (prefix_len is_digit (c ∷ cs)) (begins_with_letter (drop (prefix_len is_digit (c ∷ cs)) (c ∷ cs))) (fits (decimal_from 0 (take (prefix_len is_digit (c ∷ cs)) (c ∷ cs))))
-    (run_cut is_digit digit_small c cs u e) (whole_cut c cs))
-    (λ _. if_cut (c ∷ cs) (eqb c 34 || eqb c 39) _ _ (λ e. quoted_cut c cs (string_at c false cs) u (quote_small c e) (string_ends c false cs))
-    (λ _. if_cut (c ∷ cs) (eqb c 45) _ _ (λ _. comment_cut c cs u) (λ _. marked_cut c cs (mark_of c) u (mark_small c))))))
+blank_cut bytes after (space {c = c} {after = rest} is) u =
+    let run : IsCharBoundary (c ∷ rest) (1 + prefix_len is_space rest) = rw is at (passing_cut is_space space_small (c ∷ rest) u) in
+    rw is (record { some = omega arith; boundary = run })
+blank_cut bytes after (line_comment {words = w} {after = rest} long level each stop) u =
+    read_cut (45 ∷ 45 ∷ w) rest None (record { piece = line_is w rest long level each stop; some = omega arith }) (line_cut w rest each stop)
+blank_cut bytes after (long_comment {words = w} {after = rest} closes) u =
+    read_cut (45 ∷ 45 ∷ 91 ∷ 91 ∷ w) rest None (record { piece = long_is w rest closes; some = omega arith }) (long_cut w rest closes u)
 
-pub piece_cut_of : (piece : Piece) (text : List ℕ) → IsUtf8 text → 0 < length text → piece ≡ piece_at text → IsCut text piece.length
-piece_cut_of piece text u some is = subst (λ (p : Piece). IsCut text p.length) (sym is) (piece_cut text u some)
+some_cut : (text : List ℕ) → IsUtf8 text → 0 < length text → IsCut text (piece_at text).length
+some_cut [] u some = absurd (omega arith)
+some_cut (c ∷ cs) u some =
+    elim (something_first c cs) [
+      | inl b ↦ subst (λ (xs : List ℕ). IsCut xs (piece_at xs).length) (sym b.parts) (blank_cut b.front b.rest b.is (subst IsUtf8 b.parts u))
+      | inr w ↦
+          let cut = read_cut w.front w.rest (Some w.kind) (word_read w.front w.rest w.kind w.is) (word_cut w.front w.rest w.kind w.is (subst IsUtf8 w.parts u)) in
+          subst (λ (xs : List ℕ). IsCut xs (piece_at xs).length) (sym w.parts) cut
+    ]
+
+pub piece_cut : (piece : Piece) (text : List ℕ) → IsUtf8 text → 0 < length text → piece ≡ piece_at text → IsCut text piece.length
+piece_cut piece text u some is = subst (λ (p : Piece). IsCut text p.length) (sym is) (some_cut text u some)

@@ -1,6 +1,6 @@
 -- The reading of a string: what was read of it and what is left.
-use Rattle.std.proofs.Common.{◌≡◌, ℕ, zero, suc, ◌+◌, ◌-◌, ◌<◌, ◌≤◌, Bool, true, false, cond, eqb, not, ◌&&◌, ◌||◌, List, [], ◌∷◌, ◌++◌, length, take, drop, Option, Some, None, Ok, Err, refl, ap, sym, ◌∙◌, subst, arith, length-drop, inl, inr, IsUtf8}
-use Rattle.kt_script.proofs.Common.{chars, IsAscii, IsCharBoundary, prefix_len, and_cases, not-false, eqb-true, or_cases, append-nil, prefix_len-le-length, chars-nil, chars-append, chars-IsAscii, IsUtf8-nil, IsUtf8-append, IsUtf8-from_ascii, IsUtf8-take, IsUtf8-drop, IsCharBoundary-after_ascii, Flaw, Endless, Stop, Quote, Escape, Flawed, with_front, escape_stop, escape_at, stop_at, string_at, decoded, escape_of, is_plain}
+use Rattle.std.proofs.Common.{◌≡◌, ℕ, zero, suc, ◌+◌, ◌-◌, ◌<◌, ◌≤◌, Bool, true, false, cond, eqb, List, [], ◌∷◌, ◌++◌, length, take, drop, Option, Some, None, Ok, Err, refl, ap, sym, ◌∙◌, subst, arith, length-drop, IsUtf8}
+use Rattle.kt_script.proofs.Common.{nat_tests, chars, IsAscii, IsCharBoundary, prefix_len, append-nil, prefix_len-le-length, chars-nil, chars-append, chars-IsAscii, IsUtf8-nil, IsUtf8-append, IsUtf8-from_ascii, IsUtf8-take, IsUtf8-drop, IsCharBoundary-after_ascii, Flaw, Endless, Stop, Quote, Escape, Flawed, with_front, escape_stop, escape_at, stop_at, string_at, decoded, escape_of, is_plain}
 use Rattle.kt_script.proofs.Cuts.{stopping_cut_at}
 use Rattle.kt_script.proofs.StringRuns.{with_front_twice, with_front_none, plain_run, no_more, after_stop, stops}
 
@@ -35,32 +35,11 @@ reads_run quote string rest text new plain after n h n_is plain_is after_is utf8
     }
 
 escape_small : (c d : ℕ) → escape_of c ≡ Some d → d < 128
-escape_small c d e = escape_cases c d (eqb c 110) (eqb c 116) (eqb c 92 || eqb c 39 || eqb c 34) refl e
-  where
-    escape_cases : (c d : ℕ) (n t q : Bool) → (eqb c 92 || eqb c 39 || eqb c 34) ≡ q → cond n (Some 10) (cond t (Some 9) (cond q (Some c) None)) ≡ Some d → d < 128
-    escape_cases c d true t q is e = let same : 10 ≡ d = cc in omega arith
-    escape_cases c d false true q is e = let same : 9 ≡ d = cc in omega arith
-    escape_cases c d false false true is e =
-        let same : c ≡ d = cc in
-        elim (or_cases (eqb c 92 || eqb c 39) (eqb c 34) is) [
-          | inl two ↦ elim (or_cases (eqb c 92) (eqb c 39) two) [ inl slash ↦ omega (arith, eqb-true c 92 slash) | inr tick ↦ omega (arith, eqb-true c 39 tick) ]
-          | inr double ↦ omega (arith, eqb-true c 34 double)
-        ]
-    escape_cases c d false false false is e = absurd cc
+escape_small c d e = grind (arith, nat_tests, e)
 
 -- the byte after a backslash
 letter_small : (e d : ℕ) → escape_of e ≡ Some d → e < 128
-letter_small e d is = letter_cases e d (eqb e 110) (eqb e 116) (eqb e 92 || eqb e 39 || eqb e 34) refl refl refl is
-  where
-    letter_cases : (e d : ℕ) (n t q : Bool) → eqb e 110 ≡ n → eqb e 116 ≡ t → (eqb e 92 || eqb e 39 || eqb e 34) ≡ q → cond n (Some 10) (cond t (Some 9) (cond q (Some e) None)) ≡ Some d → e < 128
-    letter_cases e d true t q x y z is = omega (arith, eqb-true e 110 x)
-    letter_cases e d false true q x y z is = omega (arith, eqb-true e 116 y)
-    letter_cases e d false false true x y z is =
-        elim (or_cases (eqb e 92 || eqb e 39) (eqb e 34) z) [
-          | inl two ↦ elim (or_cases (eqb e 92) (eqb e 39) two) [ inl slash ↦ omega (arith, eqb-true e 92 slash) | inr tick ↦ omega (arith, eqb-true e 39 tick) ]
-          | inr double ↦ omega (arith, eqb-true e 34 double)
-        ]
-    letter_cases e d false false false x y z is = absurd cc
+letter_small e d is = grind (arith, nat_tests, is)
 
 -- a text begins with a backslash and a byte that stand for a character
 pub record IsEscape (text : List ℕ) (d : ℕ) : Type 0 where
@@ -131,14 +110,7 @@ reads_flaw quote string after text flaw h none stop =
 -- ---- the code's steps
 
 plain_stops : (quote : ℕ) → quote < 128 → (c : ℕ) → is_plain quote c ≡ false → c < 128
-plain_stops quote small c e =
-    elim (and_cases (not (eqb c quote) && not (eqb c 10)) (not (eqb c 92)) e) [
-      | inl two ↦ elim (and_cases (not (eqb c quote)) (not (eqb c 10)) two) [
-        | inl one ↦ omega (arith, eqb-true c quote (not-false (eqb c quote) one))
-        | inr newline ↦ omega (arith, eqb-true c 10 (not-false (eqb c 10) newline))
-      ]
-      | inr slash ↦ omega (arith, eqb-true c 92 (not-false (eqb c 92) slash))
-    ]
+plain_stops quote small c e = grind (arith, nat_tests, e)
 
 pub plain_cut : (quote n : ℕ) (rest bytes : List ℕ) → quote < 128 → n ≡ prefix_len (is_plain quote) bytes → bytes ≡ rest → IsCharBoundary rest n
 plain_cut quote n rest bytes small n_is same = stopping_cut_at (is_plain quote) (plain_stops quote small) rest bytes n n_is same

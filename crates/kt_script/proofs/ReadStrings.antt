@@ -1,10 +1,10 @@
 -- The bytes of a string or a comment are the piece that is read there.
 use Rattle.std.proofs.Common.{◌≡◌, ℕ, suc, ◌+◌, Bool, true, false, cond, eqb, ◌&&◌, List, [], ◌∷◌, ◌++◌, length, Option, Some, None, Result, Ok, Err, refl, ap, sym, ◌∙◌, arith, append_assoc, length-append, nat_eq, codes, option_map}
-use Rattle.kt_script.proofs.Common.{chars, prefix_len, starts_with, eqb-true, eq-eqb, not-false, append-nil, Flaw, Bad, Leveled, Endless, Quoted, blank, token, broken, with_front, escaped, string_at, decoded, quoted, escape_of, closes_at, comment_at, piece_at, Each, StopsAt, is_quote, in_line, Inside, nothing, itself, escape, NoEscape, Closes, not_yet, NeverCloses, opens_long, opens_level}
+use Rattle.kt_script.proofs.Common.{nat_tests, chars, prefix_len, starts_with, eqb-true, eq-eqb, not-false, append-nil, Flaw, Bad, Leveled, Endless, Quoted, blank, token, broken, with_front, escaped, string_at, decoded, quoted, escape_of, closes_at, comment_at, piece_at, Each, StopsAt, is_quote, in_line, Inside, nothing, itself, escape, NoEscape, Closes, not_yet, NeverCloses, opens_long, opens_level}
 use Rattle.kt_script.specs.Inner.Comments.{long_comment}
 use Rattle.kt_script.specs.TokenRules.{closed}
 use Rattle.kt_script.proofs.StringRuns.{with_front_twice, with_front_none, plain_is}
-use Rattle.kt_script.proofs.ReadWords.{quote_range, not_so, each_run, at_quote, at_dash}
+use Rattle.kt_script.proofs.ReadWords.{each_run, at_quote, at_dash}
 
 -- ---- strings
 
@@ -26,10 +26,10 @@ inside_reads quote words bytes tail slash (escape {c = c} {d = d} {cs = cs} {byt
     two_and n xs r = let e : 2 + n ≡ suc (suc n) = omega arith in ap (λ (m : ℕ). with_front xs m r) e
 
 no_slash : (quote : ℕ) → is_quote quote ≡ true → eqb 92 quote ≡ false
-no_slash quote e = not_so (eqb 92 quote) (λ h. omega (arith, eqb-true 92 quote h, (quote_range quote e).1))
+no_slash quote e = grind (arith, nat_tests, e)
 
 no_newline : (quote : ℕ) → is_quote quote ≡ true → eqb 10 quote ≡ false
-no_newline quote e = not_so (eqb 10 quote) (λ h. omega (arith, eqb-true 10 quote h, (quote_range quote e).0))
+no_newline quote e = grind (arith, nat_tests, e)
 
 same_quote : (quote : ℕ) → eqb quote quote ≡ true
 same_quote quote = eq-eqb quote quote refl

@@ -1,31 +1,26 @@
 -- The bytes of a name or a number are the piece that is read there.
-use Rattle.std.proofs.Common.{◌≡◌, ℕ, suc, ◌+◌, ◌<◌, ◌≤◌, ◌^◌, Bool, true, false, cond, eqb, leb, ◌&&◌, ◌||◌, List, [], ◌∷◌, ◌++◌, length, take, drop, Some, None, refl, ap, sym, ◌∙◌, arith, inl, inr}
-use Rattle.kt_script.proofs.Common.{prefix_len, take-append_seam, drop-append_seam, eqb-true, leb-true, and_parts, or_cases, le-ltb, lt-ltb, Bad, Number, is_space, is_letter, is_word, is_digit, decimal_from, fits, token, broken, word, Each, StopsAt, is_quote, IsStrange, name_at, number, number_at, begins_with_letter, quoted_at, comment_at, piece_at}
+use Rattle.std.proofs.Common.{◌≡◌, ℕ, suc, ◌+◌, ◌<◌, ◌≤◌, ◌^◌, Bool, true, false, cond, eqb, ◌||◌, List, [], ◌∷◌, ◌++◌, length, take, drop, Option, Some, None, refl, ap, sym, subst, ◌∙◌, arith, IfSome}
+use Rattle.kt_script.proofs.Common.{nat_tests, or_parts, prefix_len, take-append_seam, drop-append_seam, eqb-true, le-ltb, lt-ltb, Bad, Kind, Number, OpenParen, CloseParen, OpenBrace, CloseBrace, OpenBracket, CloseBracket, Equals, Comma, Semicolon, Dot, mark_of, is_space, is_letter, is_word, is_digit, decimal_from, fits, token, broken, word, Each, StopsAt, is_quote, IsStrange, name_at, number, number_at, begins_with_letter, quoted_at, comment_at, piece_at}
 
 -- ---- classes
 
-pub space_low : (c : ℕ) → is_space c ≡ true → c ≤ 32
-space_low c e = elim (or_cases (eqb c 32) (leb 9 c && leb c 13) e) [ inl one ↦ omega (arith, eqb-true c 32 one) | inr more ↦ omega (arith, leb-true c 13 (and_parts (leb 9 c) (leb c 13) more).1) ]
-
 pub quote_range : (c : ℕ) → is_quote c ≡ true → (34 ≤ c) × (c ≤ 39)
-quote_range c e = elim (or_cases (eqb c 34) (eqb c 39) e) [ inl a ↦ (omega (arith, eqb-true c 34 a), omega (arith, eqb-true c 34 a)) | inr b ↦ (omega (arith, eqb-true c 39 b), omega (arith, eqb-true c 39 b)) ]
+quote_range c e = (grind (arith, nat_tests, e), grind (arith, nat_tests, e))
 
-pub digit_range : (c : ℕ) → is_digit c ≡ true → (48 ≤ c) × (c ≤ 57)
-digit_range c e = let p = and_parts (leb 48 c) (leb c 57) e in (leb-true 48 c p.0, leb-true c 57 p.1)
+-- what holds of each mark holds of a byte that is one
+module _ (P : ℕ → Kind → Type 0) where
+  is_mark : (c n : ℕ) (kind : Kind) (b : Bool) (o : Option Kind) → eqb c n ≡ b → P n kind → IfSome o (P c) → IfSome (cond b (Some kind) o) (P c)
+  is_mark c n kind true o e here rest = subst (λ (x : ℕ). P x kind) (sym (eqb-true c n e)) here
+  is_mark c n kind false o e here rest = rest
 
-pub letter_high : (c : ℕ) → is_letter c ≡ true → 65 ≤ c
-letter_high c e =
-    elim (or_cases ((leb 97 c && leb c 122) || (leb 65 c && leb c 90)) (eqb c 95) e) [
-      | inl cased ↦ elim (or_cases (leb 97 c && leb c 122) (leb 65 c && leb c 90) cased) [
-        | inl low ↦ omega (arith, leb-true 97 c (and_parts (leb 97 c) (leb c 122) low).0)
-        | inr up ↦ leb-true 65 c (and_parts (leb 65 c) (leb c 90) up).0
-      ]
-      | inr line ↦ omega (arith, eqb-true c 95 line)
-    ]
-
-pub not_so : (b : Bool) → (b ≡ true → ⊥) → b ≡ false
-not_so true h = absurd (h refl)
-not_so false h = refl
+  pub every_mark : P 40 OpenParen → P 41 CloseParen → P 123 OpenBrace → P 125 CloseBrace → P 91 OpenBracket → P 93 CloseBracket → P 61 Equals → P 44 Comma → P 59 Semicolon → P 46 Dot
+      → (c : ℕ) → IfSome (mark_of c) (P c)
+  every_mark paren close_paren brace close_brace bracket close_bracket equals comma semicolon dot c =
+      is_mark c 40 OpenParen (eqb c 40) _ refl paren (is_mark c 41 CloseParen (eqb c 41) _ refl close_paren
+      (is_mark c 123 OpenBrace (eqb c 123) _ refl brace (is_mark c 125 CloseBrace (eqb c 125) _ refl close_brace
+      (is_mark c 91 OpenBracket (eqb c 91) _ refl bracket (is_mark c 93 CloseBracket (eqb c 93) _ refl close_bracket
+      (is_mark c 61 Equals (eqb c 61) _ refl equals (is_mark c 44 Comma (eqb c 44) _ refl comma
+      (is_mark c 59 Semicolon (eqb c 59) _ refl semicolon (is_mark c 46 Dot (eqb c 46) None refl dot tt)))))))))
 
 -- ---- runs
 
@@ -40,21 +35,21 @@ each_run p (x ∷ xs) after h stop =
 
 pub at_letter : (c : ℕ) (cs : List ℕ) → is_letter c ≡ true → piece_at (c ∷ cs) ≡ name_at (c ∷ cs)
 unfolding piece_at
-at_letter c cs e = let no_space : is_space c ≡ false = not_so (is_space c) (λ s. omega (arith, space_low c s, letter_high c e)) in rw (no_space, e) refl
+at_letter c cs e = let no_space : is_space c ≡ false = grind (arith, nat_tests, e) in rw (no_space, e) refl
 
 pub at_digit : (c : ℕ) (cs : List ℕ) → is_digit c ≡ true → piece_at (c ∷ cs) ≡ number_at (c ∷ cs)
 unfolding piece_at
 at_digit c cs e =
-    let no_space : is_space c ≡ false = not_so (is_space c) (λ s. omega (arith, space_low c s, (digit_range c e).0)) in
-    let no_letter : is_letter c ≡ false = not_so (is_letter c) (λ l. omega (arith, letter_high c l, (digit_range c e).1)) in
+    let no_space : is_space c ≡ false = grind (arith, nat_tests, e) in
+    let no_letter : is_letter c ≡ false = grind (arith, nat_tests, e) in
     rw (no_space, no_letter, e) refl
 
 pub at_quote : (c : ℕ) (cs : List ℕ) → is_quote c ≡ true → piece_at (c ∷ cs) ≡ quoted_at c (c ∷ cs)
 unfolding piece_at
 at_quote c cs e =
-    let no_space : is_space c ≡ false = not_so (is_space c) (λ s. omega (arith, space_low c s, (quote_range c e).0)) in
-    let no_letter : is_letter c ≡ false = not_so (is_letter c) (λ l. omega (arith, letter_high c l, (quote_range c e).1)) in
-    let no_digit : is_digit c ≡ false = not_so (is_digit c) (λ d. omega (arith, (digit_range c d).0, (quote_range c e).1)) in
+    let no_space : is_space c ≡ false = grind (arith, nat_tests, e) in
+    let no_letter : is_letter c ≡ false = grind (arith, nat_tests, e) in
+    let no_digit : is_digit c ≡ false = grind (arith, nat_tests, e) in
     rw (no_space, no_letter, no_digit, e) refl
 
 pub at_dash : (cs : List ℕ) → piece_at (45 ∷ cs) ≡ comment_at (45 ∷ cs)
@@ -83,11 +78,11 @@ digits_are c cs after each stop =
     ∙ ap (λ (rest : List ℕ). number ((c ∷ cs) ++ after) (length (c ∷ cs)) (begins_with_letter rest) (fits (decimal_from 0 (take (length (c ∷ cs)) ((c ∷ cs) ++ after))))) (drop-append_seam (c ∷ cs) after)
     ∙ ap (λ (digits : List ℕ). number ((c ∷ cs) ++ after) (length (c ∷ cs)) (begins_with_letter after) (fits (decimal_from 0 digits))) (take-append_seam (c ∷ cs) after)
 
-stops_digits : (after : List ℕ) → StopsAt is_word after → (StopsAt is_digit after) × (begins_with_letter after ≡ false)
+pub stops_digits : (after : List ℕ) → StopsAt is_word after → (StopsAt is_digit after) × (begins_with_letter after ≡ false)
 stops_digits [] stop = (tt, refl)
 stops_digits (c ∷ cs) stop =
-    let no_letter : is_letter c ≡ false = not_so (is_letter c) (λ l. let w : true ≡ false = sym (ap (λ (b : Bool). b || is_digit c) l) ∙ stop in absurd cc) in
-    (sym (ap (λ (b : Bool). b || is_digit c) no_letter) ∙ stop, no_letter)
+    let parts = or_parts (is_letter c) (is_digit c) stop in
+    (parts.1, parts.0)
 
 pub number_is : (c : ℕ) (cs after : List ℕ) → Each is_digit (c ∷ cs) → StopsAt is_word after → decimal_from 0 (c ∷ cs) < 2 ^ 64 → piece_at ((c ∷ cs) ++ after) ≡ token (length (c ∷ cs)) (Number (decimal_from 0 (c ∷ cs)))
 number_is c cs after each stop small =
@@ -100,7 +95,7 @@ large_is text n true v large = refl
 large_is text n false v large = ap (λ (b : Bool). number text n false (cond b (Some v) None)) (le-ltb v (2 ^ 64) large)
 
 letter_no_digit : (d : ℕ) → is_letter d ≡ true → is_digit d ≡ false
-letter_no_digit d e = not_so (is_digit d) (λ h. omega (arith, letter_high d e, (digit_range d h).1))
+letter_no_digit d e = grind (arith, nat_tests, e)
 
 pub lettered_is : (c d : ℕ) (cs after : List ℕ) → Each is_digit (c ∷ cs) → is_letter d ≡ true → piece_at ((c ∷ cs) ++ d ∷ after) ≡ broken ((c ∷ cs) ++ d ∷ after) Bad
 lettered_is c d cs after each letter =

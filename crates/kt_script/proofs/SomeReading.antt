@@ -2,11 +2,16 @@
 use Rattle.std.proofs.Common.{◌≡◌, ℕ, zero, suc, ◌≤◌, Bool, true, false, eqb, ◌&&◌, List, [], ◌∷◌, ◌++◌, length, drop, Option, Some, None, refl, ap, sym, subst, ◌∙◌, arith, length-append, ◌⊎◌, inl, inr, nat_eq, codes}
 use Rattle.kt_script.proofs.Common.{starts_with, cases_Bool, eqb-true, Bad, Leveled, Endless, Kind, Token, is_space, is_letter, is_digit, mark_of, line_past, is_quote, in_line, Closes, not_yet, NeverCloses, opens_long, opens_level, space, line_comment, long_comment, endless_comment, leveled_comment, lone_dash, strange, a_mark, IsTokens, the_end, blank_and, word_and, tokens}
 use Rattle.kt_script.specs.TokenRules.{closed}
-use Rattle.kt_script.proofs.PieceCuts.{begins_with}
+use Rattle.std.proofs.lemmas.Bool.Decides.{Decides-eqb}
+use Rattle.std.proofs.lemmas.Slice.Eq.{starts_is}
 use Rattle.kt_script.proofs.OneReading.{one_reading}
 use Rattle.kt_script.proofs.WordsFirst.{BlankFirst, WordFirst, run, flawed, name_first, number_then, quotation, string_first}
 
 -- ---- comments
+
+-- what a text is that begins so
+begins_with : (text needle : List ℕ) → starts_with nat_eq text needle ≡ true → text ≡ needle ++ drop (length needle) text
+begins_with text needle e = (starts_is Decides-eqb text needle (starts_with nat_eq text needle) refl).0 e
 
 record Closing (text : List ℕ) : Type 0 where
   pub front : List ℕ
@@ -65,7 +70,7 @@ mark_first : (c : ℕ) (cs : List ℕ) (o : Option Kind) → mark_of c ≡ o →
 mark_first c cs None m s l d q h = flawed (c ∷ cs) (c ∷ cs) Bad refl (omega arith) (strange (record { no_space = s; no_letter = l; no_digit = d; no_quote = q; no_dash = h; no_mark = m }))
 mark_first c cs (Some k) m s l d q h = record { front = c ∷ []; rest = cs; parts = refl; some = omega arith; kind = k; is = a_mark m }
 
-something_first : (c : ℕ) (cs : List ℕ) → BlankFirst (c ∷ cs) ⊎ WordFirst (c ∷ cs)
+pub something_first : (c : ℕ) (cs : List ℕ) → BlankFirst (c ∷ cs) ⊎ WordFirst (c ∷ cs)
 something_first c cs =
     elim (cases_Bool (is_space c)) [
       | inl s ↦ inl (record { front = c ∷ []; rest = cs; parts = refl; some = omega arith; is = space s })

@@ -62,19 +62,19 @@ pub unfinished : (ts : List Token) (line : ℕ) (q : State) (ss : List Stmt) →
     → IsFaultOf ts (end_fault (last (open_lines [] ts)) line)
 unfinished ts line q ss e =
     let w = from_start ts (Within line q) ss e in
-    let f = finished line q ss ts w in
+    let f = finished q ss ts w.0 in
     record {
       no_script = λ rs script. (only ts (Within line q) ss rs e script).0;
       is = inr (record {
-        whole = w.before;
-        begun = w.first ∷ w.others;
-        parts = w.parts;
+        whole = w.0.before;
+        begun = w.0.first ∷ w.0.others;
+        parts = w.0.parts;
         stmts = ss;
-        script = w.script;
+        script = w.0.script;
         more = f.0;
         action = f.1;
         statement = f.2;
-        is = ap (end_fault (last (open_lines [] ts))) (sym w.line_is);
+        is = ap (end_fault (last (open_lines [] ts))) (sym w.1);
       });
     }
 

@@ -1,9 +1,9 @@
 -- What holds where tokens have led to a place: a script is done, or a statement has begun.
-use Rattle.std.proofs.Common.{◌≡◌, ℕ, List, [], ◌∷◌, ◌++◌, Option, Some, None, refl, ap, sym, ◌∙◌, subst, append_assoc, ◌⊎◌, inl, inr, option_map, IfSome}
+use Rattle.std.proofs.Common.{◌≡◌, ℕ, List, [], ◌∷◌, ◌++◌, Option, Some, None, refl, ap, sym, ◌∙◌, subst, append_assoc, ◌⊎◌, inl, inr, option_map}
 use Rattle.kt_script.proofs.Common.{append-nil, Token, Kind, Name, Semicolon, Place, Start, Whole, Within, Stmt, Action, State, Named, Step, To, Ends, Statement, kinds, placed, Script, no_stmts, stmt_and, ended_and, Begins, step, begin, go_on, next, landed, listed, run}
-use Rattle.kt_script.proofs.Complete.{bind_some, map_some, joined}
-use Rattle.kt_script.proofs.Ending.{Ending, EndsFrom}
-use Rattle.kt_script.proofs.EndingSteps.{step_goes, some_end}
+use Rattle.kt_script.proofs.Complete.{walk, bind_some, map_some, joined}
+use Rattle.kt_script.proofs.Ending.{walk-append, statement_is, some_end}
+use Rattle.std.proofs.lemmas.List.{map-append}
 use Rattle.std.proofs.lemmas.Option.{same_Some}
 
 -- ---- scripts one after the other
@@ -18,51 +18,51 @@ Script-append xs ys ss rs (ended_and phrase {rest = rest} {a = a} {stmts = other
 pub one_stmt : (phrase : List Token) (a : Action) → Statement (kinds phrase) a → Script phrase (placed phrase a ∷ [])
 one_stmt phrase a st = let s : Script (phrase ++ []) (placed phrase a ∷ []) = stmt_and phrase st no_stmts in rw append-nil at s
 
+pub kinds-append : (xs ys : List Token) → kinds (xs ++ ys) ≡ kinds xs ++ kinds ys
+kinds-append xs ys = map-append (λ (t : Token). t.kind) xs ys
+
 -- ---- what holds where tokens have led to a place
 
-pub record WholeAt (done : List Stmt) (ts : List Token) : Type 0 where
-  pub before : List Token
-  pub phrase : List Token
-  pub parts : ts ≡ before ++ phrase
-  pub earlier : List Stmt
-  pub script : Script before earlier
-  pub action : Action
-  pub statement : Statement (kinds phrase) action
-  pub stmts : done ≡ earlier ++ placed phrase action ∷ []
-
-pub record WithinAt (line : ℕ) (q : State) (done : List Stmt) (ts : List Token) : Type 0 where
+-- a statement has begun: its name, and tokens that lead from it to this step
+pub record Begun (to : Step) (done : List Stmt) (ts : List Token) : Type 0 where
   pub before : List Token
   pub first : Token
   pub others : List Token
   pub parts : ts ≡ before ++ first ∷ others
   pub script : Script before done
-  pub line_is : first.line ≡ line
-  pub ends : (w : List Kind) (a : Action) → Ending q w a → Statement (kinds (first ∷ others) ++ w) a
+  pub name : List ℕ
+  pub named : first.kind ≡ Name name
+  pub leads : walk (To (Named name)) (kinds others) ≡ Some to
+
+-- a statement has ended
+pub record WholeAt (done : List Stmt) (ts : List Token) : Type 0 where
+  pub action : Action
+  pub earlier : List Stmt
+  pub begun : Begun (Ends action) earlier ts
+  pub stmts : done ≡ earlier ++ placed (begun.first ∷ begun.others) action ∷ []
 
 abbrev pub Stands : Place → List Stmt → List Token → Type 0
 Stands Start done ts = Script ts done
 Stands Whole done ts = WholeAt done ts
-Stands (Within line q) done ts = WithinAt line q done ts
+Stands (Within line q) done ts = (b : Begun (To q) done ts) × (b.first.line ≡ line)
+
+whole_statement : (done : List Stmt) (ts : List Token) (w : WholeAt done ts) → Statement (kinds (w.begun.first ∷ w.begun.others)) w.action
+whole_statement done ts w = rw w.begun.named (statement_is w.begun.name (kinds w.begun.others) w.action w.begun.leads)
 
 pub whole_script : (done : List Stmt) (ts : List Token) → WholeAt done ts → Script ts done
-whole_script done ts w = rw (w.parts, w.stmts) (Script-append w.before w.phrase w.earlier (placed w.phrase w.action ∷ []) w.script (one_stmt w.phrase w.action w.statement))
+whole_script done ts w =
+    let phrase : List Token = w.begun.first ∷ w.begun.others in
+    rw (w.begun.parts, w.stmts) (Script-append w.begun.before phrase w.earlier (placed phrase w.action ∷ []) w.begun.script (one_stmt phrase w.action (whole_statement done ts w)))
 
 -- a script that a semicolon ends
 whole_ended : (done : List Stmt) (ts : List Token) (t : Token) → WholeAt done ts → t.kind ≡ Semicolon → Script (ts ++ t ∷ []) done
 whole_ended done ts t w is =
-    let one : Script (w.phrase ++ t ∷ []) (placed w.phrase w.action ∷ []) = ended_and w.phrase t w.statement is no_stmts in
-    rw (w.parts, w.stmts, append_assoc) (Script-append w.before (w.phrase ++ t ∷ []) w.earlier (placed w.phrase w.action ∷ []) w.script one)
+    let phrase : List Token = w.begun.first ∷ w.begun.others in
+    let one : Script (phrase ++ t ∷ []) (placed phrase w.action ∷ []) = ended_and phrase t (whole_statement done ts w) is no_stmts in
+    rw (w.begun.parts, w.stmts, append_assoc) (Script-append w.begun.before (phrase ++ t ∷ []) w.earlier (placed phrase w.action ∷ []) w.begun.script one)
 
-enters : (done : List Stmt) (ts : List Token) (t : Token) (n : List ℕ) → Script ts done → t.kind ≡ Name n → WithinAt t.line (Named n) (done ++ []) (ts ++ t ∷ [])
-enters done ts t n script is = record {
-  before = ts;
-  first = t;
-  others = [];
-  parts = refl;
-  script = rw append-nil script;
-  line_is = refl;
-  ends = λ w a h. rw is h;
-}
+enters : (done : List Stmt) (ts : List Token) (t : Token) (n : List ℕ) → Script ts done → t.kind ≡ Name n → Stands (Within t.line (Named n)) (done ++ []) (ts ++ t ∷ [])
+enters done ts t n script is = (record { before = ts; first = t; others = []; parts = refl; script = rw append-nil script; name = n; named = is; leads = refl }, refl)
 
 begin_is : (line : ℕ) (k : Kind) (to : Place × Option Stmt) → begin line k ≡ Some to → (n : List ℕ) × (k ≡ Name n) × (to ≡ (Within line (Named n), None))
 begin_is line (Name n) to e = (n, refl, sym (same_Some (Within line (Named n), None) to e))
@@ -74,37 +74,30 @@ go_on_is line (Name n) to e = inl (n, refl, sym (same_Some (Within line (Named n
 go_on_is line Semicolon to e = inr (refl, sym (same_Some (Start, None) to e))
 go_on_is line _ to e = absurd cc
 
-kinds-push : (xs : List Token) (t : Token) (w : List Kind) → kinds (xs ++ t ∷ []) ++ w ≡ kinds xs ++ t.kind ∷ w
-kinds-push [] t w = refl
-kinds-push (x ∷ xs) t w = ap (λ (ks : List Kind). x.kind ∷ ks) (kinds-push xs t w)
+-- one token more
+goes_on : (q : State) (to : Step) (done : List Stmt) (ts : List Token) (t : Token) (b : Begun (To q) done ts) → step q t.kind ≡ Some to
+    → (c : Begun to done (ts ++ t ∷ [])) × (c.first.line ≡ b.first.line)
+goes_on q to done ts t b e =
+    let one : walk (To q) (t.kind ∷ []) ≡ Some to = rw e refl in (
+      record {
+        before = b.before;
+        first = b.first;
+        others = b.others ++ t ∷ [];
+        parts = rw b.parts (append_assoc b.before (b.first ∷ b.others) (t ∷ []));
+        script = b.script;
+        name = b.name;
+        named = b.named;
+        leads = ap (walk (To (Named b.name))) (kinds-append b.others (t ∷ [])) ∙ walk-append (kinds b.others) (t.kind ∷ []) (To (Named b.name)) (To q) b.leads ∙ one;
+      },
+      refl,
+    )
 
-goes_at : (q : State) (k : Kind) (s : Step) (w : List Kind) (a : Action) → step q k ≡ Some s → EndsFrom s w a → Ending q (k ∷ w) a
-goes_at q k s w a e = subst (λ (to : Option Step). IfSome to (λ s. EndsFrom s w a → Ending q (k ∷ w) a)) e (step_goes q k w a)
-
-lands : (s : Step) (line : ℕ) (q : State) (done : List Stmt) (ts : List Token) (t : Token) → WithinAt line q done ts → step q t.kind ≡ Some s
-    → Stands (landed line s).0 (done ++ listed (landed line s).1) (ts ++ t ∷ [])
-lands (To r) line q done ts t w e = record {
-  before = w.before;
-  first = w.first;
-  others = w.others ++ t ∷ [];
-  parts = rw w.parts (append_assoc w.before (w.first ∷ w.others) (t ∷ []));
-  script = rw append-nil w.script;
-  line_is = w.line_is;
-  ends = λ x a h. rw kinds-push (w.ends (t.kind ∷ x) a (goes_at q t.kind (To r) x a e h));
-}
-lands (Ends b) line q done ts t w e = record {
-  before = w.before;
-  phrase = (w.first ∷ w.others) ++ t ∷ [];
-  parts = rw w.parts (append_assoc w.before (w.first ∷ w.others) (t ∷ []));
-  earlier = done;
-  script = w.script;
-  action = b;
-  statement =
-      let st : Statement (kinds (w.first ∷ w.others) ++ t.kind ∷ []) b = w.ends (t.kind ∷ []) b (goes_at q t.kind (Ends b) [] b e (refl, refl)) in
-      let same : kinds ((w.first ∷ w.others) ++ t ∷ []) ≡ kinds (w.first ∷ w.others) ++ t.kind ∷ [] = sym (append-nil _) ∙ kinds-push (w.first ∷ w.others) t [] in
-      rw same st;
-  stmts = rw w.line_is refl;
-}
+lands : (to : Step) (line : ℕ) (q : State) (done : List Stmt) (ts : List Token) (t : Token) → Stands (Within line q) done ts → step q t.kind ≡ Some to
+    → Stands (landed line to).0 (done ++ listed (landed line to).1) (ts ++ t ∷ [])
+lands (To r) line q done ts t b e = let c = goes_on q (To r) done ts t b.0 e in rw append-nil (c.0, c.1 ∙ b.1)
+lands (Ends a) line q done ts t b e =
+    let c = goes_on q (Ends a) done ts t b.0 e in
+    record { action = a; earlier = done; begun = c.0; stmts = ap (λ (n : ℕ). done ++ record { line = n; action = a } ∷ []) (sym (c.1 ∙ b.1)) }
 
 at_place : (to : Place × Option Stmt) (done : List Stmt) (ts : List Token) (made : Place × Option Stmt) → to ≡ made
     → Stands made.0 (done ++ listed made.1) ts → Stands to.0 (done ++ listed to.1) ts
@@ -142,28 +135,19 @@ from_start ts q ss e = stands_run ts Start q [] ss [] no_stmts e
 
 -- ---- a script begins so
 
-on_no_line : List Kind → List Token
-on_no_line [] = []
-on_no_line (k ∷ ks) = record { line = 0; kind = k } ∷ on_no_line ks
-
-kinds-on_no_line : (ks : List Kind) → kinds (on_no_line ks) ≡ ks
-unfolding on_no_line
-kinds-on_no_line [] = refl
-kinds-on_no_line (k ∷ ks) = ap (λ (x : List Kind). k ∷ x) (kinds-on_no_line ks)
-
-kinds-append : (xs ys : List Token) → kinds (xs ++ ys) ≡ kinds xs ++ kinds ys
-kinds-append [] ys = refl
-kinds-append (x ∷ xs) ys = ap (λ (ks : List Kind). x.kind ∷ ks) (kinds-append xs ys)
+-- tokens of these kinds
+tokens_with : (ks : List Kind) → (ts : List Token) × (kinds ts ≡ ks)
+tokens_with [] = ([], refl)
+tokens_with (k ∷ ks) = let r = tokens_with ks in (record { line = 0; kind = k } ∷ r.0, ap (λ (x : List Kind). k ∷ x) r.1)
 
 -- how a statement that was begun may end
-pub finished : (line : ℕ) (q : State) (done : List Stmt) (ts : List Token) (w : WithinAt line q done ts)
-    → (more : List Token) × (a : Action) × Statement (kinds ((w.first ∷ w.others) ++ more)) a
-finished line q done ts w =
+pub finished : (q : State) (done : List Stmt) (ts : List Token) (b : Begun (To q) done ts) → (more : List Token) × (a : Action) × Statement (kinds ((b.first ∷ b.others) ++ more)) a
+finished q done ts b =
     let end = some_end q in
-    let st = w.ends end.words end.action end.ending in
-    let same : kinds ((w.first ∷ w.others) ++ on_no_line end.words) ≡ kinds (w.first ∷ w.others) ++ end.words =
-    kinds-append (w.first ∷ w.others) (on_no_line end.words) ∙ ap (λ (ks : List Kind). kinds (w.first ∷ w.others) ++ ks) (kinds-on_no_line end.words) in
-    (on_no_line end.words, end.action, rw same st)
+    let more = tokens_with end.0 in
+    let same : kinds (b.others ++ more.0) ≡ kinds b.others ++ end.0 = kinds-append b.others more.0 ∙ ap (λ (ks : List Kind). kinds b.others ++ ks) more.1 in
+    let leads = ap (walk (To (Named b.name))) same ∙ walk-append (kinds b.others) end.0 (To (Named b.name)) (To q) b.leads ∙ end.2 in
+    (more.0, end.1, rw b.named (statement_is b.name (kinds (b.others ++ more.0)) end.1 leads))
 
 pub begins_from : (before begun ts more : List Token) (done : List Stmt) (a : Action) → ts ≡ before ++ begun → Script before done → Statement (kinds (begun ++ more)) a → Begins ts
 begins_from before begun ts more done a parts script st =
@@ -173,6 +157,6 @@ begins_from before begun ts more done a parts script st =
 pub stands_begins : (p : Place) (done : List Stmt) (ts : List Token) → Stands p done ts → Begins ts
 stands_begins Start done ts h = ([], done, rw append-nil h)
 stands_begins Whole done ts h = ([], done, rw append-nil (whole_script done ts h))
-stands_begins (Within line q) done ts w =
-    let f = finished line q done ts w in
-    begins_from w.before (w.first ∷ w.others) ts f.0 done f.1 w.parts w.script f.2
+stands_begins (Within line q) done ts b =
+    let f = finished q done ts b.0 in
+    begins_from b.0.before (b.0.first ∷ b.0.others) ts f.0 done f.1 b.0.parts b.0.script f.2

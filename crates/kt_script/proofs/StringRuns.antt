@@ -1,6 +1,6 @@
 -- A string, run by run of bytes that stand for themselves.
-use Rattle.std.proofs.Common.{◌≡◌, ℕ, suc, ◌+◌, Bool, true, false, cond, eqb, not, ◌&&◌, List, [], ◌∷◌, ◌++◌, take, drop, Option, Some, None, Result, Ok, Err, refl, ap, sym, ◌∙◌, subst, append_assoc, arith, inl, inr}
-use Rattle.kt_script.proofs.Common.{prefix_len, cases_Bool, and_parts, not-true, eqb-true, Flaw, Stop, Quote, Escape, Flawed, with_front, escaped, escape_stop, escape_at, stop_at, string_at, escape_of, is_plain}
+use Rattle.std.proofs.Common.{◌≡◌, ℕ, suc, ◌+◌, Bool, true, false, cond, eqb, List, [], ◌∷◌, ◌++◌, take, drop, Option, Some, None, Result, Ok, Err, refl, ap, sym, ◌∙◌, subst, append_assoc, arith, inl, inr}
+use Rattle.kt_script.proofs.Common.{nat_tests, prefix_len, cases_Bool, eqb-true, Flaw, Stop, Quote, Escape, Flawed, with_front, escaped, escape_stop, escape_at, stop_at, string_at, escape_of, is_plain}
 
 pub with_front_twice : (xs ys : List ℕ) (n m : ℕ) (r : Result (List ℕ × ℕ) Flaw) → with_front xs n (with_front ys m r) ≡ with_front (xs ++ ys) (n + m) r
 with_front_twice xs ys n m (Ok x) =
@@ -15,10 +15,7 @@ with_front_none (Err f) = refl
 -- ---- bytes that stand for themselves
 
 pub plain_is : (quote c : ℕ) → is_plain quote c ≡ true → (eqb c quote ≡ false) × (eqb c 10 ≡ false) × (eqb c 92 ≡ false)
-plain_is quote c e =
-    let outer = and_parts (not (eqb c quote) && not (eqb c 10)) (not (eqb c 92)) e in
-    let inner = and_parts (not (eqb c quote)) (not (eqb c 10)) outer.0 in
-    (not-true (eqb c quote) inner.0, not-true (eqb c 10) inner.1, not-true (eqb c 92) outer.1)
+plain_is quote c e = (grind (arith, nat_tests, e), grind (arith, nat_tests, e), grind (arith, nat_tests, e))
 
 one_more : (c : ℕ) (cs : List ℕ) (n : ℕ) (r : Result (List ℕ × ℕ) Flaw) → with_front (c ∷ take n cs) (1 + n) r ≡ with_front (take (1 + n) (c ∷ cs)) (1 + n) r
 one_more c cs n r = let e : 1 + n ≡ suc n = omega arith in rw e refl
@@ -35,13 +32,10 @@ plain_run quote (c ∷ cs) =
       | inl yes_plain ↦
           let tests = plain_is quote c yes_plain in
           let n : ℕ = prefix_len (is_plain quote) cs in
-          let here : string_at quote false (c ∷ cs) ≡ with_front (c ∷ []) 1 (string_at quote false cs) = rw (tests.0, tests.1, tests.2) refl in
-          let all : string_at quote false (c ∷ cs) ≡ with_front (take (1 + n) (c ∷ cs)) (1 + n) (string_at quote false (drop (1 + n) (c ∷ cs))) =
-          here ∙ ap (with_front (c ∷ []) 1) (plain_run quote cs) ∙ with_front_twice (c ∷ []) (take n cs) 1 n (string_at quote false (drop n cs)) ∙ one_more c cs n (string_at quote false (drop n cs))
-          ∙ ap (λ (left : List ℕ). with_front (take (1 + n) (c ∷ cs)) (1 + n) (string_at quote false left)) (sym (one_less c cs n)) in
-          subst (λ (b : Bool). string_at quote false (c ∷ cs) ≡ with_front (take (cond b (1 + n) 0) (c ∷ cs)) (cond b (1 + n) 0) (string_at quote false (drop (cond b (1 + n) 0) (c ∷ cs)))) (sym yes_plain) all
-      | inr other ↦
-          subst (λ (b : Bool). string_at quote false (c ∷ cs) ≡ with_front (take (cond b (1 + prefix_len (is_plain quote) cs) 0) (c ∷ cs)) (cond b (1 + prefix_len (is_plain quote) cs) 0) (string_at quote false (drop (cond b (1 + prefix_len (is_plain quote) cs) 0) (c ∷ cs)))) (sym other) (sym (with_front_none (string_at quote false (c ∷ cs))))
+          rw (tests.0, tests.1, tests.2)
+          (ap (with_front (c ∷ []) 1) (plain_run quote cs) ∙ with_front_twice (c ∷ []) (take n cs) 1 n (string_at quote false (drop n cs)) ∙ one_more c cs n (string_at quote false (drop n cs))
+          ∙ ap (λ (left : List ℕ). with_front (take (1 + n) (c ∷ cs)) (1 + n) (string_at quote false left)) (sym (one_less c cs n)))
+      | inr other ↦ rw other (sym (with_front_none (string_at quote false (c ∷ cs))))
     ]
 
 -- no byte that stands for itself is left
@@ -49,8 +43,8 @@ pub no_more : (p : ℕ → Bool) (text : List ℕ) → prefix_len p (drop (prefi
 no_more p [] = refl
 no_more p (c ∷ cs) =
     elim (cases_Bool (p c)) [
-      | inl passes ↦ subst (λ (b : Bool). prefix_len p (drop (cond b (1 + prefix_len p cs) 0) (c ∷ cs)) ≡ 0) (sym passes) (ap (prefix_len p) (one_less c cs (prefix_len p cs)) ∙ no_more p cs)
-      | inr fails ↦ subst (λ (b : Bool). prefix_len p (drop (cond b (1 + prefix_len p cs) 0) (c ∷ cs)) ≡ 0) (sym fails) (ap (λ (b : Bool). cond b (1 + prefix_len p cs) 0) fails)
+      | inl passes ↦ rw passes (ap (prefix_len p) (one_less c cs (prefix_len p cs)) ∙ no_more p cs)
+      | inr fails ↦ rw (fails, fails) refl
     ]
 
 -- ---- what stands after them
