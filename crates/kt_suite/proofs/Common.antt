@@ -5,11 +5,11 @@ pub use Rattle.std.proofs.lemmas.Iterator.Splits.{YieldsList-from_slice_split}
 pub use Rattle.std.proofs.lemmas.List.{drop_more, take_at, take_rest}
 pub use Rattle.std.proofs.lemmas.List.Elements.{Contains-append_left, Contains-append_right, Contains-push, filter-append}
 pub use Rattle.std.specs.Fmt.{decimal}
-pub use Rattle.std.specs.List.{Contains, filter, join_with_byte, list_any, position_from, slice_split}
+pub use Rattle.std.specs.List.{Contains, filter, join_with_byte, list_any, slice_split}
 pub use Rattle.std.specs.Option.{option_or}
 pub use Rattle.std.specs.Str.{IsUtf8}
 unfoldable pub use Rattle.std.specs.Str.{chars}
-pub use Rattle.kt_base.proofs.Showing.{shows_as, shows_both, shows_error, shows_more, utf8-append}
+pub use Rattle.kt_base.proofs.Showing.{shows_as, shows_both, shows_error, shows_more}
 pub use Rattle.kt_base.specs.Chains.{Chain}
 pub use Rattle.kt_base.specs.Characters.{is_slash}
 pub use Rattle.kt_base.specs.Utf8.{utf8}

@@ -26,11 +26,7 @@ module _ {S : Type 0} (leads : S → Asked → S → Type 0) where
 
 is_due : (text : List ℕ) (why : ScriptFault) → IsText why → IfFault {T = List Stmt} (Err why) (λ f. IsDue text f) → IsDue text why
 is_due text (script.NoMemory refusal) n i = absurd n
-is_due text script.NotUtf8 n i = i
-is_due text (script.BadToken line) n i = i
-is_due text (script.NotLiteral line) n i = i
-is_due text (script.Unclosed line) n i = i
-is_due text script.TooLong n i = i
+is_due text why n i = i
 
 module _ {S : Type 0} (leads : S → Asked → S → Type 0) where
   pub opens_no_script : (old new : S) (file text : List ℕ) (answer : Result (List ℕ) ReadFault) (why : ScriptFault) (fault : SuiteFault) → leads old (Read file answer) new → answer ≡ Ok text

@@ -1,6 +1,7 @@
 -- Filters that share a case.
 use Rattle.std.proofs.Common.{◌≡◌, ℕ, Bool, true, false, List, [], ◌∷◌, ◌++◌, refl, sym, ap, ◌∙◌, Option, Some, None, ◌⊎◌, inl, inr, ◌==◌, ◌&&◌, ◌||◌, IsTrue, bytes_eq, append-nil}
-use Rattle.kt_suite.proofs.Common.{eq-eqb, eqb-true, and_parts, and_from, Filter, is_within, IsWithin, parts_match, matches, parts_cover, covers, overlap, ShareCase}
+use Rattle.kt_suite.proofs.Common.{append_assoc, eq-eqb, eqb-true, and_parts, and_from, Filter, is_within, IsWithin, parts_match, matches, parts_cover, covers, overlap, ShareCase}
+use Rattle.std.proofs.lemmas.Bool.{or_cases, or_left, or_right}
 use Rattle.std.proofs.lemmas.Slice.Eq.{bytes_eq-Decides}
 use Rattle.kt_suite.proofs.WithinPaths.{within-append, append-within}
 use Rattle.kt_base.proofs.Names.{same}
@@ -22,7 +23,7 @@ within_is directory path e =
     let cut : (rest : List ℕ) × (path ≡ directory ++ rest) = append-within directory path e in
     with_front directory path cut.0 cut.1 (within_nil cut.0 (sym (within-append directory cut.0) ∙ ap (λ (p : List ℕ). is_within directory p) (sym cut.1) ∙ e))
 
-pub within_self : (path : List ℕ) → is_within path path ≡ true
+within_self : (path : List ℕ) → is_within path path ≡ true
 within_self [] = refl
 within_self (c ∷ path) = rw (eq-eqb c c refl) (within_self path)
 
@@ -31,34 +32,21 @@ is-within directory path (inl e) = ap (λ (p : List ℕ). is_within directory p)
 is-within directory path (inr m) = ap (λ (p : List ℕ). is_within directory p) m.1 ∙ within-append directory (47 ∷ m.0)
 
 -- what lies within a path within a directory
-pub within_within : (outer inner path : List ℕ) → is_within outer inner ≡ true → is_within inner path ≡ true → is_within outer path ≡ true
-within_within [] [] path e f = f
-within_within [] (d ∷ inner) [] e f = absurd (cc)
-within_within [] (d ∷ inner) (c ∷ path) e f = sym (ap (λ (x : ℕ). x == 47) (eqb-true d c (and_parts (d == c) (is_within inner path) f).0)) ∙ e
-within_within (o ∷ outer) [] path e f = absurd (cc)
-within_within (o ∷ outer) (d ∷ inner) [] e f = absurd (cc)
-within_within (o ∷ outer) (d ∷ inner) (c ∷ path) e f =
-    let first : (o == d ≡ true) × (is_within outer inner ≡ true) = and_parts (o == d) (is_within outer inner) e in
-    let second : (d == c ≡ true) × (is_within inner path ≡ true) = and_parts (d == c) (is_within inner path) f in
-    and_from (o == c) (is_within outer path) (eq-eqb o c (eqb-true o d first.0 ∙ eqb-true d c second.0)) (within_within outer inner path first.1 second.1)
-
-pub or_left : (a b : Bool) → a ≡ true → (a || b) ≡ true
-or_left a b e = ap (λ (x : Bool). x || b) e
-
-pub or_right : (a b : Bool) → b ≡ true → (a || b) ≡ true
-or_right true b e = refl
-or_right false b e = e
-
-or_parts : (a b : Bool) → (a || b) ≡ true → (a ≡ true) ⊎ (b ≡ true)
-or_parts true b e = inl refl
-or_parts false b e = inr e
+within_within : (outer inner path : List ℕ) → is_within outer inner ≡ true → is_within inner path ≡ true → is_within outer path ≡ true
+within_within outer inner path e f = is-within outer path (by (within_is outer inner e) (within_is inner path f))
+  where
+    by : IsWithin outer inner → IsWithin inner path → IsWithin outer path
+    by (inl a) (inl b) = inl (b ∙ a)
+    by (inl a) (inr b) = inr (b.0, b.1 ∙ ap (λ (p : List ℕ). p ++ 47 ∷ b.0) a)
+    by (inr a) (inl b) = inr (a.0, b ∙ a.1)
+    by (inr a) (inr b) = inr (a.0 ++ 47 ∷ b.0, b.1 ∙ ap (λ (p : List ℕ). p ++ 47 ∷ b.0) a.1 ∙ append_assoc outer (47 ∷ a.0) (47 ∷ b.0))
 
 step-or : (o d c : ℕ) (a b : Bool) → o ≡ c → d ≡ c → (a || b) ≡ true → ((o == d && a) || (d == o && b)) ≡ true
 step-or o d c a b e f h =
     ap (λ (x : Bool). (x && a) || (d == o && b)) (eq-eqb o d (e ∙ sym f)) ∙ ap (λ (x : Bool). a || (x && b)) (eq-eqb d o (f ∙ sym e)) ∙ h
 
 -- of two directories of a path one lies within the other
-pub nested : (one other path : List ℕ) → is_within one path ≡ true → is_within other path ≡ true → (is_within one other || is_within other one) ≡ true
+nested : (one other path : List ℕ) → is_within one path ≡ true → is_within other path ≡ true → (is_within one other || is_within other one) ≡ true
 nested [] [] path e f = refl
 nested [] (d ∷ other) [] e f = absurd (cc)
 nested [] (d ∷ other) (c ∷ path) e f =
@@ -108,7 +96,7 @@ by_side filter other (inr e) = swapped other filter (shared_by other filter e)
 
 -- filters that overlap share a case
 pub shares : (filter other : Filter) → IsTrue (overlap filter other) → ShareCase filter other
-shares filter other e = by_side filter other (or_parts (covers filter other) (covers other filter) e)
+shares filter other e = by_side filter other (or_cases (covers filter other) (covers other filter) e)
 
 -- and the other way
 meet : (program : List ℕ) (part : Option (List ℕ)) (other : List ℕ) (other_part : Option (List ℕ)) (path case_name : List ℕ)

@@ -1,7 +1,7 @@
 -- A file is read statement by statement.
 use Rattle.std.proofs.Common.{drop, Option, None, Ok, Err, ◌≡◌, ◌-◌, ℕ, List, [], ◌∷◌, ◌++◌, length, take, ◌<◌, arith, length-append, refl, sym, subst, ap, ◌∙◌}
 use Rattle.kt_suite.proofs.Common.{append_assoc, append-nil, take_at, Stmt, SuiteFault, Meaning, Registry, Step, Enter, Asked, Read, meaning_of, Site, Mark, Asks, Part, Says, said, suite_after, StatementsSay, none, one, opened, Unfolds, end, says, Counted, Walked, through, FileGives, MeaningGives, Stepped, enters, Opened, opens}
-use Rattle.kt_suite.proofs.Counting.{counted-reading, same_reading}
+use Rattle.kt_suite.proofs.Counting.{counted-reading, totals}
 use Rattle.kt_suite.proofs.Unfolding.{unfolds-append, some_marks, some_parts}
 use Rattle.kt_suite.proofs.Walking.{walked-enough, walked-reading, walked-then}
 use Rattle.kt_suite.proofs.Inclusions.{entered_below}
@@ -73,7 +73,7 @@ pub reading_all : {T : Type 0} (asks : T → Asked → T → Type 0) (old new : 
     → Reading asks old new start file r suite left → after ≡ (record r { reading = take (length r.reading - 1) r.reading })
     → Walked asks old new (FileGives start.reading file) start (Ok after)
 reading_all asks old new start file _ after suite left e (through front r g c k) a =
-    let same : r.reading ≡ start.reading ++ file ∷ [] = same_reading (begun start file) r front k in
+    let same : r.reading ≡ start.reading ++ file ∷ [] = (totals (begun start file) r front k).reading in
     let back : take (length r.reading - 1) r.reading ≡ start.reading = ap (λ (xs : List (List ℕ)). take (length xs - 1) xs) same ∙ without start.reading file in
     let whole : FileGives start.reading file (front ++ []) = g.goes_on [] [] (subst (λ (xs : List Stmt). StatementsSay file suite xs []) (sym (nil_from_length left e)) (none suite)) (end _) in
     through front after (subst (FileGives start.reading file) (append-nil front) whole) c

@@ -1,7 +1,7 @@
 -- The root is read, and what was counted decides.
 use Rattle.std.proofs.Common.{Result, Ok, Err, ◌≡◌, ◌≤◌, ◌+◌, ℕ, List, [], ◌∷◌, ◌++◌, length, arith, refl, sym, subst, ap, ◌⊎◌, inl, inr}
-use Rattle.kt_suite.proofs.Common.{append_assoc, append-nil, SuiteFault, Program, Registry, Asked, Answered, Site, Mark, File, Includes, end, entered, TreeGives, program_limit, Outcome, questions_in, files_in, programs_in, IsUndecided, Decides, Unfinished, Registered, all, stopped, Counted, Walked, through, stops, short, FileGives}
-use Rattle.kt_suite.proofs.Counting.{counted_files, counted_programs, counted_faults, counted_few_files, counted_few_programs, next-append}
+use Rattle.kt_suite.proofs.Common.{append-nil, SuiteFault, Program, Registry, Asked, Answered, Site, Mark, File, Includes, end, entered, TreeGives, program_limit, Outcome, questions_in, files_in, programs_in, IsUndecided, Decides, Unfinished, Registered, all, stopped, Counted, Walked, through, stops, short, FileGives}
+use Rattle.kt_suite.proofs.Counting.{totals}
 use Rattle.kt_suite.proofs.Unfolding.{unfolds_to}
 
 -- what is counted as the root is read
@@ -11,20 +11,17 @@ root_counted = record { reading = []; files = 1; programs = [] }
 abbrev pub root_site : List ℕ → Site
 root_site root = record { file = root; line = 0 }
 
-tree_gives : (root : List ℕ) (marks : List Mark) → FileGives [] root marks → TreeGives root (File (root_site root) ∷ (marks ++ []))
-tree_gives root marks g = entered [] (root_site root) root g.parts marks [] [] refl g.says g.unfolds (end [])
+tree_gives : (root : List ℕ) (marks : List Mark) → FileGives [] root marks → TreeGives root (File (root_site root) ∷ marks)
+tree_gives root marks g =
+    unfolds_to [] (Includes (root_site root) root ∷ []) (File (root_site root) ∷ (marks ++ [])) (File (root_site root) ∷ marks) (ap (λ (ms : List Mark). File (root_site root) ∷ ms) (append-nil marks))
+    (entered [] (root_site root) root g.parts marks [] [] refl g.says g.unfolds (end []))
 
 undecided : (root : List ℕ) (after : Registry) (marks : List Mark) → Counted root_counted marks after → IsUndecided (File (root_site root) ∷ marks)
 undecided root after marks c =
-    let f = counted_files root_counted after marks c in
-    let few = counted_few_files root_counted after marks c (omega arith) in
-    let p = ap (λ (ps : List Program). length ps) (counted_programs root_counted after marks c) in
-    let little = counted_few_programs root_counted after marks c (omega arith) in
-    record {
-      faultless = counted_faults root_counted after marks c;
-      files = omega (arith, f, few);
-      programs = omega (arith, p, little);
-    }
+    let t = totals root_counted after marks c in
+    let few = t.few_files (omega arith) in
+    let little = t.few_programs (omega arith) in
+    record { faultless = t.faultless; files = omega (arith, t.files, few); programs = omega (arith, ap (λ (ps : List Program). length ps) t.programs, little) }
 
 -- the answer for the tree, by what its root came to
 abbrev pub answered : Result Registry SuiteFault → Outcome
@@ -35,28 +32,34 @@ module _ {T : Type 0} (asks : T → Asked → T → Type 0) where
   registered_root : (old new : T) (root : List ℕ) (result : Result Registry SuiteFault) → Walked asks old new (FileGives [] root) root_counted result
       → Answered asks old new (λ asked. Registered asked root (answered result) ⊎ Unfinished asked root (answered result))
   registered_root old new root _ (through marks after g c k) =
-      let whole : TreeGives root (File (root_site root) ∷ marks) = unfolds_to [] (Includes (root_site root) root ∷ []) (File (root_site root) ∷ (marks ++ [])) (File (root_site root) ∷ marks) (ap (λ (ms : List Mark). File (root_site root) ∷ ms) (append-nil marks)) (tree_gives root marks g) in
-      let r : Registered (questions_in marks) root (Ok (programs_in marks)) = all (File (root_site root) ∷ marks) whole (undecided root after marks k) refl in
+      let r : Registered (questions_in marks) root (Ok (programs_in marks)) = all (File (root_site root) ∷ marks) (tree_gives root marks g) (undecided root after marks k) refl in
       record {
         asked = questions_in marks;
         chain = c;
-        holds = inl (subst (λ (ps : List Program). Registered (questions_in marks) root (Ok ps)) (sym (counted_programs root_counted after marks k)) r);
+        holds = inl (subst (λ (ps : List Program). Registered (questions_in marks) root (Ok ps)) (sym (totals root_counted after marks k).programs) r);
       }
   registered_root old new root _ (stops front back mark mid fault g c k d) =
-      let whole : TreeGives root (File (root_site root) ∷ (front ++ mark ∷ (back ++ []))) = unfolds_to [] (Includes (root_site root) root ∷ []) (File (root_site root) ∷ (front ++ mark ∷ back ++ [])) (File (root_site root) ∷ (front ++ mark ∷ (back ++ [])))
-      (ap (λ (ms : List Mark). File (root_site root) ∷ ms) (append_assoc front (mark ∷ back) [])) (tree_gives root (front ++ mark ∷ back) g) in
-      let f : mid.files ≡ 1 + files_in front = counted_files root_counted mid front k in
-      let p : length mid.programs ≡ length (programs_in front) = ap (λ (ps : List Program). length ps) (counted_programs root_counted mid front k) in
+      let t = totals root_counted mid front k in
+      let p : length mid.programs ≡ length (programs_in front) = ap (λ (ps : List Program). length ps) t.programs in
+      let decides = subst (λ (n : ℕ). Decides (1 + files_in front) n mark fault) p (subst (λ (n : ℕ). Decides n (length mid.programs) mark fault) t.files d) in
       record {
         asked = questions_in front;
         chain = c;
-        holds = inl (stopped (File (root_site root) ∷ front) (back ++ []) mark fault whole (undecided root mid front k)
-            (subst (λ (n : ℕ). Decides (1 + files_in front) n mark fault) p (subst (λ (n : ℕ). Decides n (length mid.programs) mark fault) f d)) refl);
+        holds = inl (stopped (File (root_site root) ∷ front) back mark fault (tree_gives root (front ++ mark ∷ back) g) (undecided root mid front k) decides refl);
       }
   registered_root old new root _ (short front back more mid fault g l c k n) =
-      let whole : TreeGives root (File (root_site root) ∷ (front ++ (back ++ []))) = unfolds_to [] (Includes (root_site root) root ∷ []) (File (root_site root) ∷ (front ++ back ++ [])) (File (root_site root) ∷ (front ++ (back ++ [])))
-      (ap (λ (ms : List Mark). File (root_site root) ∷ ms) (append_assoc front back [])) (tree_gives root (front ++ back) g) in
-      let begins : Unfinished (questions_in front ++ more) root (Err fault) = record { fault = fault; no_memory = n; refused = refl; front = File (root_site root) ∷ front; back = back ++ []; more = more; gives = whole; undecided = undecided root mid front k; next = next-append back [] more l; is = refl } in
+      let begins : Unfinished (questions_in front ++ more) root (Err fault) = record {
+        fault = fault;
+        no_memory = n;
+        refused = refl;
+        front = File (root_site root) ∷ front;
+        back = back;
+        more = more;
+        gives = tree_gives root (front ++ back) g;
+        undecided = undecided root mid front k;
+        next = l;
+        is = refl;
+      } in
       record { asked = questions_in front ++ more; chain = c; holds = inr begins }
 
   pub registered : (old new : T) (root : List ℕ) (start : Registry) (result : Result Registry SuiteFault) → start ≡ root_counted → Walked asks old new (FileGives start.reading root) start result
@@ -64,4 +67,4 @@ module _ {T : Type 0} (asks : T → Asked → T → Type 0) where
   registered old new root start result e w = registered_root old new root result (subst (λ (s : Registry). Walked asks old new (FileGives s.reading root) s result) e w)
 
   pub few_counted : (old new : T) (root : List ℕ) (start : Registry) (r : Registry) → start ≡ root_counted → Walked asks old new (FileGives start.reading root) start (Ok r) → length r.programs ≤ program_limit
-  few_counted old new root start r e (through marks _ g c k) = let p = ap (λ (s : Registry). length s.programs) e in counted_few_programs start r marks k (omega (arith, p))
+  few_counted old new root start r e (through marks _ g c k) = let p = ap (λ (s : Registry). length s.programs) e in (totals start r marks k).few_programs (omega (arith, p))

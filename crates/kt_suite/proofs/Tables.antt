@@ -1,5 +1,5 @@
 -- A table with one definition more.
-use Rattle.std.proofs.Common.{codes, cond, Option, Some, None, Result, Ok, if◌then◌else◌, ◌≡◌, ℕ, Bool, true, false, List, [], ◌∷◌, ◌++◌, bytes_eq, refl, sym, ap, ◌∙◌}
+use Rattle.std.proofs.Common.{codes, cond, Option, Some, None, Result, Ok, if◌then◌else◌, ◌≡◌, ℕ, Bool, true, false, List, [], ◌∷◌, ◌++◌, bytes_eq, refl, sym, ap, ◌∙◌, subst}
 use Rattle.kt_suite.proofs.Common.{filter, option_or, append-nil, filter-append, Variable, Pair, text_of, SuiteCause, ProgramTable, key_named, props_with, with_props, table_with, definition, is_property, value_cause, key_fault, pair_fault, table_of, unless}
 use Rattle.kt_base.specs.LastValues.{value_of, last_values}
 use Rattle.kt_base.proofs.Names.{same, same-flip, value_of-append}
@@ -15,24 +15,22 @@ properties-append pairs more = filter-append is_property pairs more
 other_value : (word : List ℕ) (pair : Variable) → bytes_eq pair.name word ≡ false → value_of word (pair ∷ []) ≡ None
 other_value word pair e = ap (λ (b : Bool). option_or None (if b then Some pair.value else None)) (same-flip word pair.name ∙ e)
 
-property_key : (n : List ℕ) (a b c : Bool) → bytes_eq n (codes "name") ≡ a → bytes_eq n (codes "test_suite") ≡ b → is_kyuafile_property n ≡ c
-    → key.Property ≡ (if a then key.Name else if b then key.TestSuite else if c then key.Property else key.Unknown) → (bytes_eq n (codes "name") ≡ false) × (bytes_eq n (codes "test_suite") ≡ false) × (is_kyuafile_property n ≡ true)
-property_key n true b c e f g h = absurd (cc)
-property_key n false true c e f g h = absurd (cc)
-property_key n false false true e f g h = (e, f, g)
-property_key n false false false e f g h = absurd (cc)
+-- what a key says of its name
+abbrev KeySays : List ℕ → Key → Type 0
+KeySays n key.Name = n ≡ codes "name"
+KeySays n key.TestSuite = n ≡ codes "test_suite"
+KeySays n key.Property = (bytes_eq n (codes "name") ≡ false) × (bytes_eq n (codes "test_suite") ≡ false) × (is_kyuafile_property n ≡ true)
+KeySays n key.Unknown = Unit {0}
 
-name_key : (n : List ℕ) (a b c : Bool) → bytes_eq n (codes "name") ≡ a → key.Name ≡ (if a then key.Name else if b then key.TestSuite else if c then key.Property else key.Unknown) → n ≡ codes "name"
-name_key n true b c e h = same n (codes "name") e
-name_key n false true c e h = absurd (cc)
-name_key n false false true e h = absurd (cc)
-name_key n false false false e h = absurd (cc)
-
-suite_key : (n : List ℕ) (a b c : Bool) → bytes_eq n (codes "test_suite") ≡ b → key.TestSuite ≡ (if a then key.Name else if b then key.TestSuite else if c then key.Property else key.Unknown) → n ≡ codes "test_suite"
-suite_key n true b c f h = absurd (cc)
-suite_key n false true c f h = same n (codes "test_suite") f
-suite_key n false false true f h = absurd (cc)
-suite_key n false false false f h = absurd (cc)
+key_says : (n : List ℕ) (k : Key) → k ≡ key_named n → KeySays n k
+key_says n k is = subst (KeySays n) (sym is) (by (bytes_eq n (codes "name")) (bytes_eq n (codes "test_suite")) (is_kyuafile_property n) refl refl refl)
+  where
+    by : (a b c : Bool) → bytes_eq n (codes "name") ≡ a → bytes_eq n (codes "test_suite") ≡ b → is_kyuafile_property n ≡ c
+        → KeySays n (if a then key.Name else if b then key.TestSuite else if c then key.Property else key.Unknown)
+    by true b c e f g = same n (codes "name") e
+    by false true c e f g = same n (codes "test_suite") f
+    by false false true e f g = (e, f, g)
+    by false false false e f g = tt
 
 -- the parts of a table with a definition more
 three_parts : (before : List Variable) (pair : Variable) (name suite : Option (List ℕ)) (props : List Variable)
@@ -76,7 +74,7 @@ by_key before pair k table e t = ap (λ (x : Key). unless (key_fault x pair) tab
 pub takes_name : (before : List Variable) (pair : Pair) (found : ProgramTable) (text : List ℕ) → key.Name ≡ key_named pair.name → text ≡ text_of pair.value → found ≡ table_of before
     → ◌≡◌ {A = Result ProgramTable SuiteCause} (Ok (record found { name = Some text })) (table_with before (definition pair))
 takes_name before pair found text e t f =
-    let n : pair.name ≡ codes "name" = name_key pair.name (bytes_eq pair.name (codes "name")) (bytes_eq pair.name (codes "test_suite")) (is_kyuafile_property pair.name) refl e in
+    let n : pair.name ≡ codes "name" = key_says pair.name key.Name e in
     let d : ◌≡◌ {A = Variable} (definition pair) (record { name = codes "name"; value = text }) = ap (λ (x : List ℕ). record { name = x; value = text_of pair.value }) n ∙ ap (λ (x : List ℕ). record { name = codes "name"; value = x }) (sym t) in
     let made : table_of (before ++ definition pair ∷ []) ≡ record found { name = Some text } =
     ap (λ (x : Variable). table_of (before ++ x ∷ [])) d ∙ push_name before text ∙ ap (λ (x : ProgramTable). record x { name = Some text }) (sym f) in
@@ -85,7 +83,7 @@ takes_name before pair found text e t f =
 pub takes_suite : (before : List Variable) (pair : Pair) (found : ProgramTable) (text : List ℕ) → key.TestSuite ≡ key_named pair.name → text ≡ text_of pair.value → found ≡ table_of before
     → ◌≡◌ {A = Result ProgramTable SuiteCause} (Ok (record found { suite = Some text })) (table_with before (definition pair))
 takes_suite before pair found text e t f =
-    let n : pair.name ≡ codes "test_suite" = suite_key pair.name (bytes_eq pair.name (codes "name")) (bytes_eq pair.name (codes "test_suite")) (is_kyuafile_property pair.name) refl e in
+    let n : pair.name ≡ codes "test_suite" = key_says pair.name key.TestSuite e in
     let d : ◌≡◌ {A = Variable} (definition pair) (record { name = codes "test_suite"; value = text }) = ap (λ (x : List ℕ). record { name = x; value = text_of pair.value }) n ∙ ap (λ (x : List ℕ). record { name = codes "test_suite"; value = x }) (sym t) in
     let made : table_of (before ++ definition pair ∷ []) ≡ record found { suite = Some text } =
     ap (λ (x : Variable). table_of (before ++ x ∷ [])) d ∙ push_suite before text ∙ ap (λ (x : ProgramTable). record x { suite = Some text }) (sym f) in
@@ -98,7 +96,7 @@ unless_props found (Some cause) props = refl
 pub takes_property : (before : List Variable) (pair : Pair) (found : ProgramTable) (text : List ℕ) (next : Result (List Variable) SuiteCause) → key.Property ≡ key_named pair.name → text ≡ text_of pair.value → found ≡ table_of before
     → next ≡ props_with (filter is_property before) (record { name = pair.name; value = text }) → with_props found next ≡ table_with before (definition pair)
 takes_property before pair found text next e t f h =
-    let k = property_key pair.name (bytes_eq pair.name (codes "name")) (bytes_eq pair.name (codes "test_suite")) (is_kyuafile_property pair.name) refl refl refl e in
+    let k = key_says pair.name key.Property e in
     let d : ◌≡◌ {A = Variable} (record { name = pair.name; value = text }) (definition pair) = ap (λ (x : List ℕ). record { name = pair.name; value = x }) t in
     let made : table_of (before ++ definition pair ∷ []) ≡ record found { props = last_values (filter is_property before ++ definition pair ∷ []) } =
     push_property before (definition pair) k ∙ ap (λ (x : ProgramTable). record x { props = last_values (filter is_property before ++ definition pair ∷ []) }) (sym f) in

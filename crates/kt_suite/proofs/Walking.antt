@@ -1,7 +1,7 @@
 -- One part of a tree is walked behind another.
 use Rattle.std.proofs.Common.{Result, Ok, Err, ◌≡◌, ℕ, List, ◌∷◌, ◌++◌, sym, subst}
 use Rattle.kt_suite.proofs.Common.{append_assoc, SuiteFault, Registry, Asked, Mark, Walked, through, stops, short}
-use Rattle.kt_suite.proofs.Counting.{counted-append, counted-reading, same_reading, chain_of_marks, chain_then, next-append}
+use Rattle.kt_suite.proofs.Counting.{counted-append, counted-reading, totals, chain_of_marks, chain_then, next-append}
 
 module _ {S : Type 0} {leads : S → Asked → S → Type 0} where
   -- a part, and then another: what is walked of both
@@ -38,4 +38,4 @@ module _ {S : Type 0} {leads : S → Asked → S → Type 0} where
 
   -- what is walked doesn't change the files that are open
   pub walked-reading : {old new : S} {G : List Mark → Type 0} {r after : Registry} → Walked leads old new G r (Ok after) → after.reading ≡ r.reading
-  walked-reading {r = r} (through marks after g c k) = same_reading r after marks k
+  walked-reading {r = r} (through marks after g c k) = (totals r after marks k).reading
