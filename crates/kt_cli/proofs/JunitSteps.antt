@@ -80,8 +80,5 @@ module _ {R : Type 0} (keep : keeping.Ghosts R) (run : Run) (store : R) (was : O
   -- ---- the end
 
   module _ (after : R) (held now : Option (List ℕ)) (xs : List Entry) (same : xs ≡ run.entries) (i : ℕ) (last : length xs ≤ i) (w : WritesFirst keep store after was held run i) where
-    pub writes_all : Shows held now false ending → WritesJunit keep store after was now run (Ok tt)
-    writes_all s = (w.0, omega (arith, w.1, w.2, last, ap length same), w.3, shows_both w.4 s)
-
     pub end_cut : Shows held now true ending → CutsJunit keep store after was now run
     end_cut s = (w.0, w.3, shows_both w.4 s)

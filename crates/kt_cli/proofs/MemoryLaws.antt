@@ -1,6 +1,6 @@
 -- Runs in memory are looked up and changed.
-use Rattle.std.proofs.Common.{Option, Some, None, Ok, Err, Bool, true, false, slice_get, nat_lt, insert, map, ◌==◌, if◌then◌else◌, ◌≡◌, ℕ, zero, suc, ◌<◌, ◌≤◌, List, [], ◌∷◌, length, arith, refl, sym, ap, ◌∙◌, get_or, set, inl, inr, subst}
-use Rattle.kt_cli.proofs.Common.{find, set-get_or, Entry, Run, StoreFault, NoRun, CaseOutputs, IsStoreFault, outlined, outputs_of, entry_at, AreNumbered, insert_at, run_at, put_refusal_of, finish_refusal_of, Agrees, Serves, changed_by, StoreCall, Put, Finished, Outline, Outputs, LeavesInMemory, memory_runs, ServesInMemory, FindsPlace, entry_refusal, closing_refusal, place_among}
+use Rattle.std.proofs.Common.{Option, Some, None, Ok, Err, Bool, true, false, slice_get, nat_lt, insert, ◌==◌, if◌then◌else◌, ◌≡◌, ℕ, zero, suc, ◌<◌, ◌≤◌, List, [], ◌∷◌, length, arith, refl, sym, ap, ◌∙◌, get_or, set, inr, subst}
+use Rattle.kt_cli.proofs.Common.{find, set-get_or, Entry, Run, StoreFault, NoRun, CaseOutputs, outputs_of, entry_at, AreNumbered, insert_at, run_at, put_refusal_of, finish_refusal_of, Agrees, Serves, changed_by, StoreCall, Put, Finished, Outputs, LeavesInMemory, memory_runs, ServesInMemory, FindsPlace, entry_refusal, closing_refusal, place_among}
 use Rattle.kt_store.proofs.Numbered.{numbers_changed, ordered_changed}
 use Rattle.kt_store.proofs.ServeLemmas.{always_outlasts}
 use Rattle.kt_cli.proofs.Numbered.{entry_placed, finish_placed}
@@ -37,18 +37,12 @@ module _ (old xs : List Run) (number place : ℕ) (run : Run) (s : xs ≡ old) (
   pub put_refused : (e : Entry) (fault : StoreFault) → Some fault ≡ entry_refusal run e.position → ServesInMemory old (Put number e (Err fault)) (set xs place run)
   put_refused e fault h = (inr (ap (λ (o : Option Run). put_refusal_of o e) there ∙ sym h), λ _. same_list xs old place run s r)
 
-  pub put_short : (e : Entry) (entries : List Entry) (fault : StoreFault) → IsStoreFault fault → entries ≡ run.entries → ServesInMemory old (Put number e (Err fault)) (set xs place (record run { entries = entries }))
-  put_short e entries fault failed k = (inl failed, λ _. ap (λ (es : List Entry). set xs place (record run { entries = es })) k ∙ same_list xs old place run s r)
-
   pub put_well : (e : Entry) (entries : List Entry) → None ≡ entry_refusal run e.position → entries ≡ insert_at e run.entries → ServesInMemory old (Put number e (Ok tt)) (set xs place (record run { entries = entries }))
   put_well e entries h k = (
     ap (λ (o : Option Run). put_refusal_of o e) there ∙ sym h,
     λ n. ap (λ (es : List Entry). set xs place (record run { entries = es })) k ∙ ap (λ (l : List Run). set l place (record run { entries = insert_at e run.entries })) s
         ∙ entry_placed 1 place number old run e n (f.0 ∙ omega arith) (read_there old place run f.1 (moved xs old place run s r)),
   )
-
-  pub outline_well : (pairs : Bool) (entries : List Entry) → entries ≡ map (outlined pairs) run.entries → ServesInMemory old (Outline number pairs (Ok entries)) old
-  outline_well pairs entries e = ((run, there, e), λ _. refl)
 
   pub outputs_well : (position : ℕ) (e : Entry) (outputs : CaseOutputs) → Some e ≡ find (λ (x : Entry). x.position == position) run.entries → outputs ≡ outputs_of e
       → ServesInMemory old (Outputs number position (Ok outputs)) old
@@ -65,10 +59,6 @@ module _ (old xs : List Run) (number place : ℕ) (run : Run) (s : xs ≡ old) (
     ap finish_refusal_of there ∙ sym h,
     λ n. ap (λ (l : List Run). set l place (record run { finished = true })) s ∙ finish_placed 1 place number old run n (f.0 ∙ omega arith) (read_there old place run f.1 (moved xs old place run s r)),
   )
-
--- no run, no outputs
-pub outputs_unplaced : (runs : List Run) (number position : ℕ) (fault : StoreFault) → FindsPlace runs number (Err fault) → ServesInMemory runs (Outputs number position (Err fault)) runs
-outputs_unplaced runs number position fault f = (inr (f.0, ap (λ (o : Option Run). entry_at o position) f.1), λ _. refl)
 
 -- an entry is inserted at its place
 pub inserted : (e : Entry) (es : List Entry) → insert es (place_among e.position es) e ≡ insert_at e es

@@ -10,8 +10,6 @@ use Rattle.kt_words.specs.declared.command_fault.CommandFault.{CommandFault}
 use Rattle.kt_store.specs.declared.access.Access.{Access}
 use Rattle.kt_store.specs.declared.store_fault.StoreFault.{StoreFault}
 use Rattle.kt_cli.specs.CommandLines.{IsSaid}
-use Rattle.kt_cli.specs.LineOutputs.{LineState}
-use Rattle.kt_cli.specs.Performing.{CarriedOut, Streams}
 use Rattle.kt_cli.specs.Platforms.{Opened}
 use Rattle.kt_words.specs.declared.command.Command.TheVariants as command
 use Rattle.kt_cli.proofs.Testings.{did_report, did_junit}
@@ -30,11 +28,6 @@ first_told was mid now exit bytes due e p = subst (λ (x : Option (List ℕ)). P
 pub opened_for : {M O P S : Type 0} (p : Program M O P S) (old new : P) (file : List ℕ) (answer : Result S StoreFault) (a b : Access) → a ≡ b
     → p.platform.provides old (Opened file a answer) new → p.platform.provides old (Opened file b answer) new
 opened_for p old new file answer a b e h = subst (λ (x : Access). p.platform.provides old (Opened file x answer) new) e h
-
--- what was given to standard output before is the same, however it is handed on
-pub given_before : {M O P S : Type 0} (p : Program M O P S) (command : Result Command CommandFault) (old new : State M O P) (mid was : LineState) (errors : Option (List ℕ)) (now : Streams) (exit : ℕ) → mid ≡ was
-    → CarriedOut p command old new (record { out = mid; errors = errors }) now exit → CarriedOut p command old new (record { out = was; errors = errors }) now exit
-given_before p command old new mid was errors now exit e h = subst (λ (x : LineState). CarriedOut p command old new (record { out = x; errors = errors }) now exit) e h
 
 module _ {M O P S : Type 0} (p : Program M O P S) (c : Command) where
   module _ {R : Type 0} (keep : keeping.Ghosts R) (world : State M O P) (store after : R) (was now : Option (List ℕ)) (exit : ℕ) (options : ReportOptions) where

@@ -1,10 +1,9 @@
 -- A command over a world and a store.
-use Rattle.std.proofs.Common.{Option, Some, Result, Ok, Err, Bool, true, false, length, take, ◌≤◌, ◌==◌, if◌then◌else◌, ◌≡◌, ℕ, List, [], ◌∷◌, ◌++◌, refl, sym, ap, ◌∙◌, subst, ◌⊎◌, inl, inr}
+use Rattle.std.proofs.Common.{Option, Some, Result, Ok, Err, Bool, true, false, take, ◌==◌, if◌then◌else◌, ◌≡◌, ℕ, List, [], ◌∷◌, ◌++◌, refl, sym, ap, ◌∙◌, subst, ◌⊎◌, inl, inr}
 use Rattle.kt_cli.proofs.Common.{utf8, Kind, IsIdle, Job, StoreCall, Chain, Candidate, Command, ReportOptions, Entry, RunFault, NoMemory, SinkFailed, Totals, NoEvent, cases_of, needs_case, Debugged, all_debug_bytes, debug_exit, memory_line, run_line, Seen, Course, listing, listing_exit, IsPrepared, IsAskedOnly, IsUnasked, Means, stopped, listed, tested, debugged, idle, reported, reported_junit, taken, AsksFirst, selecting, preparing, CutShort, no_memory, cut, report_cut, junit_cut, Did, Says, Printed, Question, leads_by, of_host, JunitOrUnread, DidReport, Reported, ReportedJunit, Unread, Scene, scene, World, launcher_of, Shows, RanPlan, run_for, warnings, chain-append}
 use Rattle.kt_base.specs.declared.child.Role.{Role}
 use Rattle.kt_metadata.specs.declared.host.Host.{Host}
 use Rattle.kt_suite.specs.Answers.{Answered}
-use Rattle.kt_suite.specs.Selecting.{most_items}
 use Rattle.kt_words.specs.declared.options.CaseOptions.{CaseOptions}
 use Rattle.kt_plan.specs.declared.cases.Picked.{Picked}
 use Rattle.kt_plan.specs.declared.stop.Stop.{Stop}
@@ -29,10 +28,6 @@ debugged_as l plan old new was now failed answer other e d = subst (λ (x : Resu
 -- bytes were printed, and the exit is the one that was due
 pub printed_as : (was now : Option (List ℕ)) (f : Bool) (exit due : ℕ) (bytes : List ℕ) (own : ℕ) → Shows was now f bytes → due ≡ own → exit ≡ (if f then 2 else due) → Printed was now exit bytes own
 printed_as was now f exit due bytes own s k e = record { failed = f; shows = s; exits = e ∙ ap (λ (x : ℕ). if f then 2 else x) k }
-
--- a plan is no longer than its cases
-pub plan_few : (cases given : List Candidate) (plan : List Job) → given ≡ cases → length plan ≡ length given → length cases ≤ most_items → length plan ≤ most_items
-plan_few cases given plan e f l = subst (λ (k : ℕ). k ≤ most_items) (sym (f ∙ ap length e)) l
 
 module _ {W : Type 0} (w : World W) where
   -- a world is idle as before, after a question to its host

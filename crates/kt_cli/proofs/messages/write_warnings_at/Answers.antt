@@ -1,5 +1,5 @@
 use Rattle.std.proofs.Common.{slice_get, ℕ, List}
-use Rattle.kt_cli.proofs.Common.{shows_as, shows_error, shows_none, utf8, shows_next, shows_cut_off, shows_whole, warning_at}
+use Rattle.kt_cli.proofs.Common.{shows_as, shows_error, utf8, shows_cut_off, shows_whole, warning_at}
 use Rattle.kt_cli.proofs.Utf8Sums.{utf8_flat_map}
 use Rattle.kt_cli.proofs.messages.write_warnings_at.Goals as goal
 
@@ -7,20 +7,12 @@ use Rattle.kt_cli.proofs.messages.write_warnings_at.Goals as goal
 abbrev warned : List (List ℕ) → ℕ → List ℕ
 warned words position = warning_at (slice_get words position)
 
-pub loop-position-init : goal.loop-position-init
-loop-position-init g c = shows_none
-
 pub returns-in_err-write_warning_at : goal.returns-in_err-write_warning_at
 returns-in_err-write_warning_at g c =
     let words = c.args.words.now in
     let positions = c.args.positions.now in
     let whole = shows_cut_off (λ (p : ℕ). utf8 (warned words p)) positions c.loop-position.position-index _ c.loop-position-test.true c.loop-position.invariant c.in_err-write_warning_at.ensures in
     shows_error _ _ c.from_residual.ensures.1 (shows_as (utf8_flat_map (warned words) positions) whole)
-
-pub loop-position-preserved : goal.loop-position-preserved
-loop-position-preserved g c =
-    let words = c.args.words.now in
-    shows_next (λ (p : ℕ). utf8 (warned words p)) c.args.positions.now c.loop-position.position-index _ c.loop-position-test.true c.loop-position.invariant c.in_ok-write_warning_at.ensures
 
 pub returns : goal.returns
 returns g c =

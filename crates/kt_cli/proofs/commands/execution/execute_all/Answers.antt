@@ -1,18 +1,8 @@
 use Rattle.std.proofs.Common.{rules, ◌≡◌, ◌≤◌, ◌+◌, suc, drop, length, ◌++◌, ◌∷◌, [], List, arith, ap, subst, sym}
 use Rattle.kt_cli.proofs.Common.{common_steps, vec_len, vec_capacity, Command, Exit, scene, world_of}
-use Rattle.kt_cli.proofs.Sequencing.{GoesOn, goes_first, goes_more, goes_all}
+use Rattle.kt_cli.proofs.Sequencing.{GoesOn, goes_more, goes_all}
 use Rattle.kt_cli.proofs.commands.execution.execute_all.Goals as goal
 use Rattle.std.proofs.lemmas.List.{nil_from_length}
-
-pub loop-command-init : goal.loop-command-init
-loop-command-init g c =
-    let here = scene c.args.world.now c.args.results.now (g.O.Write.contents c.args.out.now) in
-    record {
-      goes = subst (λ (xs : List Exit). GoesOn (world_of g.W.Tree g.W.Launcher g.W.World) g.R.Keeping c.args.commands.now c.args.commands.now here here xs)
-          (sym c.in_ok-exits.ensures.items) (goes_first (world_of g.W.Tree g.W.Launcher g.W.World) g.R.Keeping _ _);
-      idle = c.requires;
-      room = omega (arith, c.in_ok-exits.ensures.len, c.in_ok-exits.ensures.capacity);
-    }
 
 pub loop-command-preserved : goal.loop-command-preserved
 loop-command-preserved g c =

@@ -1,12 +1,7 @@
 use Rattle.std.proofs.Common.{rules, false, is_err, ◌≡◌}
-use Rattle.kt_cli.proofs.Common.{line_bytes, shows_both, shows_error, shows_more}
+use Rattle.kt_cli.proofs.Common.{shows_both}
 use Rattle.kt_cli.proofs.Saying.{says_on}
 use Rattle.kt_cli.proofs.commands.recorder.write_entry.Goals as goal
-
-pub returns-in_err-emit_all : goal.returns-in_err-emit_all
-returns-in_err-emit_all g c =
-    let on : is_err c.args.written ≡ false = search rules in
-    says_on on (shows_error _ _ c.from_residual-in_err-emit_all.ensures.1 (shows_more (line_bytes c.args.entry.now) (rw (c.as_slice.ensures, c.as_slice-2.ensures, c.as_slice-3.ensures, c.as_slice-4.ensures) at c.in_err-emit_all.ensures)))
 
 pub returns : goal.returns
 returns g c =

@@ -1,5 +1,5 @@
 use Rattle.kt_cli.proofs.Common.{WritesJunit}
-use Rattle.kt_cli.proofs.JunitSteps.{writes_none, heading_cut, writes_next, case_stops, writes_all, end_cut}
+use Rattle.kt_cli.proofs.JunitSteps.{writes_none, heading_cut, writes_next, case_stops, end_cut}
 use Rattle.kt_cli.proofs.commands.reporting.write_junit.Goals as goal
 use Rattle.kt_base.proofs.Lists.{error_is}
 
@@ -25,6 +25,3 @@ pub returns-in_err-junit_end : goal.returns-in_err-junit_end
 returns-in_err-junit_end g c =
     error_is (WritesJunit g.R.Keeping c.args.results.now c.loop-entry.results (g.O.Write.contents c.args.out.now) (g.O.Write.contents c.junit_end.new.out) c.args.run.now) c.from_residual-in_err-junit_end.result _ c.from_residual-in_err-junit_end.ensures.1
     (end_cut g.R.Keeping c.args.run.now _ _ _ _ _ c.as_slice-entry-items.result.now c.as_slice-entry-items.ensures c.loop-entry.entry-index c.loop-entry-test.false c.loop-entry.invariant c.in_err-junit_end.ensures)
-
-pub returns : goal.returns
-returns g c = writes_all g.R.Keeping c.args.run.now _ _ _ _ _ c.as_slice-entry-items.result.now c.as_slice-entry-items.ensures c.loop-entry.entry-index c.loop-entry-test.false c.loop-entry.invariant c.in_ok-junit_end.ensures

@@ -48,6 +48,3 @@ returns-in-Ok-finish-clause-ran g c =
     (stored_call g.R.Keeping (Began _ c.args.planned.moment (Ok c.in-Ok.number)) _ _ b)
     _ r _ c.in-Ok-answer.totals a _
     (stored_call g.R.Keeping (Finished c.in-Ok.number (Ok tt)) _ _ e) c.write_ending-all.ensures c.status_of.ensures c.ended-in-Ok-finish.ensures
-
-pub record_cases-answer-requires-clause-width : goal.record_cases-answer-requires-clause-width
-record_cases-answer-requires-clause-width g c = record { positive = c.parallelism-width.ensures.within.0; limited = c.parallelism-width.ensures.within.1 }

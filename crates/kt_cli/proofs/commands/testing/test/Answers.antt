@@ -4,9 +4,6 @@ use Rattle.kt_words.specs.declared.command.Command.TheVariants as command
 use Rattle.kt_cli.proofs.Testings.{stopped_only, did_told}
 use Rattle.kt_cli.proofs.commands.testing.test.Goals as goal
 
-pub returns-in-Ok-clause-did : goal.returns-in-Ok-clause-did
-returns-in-Ok-clause-did g c = c.test_picked.ensures.did _ _ c.in-Ok.ensures.selects
-
 pub returns-in-Err-clause-did : goal.returns-in-Err-clause-did
 returns-in-Err-clause-did g c =
     did_told (world_of g.W.Tree g.W.Launcher g.W.World) g.R.Keeping _ _ _ _ _ _ _

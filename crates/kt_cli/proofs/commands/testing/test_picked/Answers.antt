@@ -1,7 +1,7 @@
 use Rattle.std.proofs.Common.{rules, ◌≡◌, refl}
 use Rattle.kt_cli.proofs.Common.{world_of}
 use Rattle.kt_words.specs.declared.command.Command.TheVariants as command
-use Rattle.kt_cli.proofs.Testings.{idle_told, short_only, did_told, did_test, printed_as, plan_few}
+use Rattle.kt_cli.proofs.Testings.{idle_told, short_only, did_told, did_test, printed_as}
 use Rattle.kt_cli.proofs.commands.testing.test_picked.Goals as goal
 
 pub returns-in-Err-clause-did : goal.returns-in-Err-clause-did
@@ -9,11 +9,6 @@ returns-in-Err-clause-did g c = λ file start selects.
     did_told (world_of g.W.Tree g.W.Launcher g.W.World) g.R.Keeping _ _ _ _ _ _ _
     (short_only (world_of g.W.Tree g.W.Launcher g.W.World) (command.Test c.args.options.now file) c.args.options.now _ _ _ _ _ _ c.args.picked.now c.as_slice-cases.result.now refl selects (search rules) c.in-Err.ensures.planned
     (printed_as _ _ _ _ _ _ _ c.write_memory.ensures refl c.ended.ensures))
-
-pub run_plan-requires-clause-few : goal.run_plan-requires-clause-few
-run_plan-requires-clause-few g c =
-    let a : c.as_slice-cases.result.now ≡ c.args.picked.now.chosen.cases = search rules in
-    plan_few c.args.picked.now.chosen.cases c.as_slice-cases.result.now c.in-Ok.plan a c.in-Ok.ensures.plan.1 c.requires.few
 
 pub run_plan-requires-clause-idle : goal.run_plan-requires-clause-idle
 run_plan-requires-clause-idle g c =

@@ -1,19 +1,11 @@
 use Rattle.std.proofs.Common.{true, arith}
-use Rattle.kt_cli.proofs.ProgramSearch.{behind_text, goes_here, goes_last, goes_on, shorter}
+use Rattle.kt_cli.proofs.ProgramSearch.{behind_text, goes_here, goes_last, goes_on}
 use Rattle.kt_cli.proofs.host.program_search.is_among.Goals as goal
-
-pub loop-directory-init : goal.loop-directory-init
-loop-directory-init g c = (λ answer new s. s, c.utf8.among)
 
 pub returns-then-is_in : goal.returns-then-is_in
 returns-then-is_in g c =
     let at = c.in-Some.ensures.byte (omega arith) (λ w o f. f) in
     c.loop-directory.invariant.0 true _ (goes_here g.M.Machine.answers c.args.name.now c.loop-directory.rest.now c.in-Some.directory.now _ _ at.2 at.0 c.if-is_in.ensures)
-
-pub loop-directory-smaller : goal.loop-directory-smaller
-loop-directory-smaller g c =
-    let at = c.in-Some.ensures.byte (omega arith) (λ w o f. f) in
-    shorter c.loop-directory.rest.now c.in-Some.behind.now at.1 at.2
 
 pub loop-directory-preserved : goal.loop-directory-preserved
 loop-directory-preserved g c =

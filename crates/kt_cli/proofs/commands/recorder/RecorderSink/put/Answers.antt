@@ -1,32 +1,9 @@
-use Rattle.std.proofs.Common.{rules, true, false, is_err, ◌≡◌, Ok, Err, refl, sym, subst, List}
+use Rattle.std.proofs.Common.{rules, true, false, is_err, ◌≡◌, Ok, refl, sym, subst, List}
 use Rattle.kt_cli.proofs.Common.{Run, Put}
 use Rattle.kt_cli.proofs.Numbered.{put_more}
 use Rattle.kt_cli.proofs.Saying.{says_no_more, says_on}
 use Rattle.kt_cli.proofs.StoreChains.{stored_call}
 use Rattle.kt_cli.proofs.commands.recorder.RecorderSink.put.Goals as goal
-
-pub put-requires : goal.put-requires
-put-requires g c = c.requires
-
-pub returns-in-Err-clause-leads : goal.returns-in-Err-clause-leads
-returns-in-Err-clause-leads g c =
-    let p = c.in-Err.ensures in (
-      refl,
-      refl,
-      (
-        refl,
-        (
-          c.in-Err.fault,
-          c.sink_fault.ensures,
-          stored_call g.R.Keeping (Put c.args.self.now.number c.args.entry (Err c.in-Err.fault)) _ _ p,
-        ),
-        refl,
-        refl,
-      ),
-    )
-
-pub returns-in-Err-clause-err : goal.returns-in-Err-clause-err
-returns-in-Err-clause-err g c put h = (h.0, c.in-Err.ensures.stands _ h.1)
 
 pub returns-then-is_err-clause-leads : goal.returns-then-is_err-clause-leads
 returns-then-is_err-clause-leads g c =

@@ -1,16 +1,11 @@
 use Rattle.std.proofs.Common.{rules, ◌≡◌}
 use Rattle.kt_cli.proofs.Common.{insert_at}
-use Rattle.kt_cli.proofs.MemoryLaws.{put_refused, put_short, put_well}
+use Rattle.kt_cli.proofs.MemoryLaws.{put_refused, put_well}
 use Rattle.kt_cli.proofs.results.mem_runs.MemRuns.put_entry.Goals as goal
 
 pub returns-in-Some : goal.returns-in-Some
 returns-in-Some c =
     put_refused _ c.self.inside.runs.items _ c.in_ok-place.place c.index_mut-run.result.now c.self.view_is c.in_ok-place.ensures c.index_mut-run.ensures.value c.args.entry.now _ c.in-Some.ensures
-
-pub returns-in-Err : goal.returns-in-Err
-returns-in-Err c =
-    let kept : c.add_copy.new.entries ≡ c.index_mut-run.result.now.entries = search rules in
-    put_short _ c.self.inside.runs.items _ c.in_ok-place.place c.index_mut-run.result.now c.self.view_is c.in_ok-place.ensures c.index_mut-run.ensures.value c.args.entry.now _ _ c.short.ensures kept
 
 pub returns : goal.returns
 returns c =
