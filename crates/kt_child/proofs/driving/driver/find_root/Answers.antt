@@ -3,9 +3,6 @@ use Rattle.kt_child.proofs.Common.{Call, MakeDir, FailedRoots, root_of}
 use Rattle.kt_child.proofs.Chains.{chain_append}
 use Rattle.kt_child.proofs.driving.driver.find_root.Goals as goal
 
-pub loop-number-init : goal.loop-number-init
-loop-number-init g c = ([], refl, refl)
-
 pub returns-in-Ok : goal.returns-in-Ok
 returns-in-Ok g c =
     let f = c.loop-number.invariant in

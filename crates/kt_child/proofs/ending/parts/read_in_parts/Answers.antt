@@ -1,13 +1,6 @@
 use Rattle.std.proofs.Common.{Some, ap}
-use Rattle.kt_child.proofs.PartSteps.{taking_none, taking_more, taking_over}
+use Rattle.kt_child.proofs.PartSteps.{taking_more, taking_over}
 use Rattle.kt_child.proofs.ending.parts.read_in_parts.Goals as goal
-
-pub parts-init : goal.parts-init
-parts-init g c =
-    record {
-      taking = taking_none g.R.PartReader.has_taken g.O.Os.leads c.args.path.now c.args.part c.args.limit c.args.os.now c.args.reader.now c.requires.none;
-      room = c.requires.some;
-    }
 
 pub parts-preserved : goal.parts-preserved
 parts-preserved g c =

@@ -1,9 +1,5 @@
-use Rattle.std.proofs.Common.{refl, rules}
 use Rattle.kt_child.proofs.HostReads.{nowhere, stayed, unread}
 use Rattle.kt_child.proofs.host.reads.read_from.Goals as goal
-
-pub returns-then-from-eq0-clause-front : goal.returns-then-from-eq0-clause-front
-returns-then-from-eq0-clause-front g c = (c.args.file.now, (λ e. refl), (search rules), c.read_front.ensures.front, c.read_front.ensures.past)
 
 pub returns-in_err-or_fault-clause-front : goal.returns-in_err-or_fault-clause-front
 returns-in_err-or_fault-clause-front g c = (

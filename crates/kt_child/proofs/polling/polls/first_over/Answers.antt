@@ -1,21 +1,12 @@
-use Rattle.std.proofs.Common.{◌<◌, List, length, refl, sym, subst, is_ok, arith}
+use Rattle.std.proofs.Common.{List, refl, sym, subst, is_ok}
 use Rattle.kt_child.proofs.Common.{Watched}
-use Rattle.kt_child.proofs.WaitSteps.{Waiting, first_left, turn_falls, waiting_more, waiting_none, waiting_over}
+use Rattle.kt_child.proofs.WaitSteps.{Waiting, waiting_more, waiting_over}
 use Rattle.kt_child.proofs.polling.polls.first_over.Goals as goal
-
-pub turns-init : goal.turns-init
-turns-init g c = record { waiting = waiting_none g.O.Os.leads c.args.os.now c.args.children.now; on = c.requires.on }
 
 pub returns-in-Some-clause-waited : goal.returns-in-Some-clause-waited
 returns-in-Some-clause-waited g c =
     waiting_over g.O.Os.leads c.args.os.now c.turns.os c.turn.new.os c.args.children.now c.turns.children c.turn.new.children
     c.in-Some.over.place c.in-Some.over.outcome c.turns.invariant.waiting c.in-Some.ensures.over c.in-Some.ensures.before
-
-pub turns-smaller : goal.turns-smaller
-turns-smaller g c =
-    let P : List Watched → Type 0 = λ t. first_left t < first_left c.turns.children in
-    let some : 0 < length c.turns.children = omega arith in
-    subst P (sym (c.in_default.ensures.went_on refl)) (turn_falls c.turns.children some c.turns.invariant.on)
 
 pub turns-preserved : goal.turns-preserved
 turns-preserved g c =

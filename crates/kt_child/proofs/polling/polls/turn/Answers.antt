@@ -5,14 +5,6 @@ use Rattle.kt_child.specs.declared.polling.AfterPoll.TheVariants.{Ended}
 use Rattle.kt_child.proofs.TurnSteps.{on_at, one_poll, same_at, step_more, step_over, step_set}
 use Rattle.kt_child.proofs.polling.polls.turn.Goals as goal
 
-pub poll_once-requires-clause-in_range : goal.poll_once-requires-clause-in_range
-poll_once-requires-clause-in_range g c =
-    (on_at c.args.children.now c.loop-i.children c.loop-i.i c.index-children-i.result (omega arith) c.loop-i.invariant.children c.requires).1
-
-pub poll_once-requires-clause-watched : goal.poll_once-requires-clause-watched
-poll_once-requires-clause-watched g c =
-    (on_at c.args.children.now c.loop-i.children c.loop-i.i c.index-children-i.result (omega arith) c.loop-i.invariant.children c.requires).0
-
 pub returns-in-Ended-clause-over : goal.returns-in-Ended-clause-over
 returns-in-Ended-clause-over g c =
     step_over g.O.Os.leads c.args.children.now c.loop-i.children c.loop-i.i c.index-children-i.result c.args.os.now c.loop-i.os c.poll_once.new.os

@@ -1,4 +1,4 @@
-use Rattle.std.proofs.Common.{rules, ◌≡◌, ◌∙◌, ◌++◌, ◌∷◌, [], ap, sym, subst, inl, inr}
+use Rattle.std.proofs.Common.{rules, ◌≡◌, ◌∙◌, ◌++◌, ◌∷◌, [], ap, sym, subst}
 use Rattle.kt_child.proofs.Common.{count_in, ChildrenState, spawned}
 use Rattle.kt_child.proofs.StateWaits.{state_started}
 use Rattle.kt_child.proofs.driving.running_children.RunningChildren.start.Goals as goal
@@ -13,12 +13,3 @@ invariant_of-self-in-Started g c =
           c.make_room.ensures.pending,
       search rules,
     )
-
-pub returns-in-Err-clause-begun : goal.returns-in-Err-clause-begun
-returns-in-Err-clause-begun g c = let a = c.refuse.ensures.asked in (a.0, a.1, inl a.2)
-
-pub returns-in-Started-clause-begun : goal.returns-in-Started-clause-begun
-returns-in-Started-clause-begun g c = let a = c.in-Started.ensures.asked in (a.0, a.1, inr a.2)
-
-pub returns-in-Refused-clause-begun : goal.returns-in-Refused-clause-begun
-returns-in-Refused-clause-begun g c = let a = c.in-Refused.ensures.asked in (a.0, a.1, inr a.2)
