@@ -1,10 +1,8 @@
 -- Each command line that `clap` takes names a command.
-use Rattle.std.proofs.Common.{◌≡◌, ◌∙◌, ℕ, Bool, true, false, cond, ◌||◌, ◌&&◌, List, [], ◌∷◌, Option, Some, None, refl, ap, ap₂, sym, subst, is_some, inl, inr, Result, Ok, Err, bytes_eq, codes, find, option_map}
-use Rattle.kt_words.proofs.Common.{list_all, App, HasKind, IsAmong, IsParsedFrom, Row, Shape, Text, app_of, built, fault_of, first_of, is_simple, is_simple_and_free, kind_of, matches_of, subcommand_of, subcommand_rows_of, out-Command, out-ArgMatches, argument_words, entered, label_of, names_of, rows_at, Kind, kyua_app, Reads, RefusesWords, command_in, report_with, junit_with, report_in, junit_in, options_in, results_in, kinds_of, run_of}
+use Rattle.std.proofs.Common.{◌≡◌, ◌∙◌, ℕ, Bool, true, false, cond, ◌||◌, ◌&&◌, List, [], ◌∷◌, Option, Some, None, refl, ap, ap₂, sym, is_some, Result, Ok, Err, bytes_eq, codes, find, option_map}
+use Rattle.kt_words.proofs.Common.{list_all, App, IsParsedFrom, Row, Shape, Text, app_of, built, fault_of, first_of, is_simple, is_simple_and_free, matches_of, subcommand_of, subcommand_rows_of, out-Command, out-ArgMatches, argument_words, entered, label_of, names_of, rows_at, Kind, kyua_app, Reads, RefusesWords, command_in, report_with, junit_with, report_in, junit_in, options_in, results_in, kinds_of, run_of}
 use Rattle.std.specs.Option.{option_map_or}
 use Rattle.clap.specs.declared.builder.command.Command.{Command as Line}
-use Rattle.clap.specs.declared.error.Error.{Error}
-use Rattle.clap.specs.declared.error.kind.ErrorKind.TheVariants.{OutOfMemory}
 use Rattle.clap.specs.declared.parser.matches.ArgMatches.{ArgMatches}
 use Rattle.clap.proofs.TakesLemmas.{some_rows}
 use Rattle.clap.specs.Walk.{answers_to, stop_after}
@@ -106,16 +104,6 @@ reads_found words before o (Err fault.BadRun) e d some none a = (none, sym a ∙
 reads_found words before o (Err (fault.NoMemory shortage)) e d some none a = tt
 reads_found words before o (Err (fault.Usage told)) e d some none a =
     absurd (no_usage before words told (ap is_some (sym d) ∙ some) (ap (command_in before) (sym d) ∙ a))
-
--- what is refused is refused
-pub reads_refused : (words : List Text) (error : Error) (f : CommandFault) → HasKind (fault_of kyua_app words) error → RefusesWords (kind_of error ≡ OutOfMemory) f → Reads words (Err f)
-reads_refused words error fault.BadKind h r = absurd r
-reads_refused words error fault.BadRun h r = absurd r
-reads_refused words error (fault.NoMemory shortage) h r = tt
-reads_refused words error (fault.Usage told) h r = λ empty. elim h [
-  | inl short ↦ r short
-  | inr among ↦ subst (IsAmong (kind_of error)) empty among
-]
 
 -- an error of another kind
 pub refused_for : (short : Type 0) (f : CommandFault) → RefusesWords short f → RefusesWords ⊥ f
