@@ -1,7 +1,7 @@
 -- the first state, and what is taken
-use Rattle.kt_sched.proofs.Common.{length, length-filter, slice_get, filter, Option, Some, None, is_some, map, ◌≡◌, ℕ, ◌<◌, Bool, true, false, cond, List, [], refl, sym, ◌∙◌, ap, arith, length-map, option_map, slice_get-map, Job, Case, NoEvent, turns, is_open, recorded, IsPlan, nothing_fed, first_case, first_stage, SchedState, Stands, IsStage, is_active_stage, is_owing_stage, is_fresh, positions, is_undecided, Judged, ◌≢◌, ◌≤◌, subst, slice_set, inl, inr, length-set, Entry, Stage, Decided, Finished, Taken, Event, of, IsEntry, decided, IsEntryOf, CaseRecord, Fed, TookEntry, IsAsked, is_over, is_owed, entry_with, record_in, decided_record, decided_record_of, stage_work, work}
+use Rattle.kt_sched.proofs.Common.{length, length-filter, slice_get, filter, Option, Some, None, is_some, map, ◌≡◌, ℕ, ◌<◌, Bool, true, false, cond, List, [], refl, sym, ◌∙◌, ap, arith, length-map, option_map, slice_get-map, Job, Case, NoEvent, turns, is_open, IsPlan, nothing_fed, first_case, first_stage, SchedState, Stands, IsStage, is_active_stage, is_owing_stage, is_fresh, positions, Judged, ◌≢◌, ◌≤◌, subst, slice_set, inl, inr, length-set, Entry, Stage, Decided, Finished, Taken, Event, of, IsEntry, decided, IsEntryOf, CaseRecord, Fed, TookEntry, IsAsked, is_over, is_owed, entry_with, record_in, decided_record, decided_record_of, stage_work, work}
 use Rattle.kt_sched.specs.declared.next.Next.TheVariants as next
-use Rattle.kt_sched.proofs.Lists.{filter_none, drop_zero, mapped_at, take_zero, count_by-set, sum_by-set}
+use Rattle.kt_sched.proofs.Lists.{filter_none, mapped_at, count_by-set, sum_by-set}
 use Rattle.kt_sched.proofs.Turns.{put_at_positions}
 use Rattle.kt_sched.proofs.Located.{Which, asked_as, each_set, located, which}
 use Rattle.std.proofs.lemmas.Option.{same_Some}
@@ -49,7 +49,7 @@ new_stands {plan} {w = n} h l q e f = rw (e, f, q) (record {
   turn = record {
     walk = refl;
     within = omega arith;
-    starts = sym (ap (λ (jobs : List Job). positions (filter is_undecided jobs)) (take_zero (turns plan)));
+    starts = refl;
     met = λ k i c x g. (λ t. (all_first plan i c g).0, λ t. absurd (omega arith));
   };
   puts = record {
@@ -57,8 +57,7 @@ new_stands {plan} {w = n} h l q e f = rw (e, f, q) (record {
     stopped = λ f. refl;
     stored = omega arith;
     gone = λ f. record { gone = λ k job l g d. absurd (omega (arith, l)); due = λ k job l g. refl };
-    ready = λ f. drop_zero (recorded plan n NoEvent) ∙ (put_at_positions 0 (filter (is_open plan n NoEvent) (turns plan))
-        ∙ ap (λ (jobs : List Job). positions (filter (is_open plan n NoEvent) jobs)) (sym (drop_zero (turns plan))));
+    ready = λ f. put_at_positions 0 (filter (is_open plan n NoEvent) (turns plan));
     ripe = λ i m x o. absurd (cc);
   };
   told = λ i x y. absurd (cc);

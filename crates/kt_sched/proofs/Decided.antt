@@ -1,6 +1,6 @@
 -- decided cases: which of them are open from a turn on, and which an event opens
-use Rattle.kt_sched.proofs.Common.{slice_get, filter, take, drop, Some, not, nat_lt, ◌==◌, ◌&&◌, ◌||◌, if◌then◌else◌, ◌≡◌, ◌≢◌, ℕ, zero, suc, ◌+◌, ◌-◌, ◌<◌, ◌≤◌, ◌⊎◌, Bool, true, false, List, [], ◌∷◌, refl, sym, ◌∙◌, ap, arith, inl, inr, and-false, and-true, or-false, and_from, and_parts, cases_Bool, or_left, or_right, list_all, list_any, nat_tests, take-append-drop, filter-append, cases_eq, cases_lt, Job, Event, Trace, Then, active, turns, body_starts, is_open, was_open, is_begun, ahead, IsPlan, HasStarted, AreGone, opened, positions, is_decided, is_undecided}
-use Rattle.kt_sched.proofs.Lists.{pick, any_none, filter_alike, filter_in, filter_none, get_drop, get_take, list_all_at, list_all_from, mapped_at, none_passes, other_is_not, take_within}
+use Rattle.kt_sched.proofs.Common.{ne_eqb, slice_get, filter, take, drop, Some, not, nat_lt, ◌==◌, ◌&&◌, ◌||◌, if◌then◌else◌, ◌≡◌, ◌≢◌, ℕ, zero, suc, ◌+◌, ◌-◌, ◌<◌, ◌≤◌, ◌⊎◌, Bool, true, false, List, [], ◌∷◌, refl, sym, ◌∙◌, ap, arith, inl, inr, and-false, and-true, or-false, and_from, and_parts, cases_Bool, or_left, or_right, list_all, list_any, nat_tests, take-append-drop, filter-append, cases_eq, cases_lt, Job, Event, Trace, Then, active, turns, body_starts, is_open, was_open, is_begun, ahead, IsPlan, HasStarted, AreGone, opened, positions, is_decided, is_undecided}
+use Rattle.kt_sched.proofs.Lists.{any_none, filter_alike, filter_in, filter_none, get_drop, get_take, list_all_at, list_all_from, mapped_at, none_passes, take_within}
 use Rattle.kt_sched.proofs.Turns.{opens_now, turn_distinct, turn_sorted}
 use Rattle.std.proofs.lemmas.Option.{same_Some}
 use Rattle.kt_base.proofs.Lists.{same_number}
@@ -10,7 +10,7 @@ ahead_is : (xs : List Job) (k : ℕ) (job : Job) → ((j : ℕ) (x : Job) → j 
 ahead_is [] k job d g = absurd (cc)
 ahead_is (y ∷ ys) zero job d g = let e : y ≡ job = cc in rw (e, same_number job.position) refl
 ahead_is (y ∷ ys) (suc k) job d g =
-    rw (other_is_not y.position job.position (d 0 y (omega arith) refl)) (ap (λ zs. y ∷ zs) (ahead_is ys k job (λ j x l q. d (suc j) x (omega (arith, l)) q) g))
+    rw (ne_eqb y.position job.position (d 0 y (omega arith) refl)) (ap (λ zs. y ∷ zs) (ahead_is ys k job (λ j x l q. d (suc j) x (omega (arith, l)) q) g))
 
 -- there is room for a decided case beside this many active ones
 abbrev pub room_in : ℕ → ℕ → Job → Bool
@@ -19,20 +19,13 @@ room_in a n job = if job.exclusive then a == 0 else nat_lt a n
 -- where there is room for a later case, there is for an earlier one
 room_falls : (a n : ℕ) (ex ey : Bool) → 0 < n → (ex ≡ true → ey ≡ true) → (if ey then a == 0 else nat_lt a n) ≡ true
     → (if ex then a == 0 else nat_lt a n) ≡ true
-room_falls a n true true z s h = h
-room_falls a n true false z s h = absurd (cc (s refl))
-room_falls a n false true z s h = let e : a ≡ 0 = grind (arith, nat_tests, h) in grind (arith, nat_tests, e, z)
-room_falls a n false false z s h = h
+room_falls a n ex ey z s h = grind (arith, nat_tests, s, h)
 
 any_filtered : (q : ℕ → Bool) (p : Job → Bool) (xs : List Job) (k : ℕ) (x : Job) → slice_get xs k ≡ Some x → p x ≡ true → q x.position ≡ true
     → list_any q (positions (filter p xs)) ≡ true
 any_filtered q p [] k x g e f = absurd (cc)
 any_filtered q p (y ∷ ys) zero x g e f = let s : y ≡ x = cc in rw (s, e, f) refl
-any_filtered q p (y ∷ ys) (suc k) x g e f = skip (p y) (any_filtered q p ys k x g e f)
-  where
-    skip : (b : Bool) → list_any q (positions (filter p ys)) ≡ true → list_any q (positions (pick b y (filter p ys))) ≡ true
-    skip true h = or_right (q y.position) (list_any q (positions (filter p ys))) h
-    skip false h = h
+any_filtered q p (y ∷ ys) (suc k) x g e f = grind (arith, any_filtered q p ys k x g e f)
 
 module _ {plan : List Job} (T : Trace) (p : ℕ) (h : IsPlan plan) (s : HasStarted plan T p) where
   -- the cases before the turn are begun
@@ -48,7 +41,7 @@ module _ {plan : List Job} (T : Trace) (p : ℕ) (h : IsPlan plan) (s : HasStart
   -- that of the turn is if it is decided
   begun_at : (job : Job) → slice_get (turns plan) p ≡ Some job → is_begun T job ≡ is_decided job
   begun_at job g =
-      ap (λ b. is_decided job || b) (ap (list_any (λ i. i == job.position)) s ∙ any_none _ _ (λ k i q. other_is_not i job.position (λ e. apart k i q e)))
+      ap (λ b. is_decided job || b) (ap (list_any (λ i. i == job.position)) s ∙ any_none _ _ (λ k i q. ne_eqb i job.position (λ e. apart k i q e)))
       ∙ or-false (is_decided job)
     where
       apart : (k i : ℕ) → slice_get (positions (filter is_undecided (take p (turns plan)))) k ≡ Some i → i ≡ job.position → ⊥

@@ -1,6 +1,6 @@
 -- a state after one event more stands for one event more
-use Rattle.kt_sched.proofs.Common.{Taken, filter, slice_get, count_by, Option, Some, None, if◌then◌else◌, ◌≡◌, ◌≢◌, ℕ, ◌+◌, ◌<◌, ◌≤◌, ◌⊎◌, Bool, true, false, cond, List, [], ◌∷◌, ◌++◌, length, drop, take, is_none, is_some, refl, sym, ◌∙◌, ap, subst, arith, slice_set, inl, inr, length-append, append-nil, drop-append-le, length-set, map-append, slice_get_within, cases_lt, cases_eq, Job, Stage, Finished, Case, Event, Then, position_of, of, turns, body_starts, body_start_of, recorded, Fed, has_failed, SchedState, Stands, CasesStand, TurnStands, PutsStand, IsStage, IsAfter, Replaced, IsSettled, HasTurn, is_active_stage, is_owing_stage, is_over, Owing, is_owed, is_fresh, is_undecided, HasRecord, owing_at, ready_at, record_in, listed, positions, opened, stage_work, work, after_event, unless, with_event, Trace, HasStarted}
-use Rattle.kt_sched.proofs.Lists.{cond_le, cond_one, cond_zero, pick, count_by-set, counted_one, sum_by-set, take_filter, other_is_not}
+use Rattle.kt_sched.proofs.Common.{ne_eqb, Taken, filter, slice_get, count_by, Option, Some, None, ◌≡◌, ◌≢◌, ℕ, ◌+◌, ◌<◌, ◌≤◌, ◌⊎◌, true, false, cond, List, [], ◌∷◌, ◌++◌, length, drop, take, is_none, is_some, refl, sym, ◌∙◌, ap, subst, arith, slice_set, inl, inr, length-append, append-nil, drop-append-le, length-set, map-append, slice_get_within, cases_lt, cases_eq, Job, Stage, Finished, Case, Event, Then, position_of, of, turns, body_starts, body_start_of, recorded, Fed, has_failed, SchedState, Stands, CasesStand, TurnStands, PutsStand, IsStage, IsAfter, Replaced, IsSettled, HasTurn, is_active_stage, is_owing_stage, is_over, Owing, is_owed, is_fresh, is_undecided, HasRecord, owing_at, ready_at, record_in, listed, positions, opened, stage_work, work, after_event, with_event, Trace, HasStarted}
+use Rattle.kt_sched.proofs.Lists.{cond_le, cond_one, cond_zero, pick, count_by-set, counted_one, sum_by-set, take_filter}
 use Rattle.kt_sched.proofs.Turns.{of_same, of_other, opens_now, recorded_more, finished_is}
 use Rattle.kt_sched.proofs.Stages.{fresh_inactive, says, undecided_stage, Moves, moves, owed_moves, stage_moves}
 use Rattle.kt_sched.proofs.Located.{Which, at_place, each_set, one_place, set_here, which, has_turn}
@@ -48,7 +48,7 @@ owing_is (Owing o) i = sym (same_number i)
 owing_is stage i = refl
 
 owing_by : (stage : Stage) (i : ℕ) → OwedBy i (owing_at stage i)
-owing_by (Owing o) i k d = other_is_not k i d
+owing_by (Owing o) i k d = ne_eqb k i d
 owing_by stage i k d = refl
 
 module _ {plan : List Job} {n : ℕ} {fed : Fed} {b : SchedState} {e : Event} {cs : List Case} {job : Job} {was now : Stage} {t a : ℕ}
@@ -205,12 +205,7 @@ module _ {plan : List Job} {n : ℕ} {fed : Fed} {b : SchedState} {e : Event} {c
 
   -- what is ready is the case of the event, if it is over
   readied : (k : ℕ) → ready_at now b.failed i ≡ Some k → (k ≡ i) × (is_over now ≡ true)
-  readied k y = by (is_over now) refl b.failed y
-    where
-      by : (v : Bool) → is_over now ≡ v → (f : Bool) → (if v then unless f i else None) ≡ Some k → (k ≡ i) × (is_over now ≡ true)
-      by true q true y = absurd (cc)
-      by true q false y = (same_Some k i (sym y), q)
-      by false q f y = absurd (cc)
+  readied k y = (grind (arith, y), grind (arith, y))
 
   told : (k : ℕ) → k ≡ i → (x : _) × (now ≡ Finished x) → HasRecord later k
   told k q x = (new, x.0, ap (slice_get later) q ∙ found, ap (record_in s.moved.job) x.1)
@@ -218,7 +213,7 @@ module _ {plan : List Job} {n : ℕ} {fed : Fed} {b : SchedState} {e : Event} {c
   puts_step : PutsStand plan n (with_event fed e) b.order t (ready_at now b.failed i) b.failed
   puts_step = record {
     failed = h.puts.failed;
-    stopped = none_now (is_over now);
+    stopped = λ f. grind (arith, f);
     stored = omega (
       arith,
       h.puts.stored,
@@ -230,13 +225,8 @@ module _ {plan : List Job} {n : ℕ} {fed : Fed} {b : SchedState} {e : Event} {c
     ripe = λ k m x o. turning.here m (o ∙ ap Some (readied k x).0);
   }
     where
-      none_now : (v : Bool) → b.failed ≡ true → (if v then unless b.failed i else None) ≡ None
-      none_now true f = rw f refl
-      none_now false f = refl
-
-      listed_own : (v : Bool) → b.failed ≡ false → pick v i [] ≡ listed (if v then unless b.failed i else None)
-      listed_own true f = rw f refl
-      listed_own false f = refl
+      own : b.failed ≡ false → pick (is_over now) i [] ≡ listed (ready_at now b.failed i)
+      own f = grind (arith, f)
 
       ready : has_failed fed ≡ false → drop fed.stored (recorded plan n (Then fed.trace e))
           ≡ listed (ready_at now b.failed i) ++ positions (opened plan n (Then fed.trace e) t)
@@ -244,10 +234,9 @@ module _ {plan : List Job} {n : ℕ} {fed : Fed} {b : SchedState} {e : Event} {c
           let xs = recorded plan n fed.trace in
           let ys = positions (filter (opens_now plan n fed.trace e) (turns plan)) in
           let nothing : drop fed.stored xs ≡ [] = h.puts.ready f ∙ rw (s.asked.empty, none f) refl in
-          let own = listed_own (is_over now) (h.puts.failed ∙ f) in
           ap (drop fed.stored) more
           ∙ (drop-append-le fed.stored xs (pick (is_over now) i [] ++ ys) h.puts.stored
-          ∙ rw (nothing, own)
+          ∙ rw (nothing, own (h.puts.failed ∙ f))
           (ap (λ (jobs : List Job). listed (ready_at now b.failed i) ++ positions jobs) (newly_open e turning.over (h.puts.gone f) (none f))))
 
   pub event_taken : After plan n fed b e (after_event b cs t a (owing_at now i) (ready_at now b.failed i))

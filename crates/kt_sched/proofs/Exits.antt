@@ -1,5 +1,5 @@
 -- how a run ends
-use Rattle.kt_sched.proofs.Common.{Result, Option, Some, None, is_some, Ok, Err, ◌≡◌, ℕ, ◌-◌, Bool, if◌then◌else◌, List, [], refl, append-nil, take, sym, ◌∙◌, ap, subst, arith, Job, SinkFault, Totals, Implies, IsIdle, IsPlan, AreEntries, Each, BusyAt, Trace, runs, recorded, body_starts, Fed, IsNext, Follows, Ran, NoEvent, SchedState}
+use Rattle.kt_sched.proofs.Common.{Result, Option, Some, None, is_some, Ok, Err, ◌≡◌, ℕ, Bool, if◌then◌else◌, List, [], refl, append-nil, take, sym, ◌∙◌, ap, subst, arith, Job, SinkFault, Totals, Implies, IsIdle, IsPlan, AreEntries, Each, BusyAt, Trace, recorded, body_starts, Fed, IsNext, Follows, Ran, NoEvent, SchedState}
 use Rattle.kt_sched.specs.Run.{EndsAs}
 use Rattle.kt_sched.specs.declared.run_fault.RunFault.{RunFault}
 use Rattle.kt_base.specs.declared.no_memory.NoMemory.{NoMemory as Refusal}

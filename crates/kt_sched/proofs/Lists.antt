@@ -1,6 +1,10 @@
 -- lemmas on lists by index, on options and on truth values
-use Rattle.kt_sched.proofs.Common.{slice_get, count_by, sum_by, filter, Some, None, map, ◌==◌, if◌then◌else◌, ◌≡◌, ◌≢◌, ℕ, zero, suc, ◌+◌, ◌<◌, ◌≤◌, ◌⊎◌, Bool, true, false, cond, List, [], ◌∷◌, ◌++◌, length, take, drop, refl, sym, ◌∙◌, ap, arith, add-one, slice_set, inl, inr, and_parts, false_from_ne_true, slice_get_cases, sum_by-append, filter-append, length-filter, nat_tests, sum_by-cons, list_all, list_any}
-use Rattle.std.proofs.lemmas.Option.{same_Some}
+use Rattle.kt_sched.proofs.Common.{◌-◌, slice_get, count_by, sum_by, filter, Some, None, map, if◌then◌else◌, ◌≡◌, ◌≢◌, ℕ, zero, suc, ◌+◌, ◌<◌, ◌≤◌, ◌⊎◌, Bool, true, false, cond, List, [], ◌∷◌, ◌++◌, length, take, drop, refl, sym, ◌∙◌, ap, arith, slice_set, inl, inr, false_from_ne_true, slice_get_cases, sum_by-append, filter-append, length-filter, sum_by-cons, list_all, list_any}
+use Rattle.std.proofs.lemmas.Grind.{common_steps}
+use Rattle.std.proofs.lemmas.List.{length-take}
+use Rattle.std.proofs.lemmas.List.Sums as sums
+use Rattle.std.proofs.lemmas.List.Sums.{get_or-le-sum_by}
+use Rattle.std.proofs.lemmas.Option.{gets, same_Some, slice_get_within}
 
 pub cond_one : (b : Bool) → b ≡ true → cond {A = ℕ} b 1 0 ≡ 1
 cond_one b e = ap (λ (c : Bool). cond {A = ℕ} c 1 0) e
@@ -9,60 +13,32 @@ pub cond_zero : (b : Bool) → b ≡ false → cond {A = ℕ} b 1 0 ≡ 0
 cond_zero b e = ap (λ (c : Bool). cond {A = ℕ} c 1 0) e
 
 pub cond_le : (b : Bool) → cond {A = ℕ} b 1 0 ≤ 1
-cond_le true = omega arith
-cond_le false = omega arith
+cond_le b = grind arith
 
 pub count-cons : {X : Type 0} (p : X → Bool) (x : X) (xs : List X) → count_by p (x ∷ xs) ≡ cond (p x) 1 0 + count_by p xs
 count-cons p x xs = sum_by-cons (λ y. cond (p y) 1 0) x xs
 
-pub other_is_not : (i j : ℕ) → i ≢ j → (i == j) ≡ false
-other_is_not i j h = grind (arith, nat_tests)
-
 -- beginnings and rests
-
-pub take_zero : {X : Type 0} (xs : List X) → take 0 xs ≡ []
-take_zero [] = refl
-take_zero (x ∷ xs) = refl
-
-pub drop_zero : {X : Type 0} (xs : List X) → drop 0 xs ≡ xs
-drop_zero [] = refl
-drop_zero (x ∷ xs) = refl
 
 -- what is left of a list from an element on
 pub drop_at : {X : Type 0} (xs : List X) (i : ℕ) (x : X) → slice_get xs i ≡ Some x → drop i xs ≡ x ∷ drop (i + 1) xs
-drop_at [] i x g = absurd (cc)
-drop_at (y ∷ ys) zero x g = ap (λ z. z ∷ ys) (same_Some y x g)
-drop_at (y ∷ ys) (suc i) x g = rw add-one (let r = rw add-one at (drop_at ys i x g) in r)
+drop_at xs i x g = grind (arith, common_steps, gets)
 
 pub get_drop : {X : Type 0} (xs : List X) (p k : ℕ) → slice_get (drop p xs) k ≡ slice_get xs (p + k)
-get_drop {X} xs zero k =
-    let e : 0 + k ≡ k = omega arith in
-    ap (λ (ys : List X). slice_get ys k) (drop_zero xs) ∙ ap (slice_get xs) (sym e)
-get_drop [] (suc p) k = refl
-get_drop (x ∷ xs) (suc p) k =
-    let e : suc p + k ≡ suc (p + k) = omega arith in
-    get_drop xs p k ∙ ap (slice_get (x ∷ xs)) (sym e)
+get_drop xs p k = grind (arith, common_steps, gets)
 
 pub slice_get-drop : {X : Type 0} (xs : List X) (k : ℕ) → slice_get xs k ≡ slice_get (drop k xs) 0
-slice_get-drop xs k = let e : k + 0 ≡ k = omega arith in ap (slice_get xs) (sym e) ∙ sym (get_drop xs k 0)
+slice_get-drop xs k = grind (arith, common_steps, gets)
 
 pub get_take : {X : Type 0} (xs : List X) (p j : ℕ) → j < p → slice_get (take p xs) j ≡ slice_get xs j
-get_take xs zero j l = absurd (omega (arith, l))
-get_take [] (suc p) j l = refl
-get_take (x ∷ xs) (suc p) zero l = refl
-get_take (x ∷ xs) (suc p) (suc j) l = get_take xs p j (omega (arith, l))
+get_take xs p j l = grind (arith, common_steps, gets)
 
 pub take_within : {X : Type 0} (xs : List X) (p j : ℕ) (x : X) → slice_get (take p xs) j ≡ Some x → j < p
-take_within [] zero j x g = absurd (cc)
-take_within (y ∷ ys) (suc p) zero x g = omega arith
-take_within (y ∷ ys) (suc p) (suc j) x g = omega (arith, take_within ys p j x g)
-take_within xs p j x g = absurd (cc)
+take_within xs p j x g = omega (arith, slice_get_within (take p xs) j x g, length-take p xs)
 
 -- one element more
 pub take_snoc : {X : Type 0} (xs : List X) (k : ℕ) (x : X) → slice_get xs k ≡ Some x → take (k + 1) xs ≡ take k xs ++ x ∷ []
-take_snoc [] k x g = absurd (cc)
-take_snoc (y ∷ ys) zero x g = let s : y ≡ x = cc in rw s (ap (λ zs. x ∷ zs) (take_zero ys))
-take_snoc (y ∷ ys) (suc k) x g = rw add-one (let r = rw add-one at (take_snoc ys k x g) in ap (λ zs. y ∷ zs) r)
+take_snoc xs k x g = grind (arith, common_steps, gets)
 
 -- elements and places
 
@@ -70,7 +46,7 @@ pub within_some : {X : Type 0} (xs : List X) (i : ℕ) → i < length xs → (x 
 within_some xs i h = elim (slice_get_cases xs i).1 [ inl w ↦ (w.0, w.2) | inr w ↦ absurd (omega (arith, h, w.0)) ]
 
 pub none_past : {X : Type 0} (xs : List X) (k : ℕ) → slice_get xs k ≡ None → length xs ≤ k
-none_past xs k e = elim (slice_get_cases xs k).1 [ inl w ↦ absurd (cc (e, w.2)) | inr w ↦ w.0 ]
+none_past xs k e = grind (arith, gets)
 
 pub mapped_at : {X Y : Type 0} (f : X → Y) (xs : List X) (k : ℕ) (y : Y) → slice_get (map f xs) k ≡ Some y → (x : X) × (slice_get xs k ≡ Some x) × (f x ≡ y)
 mapped_at f [] k y g = absurd (cc)
@@ -78,33 +54,18 @@ mapped_at f (x ∷ xs) zero y g = (x, refl, cc)
 mapped_at f (x ∷ xs) (suc k) y g = mapped_at f xs k y g
 
 pub slice_get-set_same : {X : Type 0} (xs : List X) (i : ℕ) (v : X) → i < length xs → slice_get (slice_set xs i v) i ≡ Some v
-slice_get-set_same [] i v h = absurd (omega arith)
-slice_get-set_same (x ∷ xs) zero v h = refl
-slice_get-set_same (x ∷ xs) (suc i) v h = slice_get-set_same xs i v (omega arith)
+slice_get-set_same xs i v h = grind (arith, common_steps, gets)
 
 pub slice_get-set_other : {X : Type 0} (xs : List X) (i j : ℕ) (v : X) → j ≢ i → slice_get (slice_set xs i v) j ≡ slice_get xs j
-slice_get-set_other [] i j v h = refl
-slice_get-set_other (x ∷ xs) zero zero v h = absurd (h refl)
-slice_get-set_other (x ∷ xs) zero (suc j) v h = refl
-slice_get-set_other (x ∷ xs) (suc i) zero v h = refl
-slice_get-set_other (x ∷ xs) (suc i) (suc j) v h = slice_get-set_other xs i j v (λ e. h (ap suc e))
-
-pub set_set : {X : Type 0} (xs : List X) (i : ℕ) (a b : X) → slice_set (slice_set xs i a) i b ≡ slice_set xs i b
-set_set [] i a b = refl
-set_set (x ∷ xs) zero a b = refl
-set_set (x ∷ xs) (suc i) a b = ap (λ ys. x ∷ ys) (set_set xs i a b)
+slice_get-set_other xs i j v h = grind (arith, common_steps, gets)
 
 -- an element of two lists in a row stands in one of them
 pub in_append : {X : Type 0} (xs ys : List X) (k : ℕ) (a : X) → slice_get (xs ++ ys) k ≡ Some a
-    → (slice_get xs k ≡ Some a) ⊎ ((m : ℕ) × (k ≡ length xs + m) × (slice_get ys m ≡ Some a))
-in_append [] ys k a g = inr (k, omega arith, g)
-in_append (x ∷ xs) ys zero a g = inl g
-in_append (x ∷ xs) ys (suc k) a g = elim (in_append xs ys k a g) [ inl h ↦ inl h | inr w ↦ inr (w.0, omega (arith, w.1), w.2) ]
+    → (slice_get xs k ≡ Some a) ⊎ ((length xs ≤ k) × (slice_get ys (k - length xs) ≡ Some a))
+in_append xs ys k a g = grind (arith, common_steps, gets)
 
 pub append_left : {X : Type 0} (xs ys : List X) (k : ℕ) (a : X) → slice_get xs k ≡ Some a → slice_get (xs ++ ys) k ≡ Some a
-append_left [] ys k a g = absurd (cc)
-append_left (x ∷ xs) ys zero a g = g
-append_left (x ∷ xs) ys (suc k) a g = append_left xs ys k a g
+append_left xs ys k a g = grind (arith, common_steps, gets)
 
 -- what holds of each element
 
@@ -113,9 +74,7 @@ list_all_from p [] h = refl
 list_all_from p (x ∷ xs) h = rw (h 0 x refl) (list_all_from p xs (λ i y g. h (suc i) y g))
 
 pub list_all_at : {X : Type 0} (p : X → Bool) (xs : List X) (i : ℕ) (x : X) → slice_get xs i ≡ Some x → list_all p xs ≡ true → p x ≡ true
-list_all_at p [] i x g h = absurd (cc)
-list_all_at p (y ∷ ys) zero x g h = ap p (sym (same_Some y x g)) ∙ (and_parts (p y) (list_all p ys) h).0
-list_all_at p (y ∷ ys) (suc i) x g h = list_all_at p ys i x g (and_parts (p y) (list_all p ys) h).1
+list_all_at p xs i x g h = grind (arith, common_steps, gets)
 
 pub any_none : {X : Type 0} (q : X → Bool) (xs : List X) → ((k : ℕ) (x : X) → slice_get xs k ≡ Some x → q x ≡ false) → list_any q xs ≡ false
 any_none q [] h = refl
@@ -165,9 +124,7 @@ take_filter p xs k x g = ap (filter p) (take_snoc xs k x g) ∙ filter-append p 
 
 -- a sum after one element is replaced
 pub sum_by-set : {X : Type 0} (f : X → ℕ) (xs : List X) (i : ℕ) (x v : X) → slice_get xs i ≡ Some x → sum_by f (slice_set xs i v) + f x ≡ sum_by f xs + f v
-sum_by-set f [] i x v h = absurd (cc)
-sum_by-set f (y ∷ ys) zero x v h = let e : y ≡ x = cc in omega (arith, sum_by-cons f v ys, sum_by-cons f y ys, ap f e)
-sum_by-set f (y ∷ ys) (suc i) x v h = omega (arith, sum_by-set f ys i x v h, sum_by-cons f y ys, sum_by-cons f y (slice_set ys i v))
+sum_by-set f xs i x v h = grind (arith, common_steps, gets, sums.sum_by-set f xs i v x)
 
 -- a count after one element is replaced
 pub count_by-set : {X : Type 0} (p : X → Bool) (xs : List X) (i : ℕ) (x v : X) → slice_get xs i ≡ Some x
@@ -183,29 +140,21 @@ counted_some p xs h =
 
 -- one that counts is counted
 pub counted_one : {X : Type 0} (p : X → Bool) (xs : List X) (i : ℕ) (x : X) → slice_get xs i ≡ Some x → p x ≡ true → 0 < count_by p xs
-counted_one p [] i x g e = absurd (cc)
-counted_one p (y ∷ ys) zero x g e = omega (arith, count-cons p y ys, cond_one (p y) (ap p (same_Some y x g) ∙ e))
-counted_one p (y ∷ ys) (suc i) x g e = omega (arith, count-cons p y ys, counted_one p ys i x g e)
+counted_one p xs i x g e = grind (arith, common_steps, gets, get_or-le-sum_by (λ y. cond {A = ℕ} (p y) 1 0) xs i x)
 
 pub counted_two : {X : Type 0} (p : X → Bool) (xs : List X) (i k : ℕ) (x y : X)
     → slice_get xs i ≡ Some x → p x ≡ true → slice_get xs k ≡ Some y → p y ≡ true → i ≢ k → 1 < count_by p xs
 counted_two p [] i k x y g e f u d = absurd (cc)
 counted_two p (z ∷ zs) zero zero x y g e f u d = absurd (d refl)
-counted_two p (z ∷ zs) zero (suc k) x y g e f u d =
-    omega (arith, count-cons p z zs, cond_one (p z) (ap p (same_Some z x g) ∙ e), counted_one p zs k y f u)
-counted_two p (z ∷ zs) (suc i) zero x y g e f u d =
-    omega (arith, count-cons p z zs, cond_one (p z) (ap p (same_Some z y f) ∙ u), counted_one p zs i x g e)
+counted_two p (z ∷ zs) zero (suc k) x y g e f u d = grind (arith, count-cons p z zs, same_Some z x g, counted_one p zs k y f u)
+counted_two p (z ∷ zs) (suc i) zero x y g e f u d = grind (arith, count-cons p z zs, same_Some z y f, counted_one p zs i x g e)
 counted_two p (z ∷ zs) (suc i) (suc k) x y g e f u d = omega (arith, count-cons p z zs, counted_two p zs i k x y g e f u (λ q. d (ap suc q)))
 
 -- where no other counts, at most one is counted
 pub counted_only : {X : Type 0} (p : X → Bool) (xs : List X) (k : ℕ) (x : X) → slice_get xs k ≡ Some x
     → ((i : ℕ) (y : X) → slice_get xs i ≡ Some y → i ≢ k → p y ≡ false) → count_by p xs ≤ 1
 counted_only {X} p xs k x g h =
-    let only = ap (λ (ys : List X). length ys) (filter_only p xs k x g h) in omega (arith, sym (length-filter p xs) ∙ only, length_pick (p x))
-  where
-    length_pick : (b : Bool) → length (pick b x []) ≤ 1
-    length_pick true = omega arith
-    length_pick false = omega arith
+    grind (arith, length-filter p xs, ap (λ (ys : List X). length ys) (filter_only p xs k x g h))
 
 -- where nothing counts, there is none
 pub counted_none : {X : Type 0} (p : X → Bool) (xs : List X) (i : ℕ) (x : X) → count_by p xs ≡ 0 → slice_get xs i ≡ Some x → p x ≡ false

@@ -1,10 +1,11 @@
 -- what a state says of a case
-use Rattle.kt_sched.proofs.Common.{Bool, is_fresh, is_decided_stage, HasExclusive, HasDecided, slice_get, Option, Some, None, map, ◌≡◌, ◌≢◌, ℕ, ◌<◌, ◌⊎◌, true, false, List, [], length, refl, sym, ◌∙◌, ap, subst, arith, slice_set, inl, inr, false_from_ne_true, cases_eq, cases_lt, length-map, ◌≤◌, slice_get-map, slice_get_within, Role, Body, Cleanup, Job, Next, Stage, Owing, Taken, EndedBody, Case, Event, Trace, of, mark_of, history, is_active, active, turns, owed, Fed, role_runs, runs, stage_runs, SchedState, Stands, CaseStands, IsStage, IsAsked, is_active_stage, is_owing_stage, is_owed, Replaced}
+use Rattle.kt_sched.proofs.Common.{set-set, Bool, is_fresh, is_decided_stage, HasExclusive, HasDecided, slice_get, Option, Some, None, map, ◌≡◌, ◌≢◌, ℕ, ◌<◌, ◌⊎◌, true, false, List, [], length, refl, sym, ◌∙◌, ap, subst, arith, slice_set, inl, inr, false_from_ne_true, cases_eq, cases_lt, length-map, ◌≤◌, slice_get-map, slice_get_within, Role, Body, Cleanup, Job, Next, Stage, Owing, Taken, EndedBody, Case, Event, Trace, of, mark_of, history, is_active, active, turns, Fed, role_runs, runs, stage_runs, SchedState, Stands, CaseStands, IsStage, IsAsked, is_active_stage, is_owing_stage, is_owed, Replaced}
 use Rattle.kt_sched.specs.declared.next.Next.TheVariants as next
-use Rattle.kt_sched.proofs.Lists.{within_some, mapped_at, set_set, slice_get-set_other, slice_get-set_same, counted_some, counted_one, counted_none, count_alike}
+use Rattle.kt_sched.proofs.Lists.{within_some, mapped_at, slice_get-set_other, slice_get-set_same, counted_some, counted_one, counted_none, count_alike}
 use Rattle.kt_sched.proofs.Turns.{turn_inside, turn_distinct}
 use Rattle.kt_sched.proofs.Stages.{Says, says, active_runs, owing_stage, runs_active}
-use Rattle.std.proofs.lemmas.Option.{same_Some}
+use Rattle.std.proofs.lemmas.Grind.{common_steps}
+use Rattle.std.proofs.lemmas.Option.{gets, same_Some}
 use Rattle.kt_base.proofs.Lists.{same_number}
 
 -- the case that has its turn, which is not begun
@@ -36,10 +37,7 @@ module _ (xs : List Case) (i : ℕ) (old new : Case) (g : slice_get xs i ≡ Som
   set_here = slice_get-set_same xs i new (slice_get_within xs i old g)
 
   pub which : (k : ℕ) (c : Case) → slice_get (slice_set xs i new) k ≡ Some c → Which xs i new k c
-  which k c e = elim (cases_eq k i) [
-    | inl q ↦ inl (q, same_Some c new (sym e ∙ (ap (slice_get (slice_set xs i new)) q ∙ set_here)))
-    | inr q ↦ inr (q, sym (slice_get-set_other xs i k new q) ∙ e)
-  ]
+  which k c e = let l = slice_get_within xs i old g in grind (arith, common_steps, gets)
 
   -- and then each case stands, if that one does
   pub each_set : (plan : List Job) (T U : Trace) (job : Job) → slice_get plan i ≡ Some job → IsStage i job new.stage (of i U)
@@ -63,7 +61,7 @@ replaced_twice xs ys zs i s t u w f g =
     let a : Case = record { job = f.job; stage = s } in
     let mid : slice_get ys i ≡ Some a = ap (λ (cs : List Case). slice_get cs i) f.changed ∙ slice_get-set_same xs i a (slice_get_within xs i _ f.found) in
     let e : g.job ≡ f.job = ap (λ (c : Case). c.job) (same_Some (record { job = g.job; stage = u }) a (sym g.found ∙ mid)) in
-    record { job = f.job; found = f.found; changed = g.changed ∙ rw (e, f.changed) (set_set xs i a (record { job = f.job; stage = t })) }
+    record { job = f.job; found = f.found; changed = g.changed ∙ rw (e, f.changed) (set-set xs i a (record { job = f.job; stage = t })) }
 
 -- what is known of its case
 module _ {plan : List Job} {fed : Fed} {b : SchedState} {i : ℕ} {flag : Bool} (a : AtTurn plan fed b i) where

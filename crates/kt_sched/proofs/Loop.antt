@@ -4,7 +4,7 @@ use Rattle.kt_sched.proofs.Common.{Bool, option_map, Option, Some, None, is_some
 use Rattle.kt_sched.specs.declared.next.Next.TheVariants as next
 use Rattle.kt_sched.specs.declared.launcher.Launcher as launcher
 use Rattle.kt_sched.specs.declared.sink.Sink as sink
-use Rattle.kt_sched.proofs.Lists.{mapped_at, take_snoc, take_zero}
+use Rattle.kt_sched.proofs.Lists.{mapped_at, take_snoc}
 use Rattle.kt_sched.proofs.Located.{runs_stage}
 use Rattle.kt_sched.proofs.Stages.{whole_quiet}
 use Rattle.kt_sched.proofs.Runs.{Going, Startable, Until, child_at, cleared, each_of, end_owes, end_runs, running_of, runs_now, runs_true, start_runs, until_more, until_now, while_runs}
@@ -34,7 +34,7 @@ module _ {L S : Type 0} (l : launcher.Ghosts L) (s : sink.Ghosts S) (plan : List
     gained = record {
       gained = [];
       count = refl;
-      are = subst (λ (ps : List ℕ). AreEntries plan NoEvent ps []) (sym (take_zero (recorded plan n NoEvent))) tt;
+      are = tt;
       kept = λ put h. subst (s.entries before) (sym (append-nil put)) h;
       gains = (refl, refl, λ j p l g. due_put 0 (filter (is_open plan n NoEvent) (turns plan)) j p g);
       counts = record { total = rw t refl; good = rw t refl; bad = rw t refl };
@@ -78,7 +78,7 @@ module _ {L S : Type 0} {l : launcher.Ghosts L} {s : sink.Ghosts S} {plan : List
     may = owes x.1 i ∙ same_number i;
     now = f.0;
     history_is = f.1;
-    clears = λ j. ap (λ y. if j == i then false else y) (owes x.1 j) ∙ cleared i j (cases_eq j i);
+    clears = λ j. ap (λ y. if j == i then false else y) (owes x.1 j) ∙ cleared i j;
     fair = λ a m. record { fits = m; width = tt; alone = f.0.alone; prompt = rw x.1 (refl, refl) };
     quiet = λ a z. refl;
     due = x.0;

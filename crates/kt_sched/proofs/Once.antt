@@ -1,8 +1,7 @@
 -- each position stands in the record order once
-use Rattle.kt_sched.proofs.Common.{slice_get, filter, count_by, Option, Some, None, is_some, is_none, not, ◌==◌, ◌&&◌, ◌||◌, if◌then◌else◌, ◌≡◌, ◌≢◌, ℕ, suc, ◌+◌, ◌≤◌, Bool, true, false, cond, List, [], ◌∷◌, ◌++◌, length, refl, sym, ◌∙◌, ap, subst, arith, inl, inr, and-false, and-true, and_from, nat_tests, cases_lt, length-filter, count_by-le-length, slice_get_within, Judged, Job, Event, Trace, NoEvent, Then, position_of, history, is_whole, has_whole_history, turns, finished_by, is_open, was_open, recorded, IsPlan, is_decided, positions, NamesEachOnce}
-use Rattle.kt_sched.proofs.Lists.{cond_zero, counted_one, counted_only, count-cons, count_alike, count_by-append, filter_none, pick, within_some}
+use Rattle.kt_sched.proofs.Common.{ne_eqb, slice_get, filter, count_by, Option, Some, None, is_some, is_none, not, ◌==◌, ◌&&◌, ◌||◌, if◌then◌else◌, ◌≡◌, ◌≢◌, ℕ, suc, ◌+◌, ◌≤◌, Bool, true, false, cond, List, [], ◌∷◌, ◌++◌, length, refl, sym, ◌∙◌, ap, subst, arith, inl, inr, and_from, nat_tests, cases_lt, length-filter, count_by-le-length, slice_get_within, Judged, Job, Event, Trace, NoEvent, Then, position_of, history, is_whole, has_whole_history, turns, finished_by, is_open, was_open, recorded, IsPlan, is_decided, positions, NamesEachOnce}
+use Rattle.kt_sched.proofs.Lists.{counted_one, counted_only, count-cons, count_alike, count_by-append, filter_none, pick, within_some}
 use Rattle.kt_sched.proofs.Turns.{count_turns, history_other, put_at_positions, recorded_more, finishes, opens_now}
-use Rattle.kt_sched.proofs.Lists.{other_is_not}
 use Rattle.std.proofs.lemmas.Option.{same_Some}
 use Rattle.kt_base.proofs.Lists.{same_number}
 
@@ -19,8 +18,7 @@ abbrev pub Recorded : List Job → ℕ → Trace → Type 0
 Recorded plan n T = (q : ℕ → Bool) → count_by q (recorded plan n T) ≡ count_by (λ job. q job.position && is_done plan n T job) plan
 
 count_pick : {X : Type 0} (f : X → Bool) (b : Bool) (x : X) (xs : List X) → count_by f (pick b x xs) ≡ cond {A = ℕ} (f x && b) 1 0 + count_by f xs
-count_pick f true x xs = rw (and-true (f x)) (count-cons f x xs)
-count_pick f false x xs = omega (arith, cond_zero (f x && false) (and-false (f x)))
+count_pick f b x xs = grind (arith, count-cons f x xs)
 
 count_positions : (q : ℕ → Bool) (p : Job → Bool) (xs : List Job) → count_by q (positions (filter p xs)) ≡ count_by (λ job. q job.position && p job) xs
 count_positions q p xs = mapped (filter p xs) ∙ filtered xs
@@ -39,12 +37,10 @@ abbrev Sum : Bool → Bool → Bool → Bool → Bool → Type 0
 Sum q was finished opened now = cond {A = ℕ} (q && was) 1 0 + (cond (q && finished) 1 0 + cond (q && opened) 1 0) ≡ cond (q && now) 1 0
 
 opened_once : (q h w x : Bool) → Sum q w (h && false) (x && not w) (w || x)
-opened_once q h true x = rw (and-false h, and-false x, and-false q) (omega arith)
-opened_once q h false x = rw (and-false h, and-false q, and-true x) (omega arith)
+opened_once q h w x = grind arith
 
 finished_once : (q h v u : Bool) → (h ≡ true → v ≡ false) → (h ≡ false → u ≡ v) → Sum q v (h && (true && (u && not v))) false u
-finished_once q true v u a b = rw (a refl, and-true u, and-false q) (omega arith)
-finished_once q false v u a b = rw (b refl, and-false q) (omega arith)
+finished_once q h v u a b = grind (arith, a, b)
 
 count_three : {X : Type 0} (a b c d : X → Bool) (xs : List X)
     → ((i : ℕ) (x : X) → slice_get xs i ≡ Some x → cond {A = ℕ} (a x) 1 0 + (cond (b x) 1 0 + cond (c x) 1 0) ≡ cond (d x) 1 0)
@@ -120,7 +116,7 @@ module _ {plan : List Job} (n : ℕ) (T : Trace) (p : IsPlan plan) (r : Recorded
   named_so i job = job.position == i && is_done plan n T job
 
   others_not : (i k : ℕ) (job : Job) → slice_get plan k ≡ Some job → k ≢ i → named_so i job ≡ false
-  others_not i k job g d = rw (p.placed k job g, other_is_not k i d) refl
+  others_not i k job g d = rw (p.placed k job g, ne_eqb k i d) refl
 
   -- a case is named once at most
   pub named_at_most_once : (i : ℕ) → count_by (λ p. p == i) (recorded plan n T) ≤ 1

@@ -12,9 +12,8 @@ record_there : (o : Option Judged) → is_some o ≡ true → (t : CaseRecord) �
 record_there None e = absurd (cc)
 record_there (Some v) e = (decided_record v, refl)
 
-room_at : (a n : ℕ) (job : Job) → a < n → (job.exclusive ≡ true → a ≡ 0) → (x : Bool) → job.exclusive ≡ x → (if x then a == 0 else nat_lt a n) ≡ true
-room_at a n job l f true q = let z : a ≡ 0 = f q in grind (arith, nat_tests, z)
-room_at a n job l f false q = grind (arith, nat_tests, l)
+room_at : (a n : ℕ) (alone : Bool) → a < n → (alone ≡ true → a ≡ 0) → (if alone then a == 0 else nat_lt a n) ≡ true
+room_at a n alone l f = grind (arith, nat_tests, f)
 
 module _ {plan : List Job} {n : ℕ} {fed : Fed} {b : SchedState} {i : ℕ} (h : Stands plan n fed b) (t : HasTurn b i) (d : HasDecided b.cases i true) where
   -- the decided case whose turn it is is open
@@ -27,7 +26,7 @@ module _ {plan : List Job} {n : ℕ} {fed : Fed} {b : SchedState} {i : ℕ} (h :
       let P : Stage → Type 0 = λ x. IsStage i a.job x (of i fed.trace) in
       let s = subst P z a.stage in
       let l : active plan fed.trace < n = omega (arith, t.2, h.cases.width_is, active_is h) in
-      let m = room_at (active plan fed.trace) n a.job l (λ e. active_is h ∙ exclusive_needs_none h t.1 a.place t.3 e) a.job.exclusive refl in
+      let m = room_at (active plan fed.trace) n a.job.exclusive l (λ e. active_is h ∙ exclusive_needs_none h t.1 a.place t.3 e) in
       (z, s.1, open_here fed.trace b.turn h.cases.is_plan h.turn.starts n a.job a.turn s.1 m)
 
   pub told_now : HasRecord b.cases i

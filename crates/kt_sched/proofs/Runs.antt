@@ -1,9 +1,8 @@
 -- what runs and what is owed after a trace, as a launcher shows it, and the rules that a trace keeps
-use Rattle.kt_sched.proofs.Common.{is_some, nat_le, IfSome, append-nil, ◌+◌, ◌≤◌, arith, nat_tests, MayStart, HasMoment, NoEvent, Leads, first, event_count, body_starts, body_start_of, Each, WidthAt, AloneAt, PromptAt, BusyAt, Fed, FitsAt, has_failed, IsUpToDate, MayStartNow, pending_after_start, slice_get, Option, Some, None, if◌then◌else◌, ◌&&◌, ◌≡◌, ◌≢◌, ℕ, ◌⊎◌, ◌==◌, Bool, true, false, List, [], ◌∷◌, ◌++◌, refl, sym, ◌∙◌, ap, subst, inl, inr, option_map, Role, Body, Cleanup, Job, StartAnswer, Ended, Child, child_of, same_role, running_after_start, running_after_end, pending_after_end, with_cleanup_declared, Event, Start, End, Trace, Then, position_of, Mark, BodyStarted, BodyEnded, CleanupStarted, mark_of, end_mark, start_mark, history, owed, declares, is_owed, role_runs, runs}
+use Rattle.kt_sched.proofs.Common.{ne_eqb, is_some, IfSome, append-nil, ◌≤◌, arith, nat_tests, MayStart, HasMoment, NoEvent, Leads, first, event_count, body_starts, body_start_of, Each, WidthAt, AloneAt, PromptAt, BusyAt, Fed, FitsAt, has_failed, IsUpToDate, MayStartNow, pending_after_start, slice_get, Option, Some, None, if◌then◌else◌, ◌&&◌, ◌≡◌, ◌≢◌, ℕ, ◌⊎◌, ◌==◌, Bool, true, false, List, [], ◌∷◌, ◌++◌, refl, sym, ◌∙◌, ap, subst, inl, inr, option_map, Role, Body, Cleanup, Job, StartAnswer, Ended, Child, child_of, same_role, running_after_start, running_after_end, pending_after_end, with_cleanup_declared, Event, Start, End, Trace, Then, position_of, Mark, BodyStarted, BodyEnded, CleanupStarted, mark_of, end_mark, start_mark, history, owed, declares, is_owed, role_runs, runs}
 use Rattle.kt_sched.specs.declared.job.StartAnswer.TheVariants as told
 use Rattle.kt_sched.specs.declared.launcher.Launcher as launcher
 use Rattle.kt_sched.proofs.Turns.{history_same, history_other}
-use Rattle.kt_sched.proofs.Lists.{other_is_not}
 use Rattle.kt_base.proofs.Lists.{same_number}
 
 -- the child at a position of a plan
@@ -52,7 +51,7 @@ module _ (plan : List Job) (T : Trace) (running : ℕ → Role → Option Child)
       subst (λ j. (if j == position_of e && same_role r role then x else running j r) ≡ running_of plan (Then T e) j r) (sym q)
       (ap (λ b. if b && same_role r role then x else running (position_of e) r) (same_number (position_of e)) ∙ y)
   changed e role r k x (inr q) y =
-      ap (λ b. if b && same_role r role then x else running k r) (other_is_not k (position_of e) q) ∙ (h k r ∙ sym (runs_other plan T e k r q))
+      ap (λ b. if b && same_role r role then x else running k r) (ne_eqb k (position_of e) q) ∙ (h k r ∙ sym (runs_other plan T e k r q))
 
   module _ (i : ℕ) (job : Job) (role r : Role) (g : slice_get plan i ≡ Some job) (p : job.position ≡ i) (w : history i T ≡ history_before role) where
     pub start_runs : (a : StartAnswer) (k : ℕ) → (k ≡ i) ⊎ (k ≢ i) → running_after_start running job role a k r ≡ running_of plan (Then T (Start i role a)) k r
@@ -92,7 +91,7 @@ module _ (plan : List Job) (T : Trace) (running : ℕ → Role → Option Child)
     pub end_owes : (pending : ℕ → Bool) → pending k ≡ false → pending_after_end running pending e k ≡ is_owed (owed plan (Then T (End e))) k
     end_owes pending p =
         rw p (ap (λ b. if k == e.position && b then true else false) (declared e.role refl)
-        ∙ owed_by (k == e.position) (same_role e.role Body && declares plan e.position) refl)
+        ∙ owed_by (same_role e.role Body && declares plan e.position))
       where
         declared_is : (o : Option Job) → with_cleanup_declared (option_map child_of o) ≡ (elim o as (λ _. Bool) [ None ↦ false | Some job ↦ job.cleanup ])
         declared_is None = refl
@@ -105,14 +104,11 @@ module _ (plan : List Job) (T : Trace) (running : ℕ → Role → Option Child)
             ap (λ b. same_role e.role Body && b) (ap with_cleanup_declared x ∙ declared_is (slice_get plan e.position))
         declared Cleanup q = rw q refl
 
-        owed_by : (c d : Bool) → (k == e.position) ≡ c → (if c && d then true else false) ≡ is_owed (if d then Some e.position else None) k
-        owed_by true true q = sym q
-        owed_by false true q = sym q
-        owed_by c d q = refl
+        owed_by : (d : Bool) → (if k == e.position && d then true else false) ≡ is_owed (if d then Some e.position else None) k
+        owed_by d = grind (arith, nat_tests)
 
-pub cleared : (i k : ℕ) → (k ≡ i) ⊎ (k ≢ i) → (if k == i then false else k == i) ≡ false
-cleared i k (inl q) = rw (q, same_number i) refl
-cleared i k (inr q) = rw (other_is_not k i q) refl
+pub cleared : (i k : ℕ) → (if k == i then false else k == i) ≡ false
+cleared i k = grind (arith, nat_tests)
 
 -- what a launcher says that runs does run
 pub runs_true : (plan : List Job) (T : Trace) (i : ℕ) (r : Role) (child : Child) → running_of plan T i r ≡ Some child
@@ -147,11 +143,11 @@ pub record Until (plan : List Job) (n : ℕ) (stopped : Option ℕ) (T : Trace) 
   pub passed : IfSome stopped (λ k. k ≤ event_count T)
 
 first_past : (k : ℕ) (T : Trace) (e : Event) → k ≤ event_count T → first k (Then T e) ≡ first k T
-first_past k T e h = let x : nat_le (event_count T + 1) k ≡ false = grind (arith, nat_tests, h) in rw x refl
+first_past k T e h = grind (arith, nat_tests)
 
 first_all : (T : Trace) → first (event_count T) T ≡ T
 first_all NoEvent = refl
-first_all (Then T e) = let x : nat_le (event_count T + 1) (event_count T + 1) ≡ true = grind (arith, nat_tests) in rw x refl
+first_all (Then T e) = grind (arith, nat_tests)
 
 module _ (plan : List Job) (n : ℕ) where
   pub until_more : (o : Option ℕ) (T : Trace) (e : Event) → Until plan n o T → (is_some o ≡ false → BusyAt plan n T e)

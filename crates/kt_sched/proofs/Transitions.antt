@@ -1,7 +1,7 @@
 -- the answers of a launcher, each of which the state takes
-use Rattle.kt_sched.proofs.Common.{◌≢◌, slice_get, length, Option, Some, None, ◌≡◌, ℕ, ◌+◌, ◌<◌, Bool, true, false, cond, List, refl, sym, ◌∙◌, ap, subst, arith, length-set, slice_get_within, Next, Role, Body, Cleanup, Ended, StartAnswer, Stage, Waiting, Owing, Taken, Case, same_role, Event, Start, End, Job, Fed, body_start_of, stage_runs, SchedState, Stands, IsAfter, IsStanding, Takes, Replaced, Declares, can_start, owing_at, ready_at, is_active_stage, is_over, is_owed, after_event}
+use Rattle.kt_sched.proofs.Common.{ne_eqb, ◌≢◌, slice_get, length, Option, Some, None, ◌≡◌, ℕ, ◌+◌, ◌<◌, Bool, true, false, cond, List, refl, sym, ◌∙◌, ap, subst, arith, length-set, slice_get_within, Next, Role, Body, Cleanup, Ended, StartAnswer, Stage, Waiting, Owing, Taken, Case, same_role, Event, Start, End, Job, Fed, body_start_of, stage_runs, SchedState, Stands, IsAfter, IsStanding, Takes, Replaced, Declares, can_start, owing_at, ready_at, is_active_stage, is_over, is_owed, after_event}
 use Rattle.kt_sched.specs.declared.next.Next.TheVariants as next
-use Rattle.kt_sched.proofs.Lists.{cond_one, other_is_not}
+use Rattle.kt_sched.proofs.Lists.{cond_one}
 use Rattle.kt_sched.proofs.Stages.{runs_active, moves}
 use Rattle.kt_sched.proofs.Located.{asked_as, located, owes, replaced_twice, some_active}
 use Rattle.kt_sched.proofs.Upcoming.{upcoming}
@@ -37,7 +37,7 @@ module _ {plan : List Job} {n : ℕ} {fed : Fed} {b : SchedState} (h : Stands pl
       let k = asked_as h (next.Start i Body) q in record { empty = k.0; settled = k.3; owing = none_owed k.1; turned = λ e. k.2 }
   asked_start i Cleanup x q =
       let k = asked_as h (next.Start i Cleanup) q in
-      let owing = λ (j : ℕ) (d : j ≢ i). ap (λ (o : Option ℕ). is_owed o j) k.1 ∙ other_is_not j i d in
+      let owing = λ (j : ℕ) (d : j ≢ i). ap (λ (o : Option ℕ). is_owed o j) k.1 ∙ ne_eqb j i d in
       record { empty = k.0; settled = k.2; owing = owing; turned = λ e. absurd (cc (e)) }
 
   asked_end : (e : Ended) → b.asked ≡ next.Wait → AskedFor b (End e)

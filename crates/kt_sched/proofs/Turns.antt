@@ -1,6 +1,6 @@
 -- the turn order, which has every case once and exclusive ones last, and one event more
-use Rattle.kt_sched.proofs.Common.{nat_tests, ◌⊎◌, slice_get, count_by, filter, Some, not, ◌==◌, ◌≡◌, ◌≢◌, ℕ, ◌+◌, ◌<◌, ◌≤◌, Bool, true, false, cond, List, length, refl, ◌∙◌, ap, subst, arith, inl, inr, false_from_ne_true, sum_by-filter_both, cases_eq, slice_get_within, Job, turns, None, is_none, map, ◌&&◌, [], ◌∷◌, ◌++◌, sym, and-true, map-append, Event, Trace, Then, position_of, of, event_count, mark_of, history, is_whole, has_whole_history, Due, dues, put_at, finished_by, is_open, was_open, recorded, IsPlan, positions}
-use Rattle.kt_sched.proofs.Lists.{counted_one, counted_some, count_by-append, counted_only, counted_two, filter_in, in_append, other_is_not, pick, filter_only}
+use Rattle.kt_sched.proofs.Common.{◌-◌, ne_eqb, nat_tests, ◌⊎◌, slice_get, count_by, filter, Some, not, ◌==◌, ◌≡◌, ◌≢◌, ℕ, ◌+◌, ◌<◌, ◌≤◌, Bool, true, false, cond, List, length, refl, ◌∙◌, ap, arith, inl, inr, false_from_ne_true, sum_by-filter_both, cases_eq, slice_get_within, Job, turns, None, is_none, map, ◌&&◌, [], ◌∷◌, ◌++◌, sym, map-append, Event, Trace, Then, position_of, of, event_count, mark_of, history, is_whole, has_whole_history, Due, dues, put_at, finished_by, is_open, was_open, recorded, IsPlan, positions}
+use Rattle.kt_sched.proofs.Lists.{counted_one, counted_some, count_by-append, counted_only, counted_two, filter_in, in_append, pick, filter_only}
 use Rattle.kt_base.proofs.Lists.{same_number}
 
 -- each case stands at its position
@@ -19,7 +19,7 @@ place_in : (plan : List Job) (k : ℕ) (job : Job) → slice_get (turns plan) k 
 place_in plan k job g = elim (in_append (ordinary plan) (lonely plan) k job g) [
   | inl x ↦ let w = filter_in (λ (job : Job). not job.exclusive) plan k job x in
       ((w.0, w.1), inl (slice_get_within (ordinary plan) k job x, false_from_ne_true job.exclusive (λ e. cc (ap not e, w.2))))
-  | inr x ↦ let w = filter_in (λ (job : Job). job.exclusive) plan x.0 job x.2 in ((w.0, w.1), inr (omega (arith, x.1), w.2))
+  | inr x ↦ let w = filter_in (λ (job : Job). job.exclusive) plan (k - length (ordinary plan)) job x.1 in ((w.0, w.1), inr (x.0, w.2))
 ]
 
 pub turn_inside : (plan : List Job) → Placed plan → (k : ℕ) (job : Job) → slice_get (turns plan) k ≡ Some job → slice_get plan job.position ≡ Some job
@@ -53,7 +53,7 @@ turn_distinct plan h k l a b g j e = elim (cases_eq k l) [ inl q ↦ q | inr d �
     one : count_by f plan ≤ 1
     one =
         let place = turn_inside plan h l b j in
-        counted_only f plan b.position b place (λ i job g d. ap (λ k. k == b.position) (h i job g) ∙ other_is_not i b.position d)
+        counted_only f plan b.position b place (λ i job g d. ap (λ k. k == b.position) (h i job g) ∙ ne_eqb i b.position d)
 
 pub turn_covers : (plan : List Job) → Placed plan → (i : ℕ) (job : Job) → slice_get plan i ≡ Some job → (k : ℕ) × (slice_get (turns plan) k ≡ Some job)
 turn_covers plan h i job g =
@@ -67,7 +67,7 @@ pub of_same : (i : ℕ) (T : Trace) (e : Event) → position_of e ≡ i → of i
 of_same i T e h = rw (h, same_number i) refl
 
 pub of_other : (i k : ℕ) (T : Trace) (e : Event) → position_of e ≡ i → k ≢ i → of k (Then T e) ≡ of k T
-of_other i k T e h n = rw (h, other_is_not i k (λ q. n (sym q))) refl
+of_other i k T e h n = rw (h, ne_eqb i k (λ q. n (sym q))) refl
 
 -- and their histories
 pub history_same : (i : ℕ) (T : Trace) (e : Event) → position_of e ≡ i → history i (Then T e) ≡ history i T ++ mark_of e ∷ []
@@ -106,16 +106,13 @@ pub finished_is : {plan : List Job} (T : Trace) (e : Event) {job : Job} (b : Boo
     → is_whole job (history (position_of e) T) ≡ false → is_whole job (history (position_of e) (Then T e)) ≡ b
     → positions (finished_by plan T e) ≡ pick b (position_of e) []
 finished_is {plan} T e {job} b h d g w v =
-    ap positions (filter_only (finishes T e) plan i job g (λ k j q n. rw (h.placed k j q, other_is_not k i n) refl) ∙ ap (λ c. pick c job []) does) ∙ placed b
+    ap positions (filter_only (finishes T e) plan i job g (λ k j q n. rw (h.placed k j q, ne_eqb k i n) refl) ∙ ap (λ c. pick c job []) does) ∙ placed b
   where
     i : ℕ
     i = position_of e
 
     does : finishes T e job ≡ b
-    does =
-        subst (λ k. (k == i && (is_none job.decided && (is_whole job (history k (Then T e)) && not (is_whole job (history k T))))) ≡ b)
-        (sym (h.placed i job g)) (rw (v, w, d, same_number i) (and-true b))
+    does = grind (arith, nat_tests, h.placed i job g, ap is_none d)
 
     placed : (c : Bool) → positions (pick c job []) ≡ pick c i []
-    placed true = ap (λ k. k ∷ []) (h.placed i job g)
-    placed false = refl
+    placed c = grind (arith, h.placed i job g)
