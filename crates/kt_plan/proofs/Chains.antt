@@ -1,7 +1,22 @@
 -- Questions to a world, one after the other.
-use Rattle.std.proofs.Common.{Option, Result, Err, Bool, MatchResult, ◌≡◌, ℕ, List, [], ◌∷◌, refl, sym, ap, ◌∙◌, subst}
-use Rattle.kt_plan.proofs.Common.{Child, IsIdle, Chain, Answered}
+use Rattle.std.proofs.Common.{Option, Result, Err, Bool, MatchResult, ◌≡◌, ℕ, List, [], ◌∷◌, ◌++◌, refl, sym, ap, ◌∙◌, subst}
+use Rattle.kt_plan.proofs.Common.{Child, IsIdle, Chain, Answered, chain-append}
 use Rattle.kt_base.specs.declared.child.Role.{Role}
+
+module _ {W Q : Type 0} {leads : W → Q → W → Type 0} where
+  -- the same answers, seen otherwise
+  pub answered-as : {old new : W} {P R : List Q → Type 0} → Answered leads old new P → ((asked : List Q) → P asked → R asked) → Answered leads old new R
+  answered-as a f = record { asked = a.asked; chain = a.chain; holds = f a.asked a.holds }
+
+  -- answers, and others after them
+  pub answered-then : {old mid new : W} {P R S : List Q → Type 0} → Answered leads old mid P → Answered leads mid new R → ((some more : List Q) → P some → R more → S (some ++ more))
+      → Answered leads old new S
+  answered-then {old} {mid} {new} a b both =
+      record { asked = a.asked ++ b.asked; chain = chain-append leads a.asked b.asked old mid new a.chain b.chain; holds = both a.asked b.asked a.holds b.holds }
+
+  -- one question
+  pub answered-once : {old new : W} {P : List Q → Type 0} (q : Q) → leads old q new → P (q ∷ []) → Answered leads old new P
+  answered-once {new = new} q h p = record { asked = q ∷ []; chain = (new, h, refl); holds = p }
 
 -- three questions, and others after them
 pub asked_four : {W Q : Type 0} (leads : W → Q → W → Type 0) (old a b d new : W) (x y z : Q) (P : List Q → Type 0) → leads old x a → leads a y b → leads b z d → Answered leads d new P

@@ -12,7 +12,7 @@ pub use Rattle.kt_config.specs.FaultWords.{config_words}
 pub use Rattle.kt_config.specs.Values.{Values}
 pub use Rattle.kt_config.specs.declared.fault.ConfigFault.{ConfigFault}
 pub use Rattle.kt_config.specs.declared.meaning.Definition.{Definition}
-pub use Rattle.kt_metadata.specs.Requirements.{IsNoted, all_needs, first_reason, is_found, is_same_need, needed, rows}
+pub use Rattle.kt_metadata.specs.Requirements.{IsNoted, first_reason, is_found, is_same_need, needed, rows}
 pub use Rattle.kt_metadata.specs.declared.host.Host.{Host}
 pub use Rattle.kt_metadata.specs.declared.host.Need.{Need}
 pub use Rattle.kt_metadata.specs.declared.meta.Meta.{Meta}

@@ -2,6 +2,7 @@
 use Rattle.std.proofs.Common.{Option, Some, None, Result, Ok, Err, IsErrAnd, ◌≡◌, ℕ, List, [], ◌∷◌, ◌++◌, refl, sym, ap, ◌∙◌, subst, inl, inr, append_assoc}
 use Rattle.kt_plan.proofs.Common.{err_from_is_err_and, Definition, ConfigFault, Values, Answered, Configured, OrShort, GivesMore, GivesOne, Gives, unread_stop, Configures, ReadsFirst, before_file, after_file, IsConfiguration, ReadsConfig, behind, in_front, defined, failed, missing, none, read, refused, seen, stopped, unread, word_meaning, words_meaning, CaseOptions, IsShort, Told, ReadConfig, Stop}
 use Rattle.kt_config.specs.Holding.{Holds}
+use Rattle.kt_plan.proofs.Chains.{answered-as, answered-once}
 use Rattle.kt_config.specs.Reading.{IsDue, IsRead}
 use Rattle.kt_suite.specs.declared.tree.ReadFault.{ReadFault}
 use Rattle.kt_suite.specs.declared.tree.ReadFault.TheVariants.{Missing, Failed, Memory}
@@ -48,19 +49,10 @@ module _ {W : Type 0} (tells : W → Told → W → Type 0) (old new : W) where
   abbrev pub Configuration : CaseOptions → Result Values Stop → Type 0
   Configuration options outcome = Answered tells old new (λ told. OrShort outcome options.config told (Configured (Configures options told) outcome))
 
-  -- the same answers, seen otherwise
-  pub answered_as : (P Q : List Told → Type 0) → ((told : List Told) → P told → Q told) → Answered tells old new P → Answered tells old new Q
-  answered_as P Q f a = record { asked = a.asked; chain = a.chain; holds = f a.asked a.holds }
-
-  -- one question was asked
-  pub told_once : (told : Told) (P : List Told → Type 0) → tells old told new → P (told ∷ []) → Answered tells old new P
-  told_once told P t p = record { asked = told ∷ []; chain = (new, t, refl); holds = p }
-
   -- it can't be read
   pub file_unread : (path : List ℕ) (answer : Result (List ℕ) ReadFault) (fault : ReadFault) → tells old (ReadConfig path answer) new → answer ≡ Err fault → Reads (Some path) (Err (unread_stop fault))
   file_unread path answer fault t e =
-      told_once (ReadConfig path (Err fault)) (λ told. OrShort {T = Values} (Err (unread_stop fault)) (Some path) told (Configured (ReadsConfig (Some path) told) (Err (unread_stop fault))))
-      (subst (λ (a : Result (List ℕ) ReadFault). tells old (ReadConfig path a) new) e t) (by fault)
+      answered-once (ReadConfig path (Err fault)) (subst (λ (a : Result (List ℕ) ReadFault). tells old (ReadConfig path a) new) e t) (by fault)
     where
       by : (f : ReadFault) → OrShort {T = Values} (Err (unread_stop f)) (Some path) (ReadConfig path (Err f) ∷ []) (Configured (ReadsConfig (Some path) (ReadConfig path (Err f) ∷ [])) (Err (unread_stop f)))
       by Missing = inr (record { meant = Err stop.UnreadConfiguration; means = unread path Missing missing; gives = refl })
@@ -69,14 +61,13 @@ module _ {W : Type 0} (tells : W → Told → W → Type 0) (old new : W) where
 
   -- memory ran out after the answer
   pub file_short : (path : List ℕ) (answer : Result (List ℕ) ReadFault) (outcome : Result Values Stop) → tells old (ReadConfig path answer) new → IsShort outcome → Reads (Some path) outcome
-  file_short path answer outcome t s = told_once (ReadConfig path answer) (λ told. OrShort outcome (Some path) told (Configured (ReadsConfig (Some path) told) outcome)) t (inl (s, after_file path answer))
+  file_short path answer outcome t s = answered-once (ReadConfig path answer) t (inl (s, after_file path answer))
 
   -- it is read
   pub file_seen : (path bytes : List ℕ) (answer : Result (List ℕ) ReadFault) (outcome : Result Values Stop) → tells old (ReadConfig path answer) new → answer ≡ Ok bytes
       → Configured (IsConfiguration bytes) outcome → Reads (Some path) outcome
   file_seen path bytes answer outcome t e c =
-      told_once (ReadConfig path (Ok bytes)) (λ told. OrShort outcome (Some path) told (Configured (ReadsConfig (Some path) told) outcome))
-      (subst (λ (a : Result (List ℕ) ReadFault). tells old (ReadConfig path a) new) e t)
+      answered-once (ReadConfig path (Ok bytes)) (subst (λ (a : Result (List ℕ) ReadFault). tells old (ReadConfig path a) new) e t)
       (inr (record { meant = c.meant; means = seen path bytes c.meant c.means; gives = c.gives }))
 
   -- the file's stop is the whole step's
@@ -84,9 +75,8 @@ module _ {W : Type 0} (tells : W → Told → W → Type 0) (old new : W) where
       → Configuration options outcome
   configured_not options found outcome fault e r a =
       let p = err_from_is_err_and outcome r in
-      answered_as (λ told. OrShort found options.config told (Configured (ReadsConfig options.config told) found)) (λ told. OrShort outcome options.config told (Configured (Configures options told) outcome))
-      (λ told h. subst (λ (o : Result Values Stop). OrShort o options.config told (Configured (Configures options told) o)) (sym (p.1 ∙ ap (λ (x : Stop). Err x) p.2))
-      (by told (subst (λ (o : Result Values Stop). OrShort o options.config told (Configured (ReadsConfig options.config told) o)) e h))) a
+      answered-as a (λ told h. subst (λ (o : Result Values Stop). OrShort o options.config told (Configured (Configures options told) o)) (sym (p.1 ∙ ap (λ (x : Stop). Err x) p.2))
+      (by told (subst (λ (o : Result Values Stop). OrShort o options.config told (Configured (ReadsConfig options.config told) o)) e h)))
     where
       meant : (told : List Told) (m : Result (List Definition) Stop) → ReadsConfig options.config told m → Gives (Err fault) m → Configured (Configures options told) (Err fault)
       meant told (Ok definitions) m g = absurd g
@@ -101,8 +91,7 @@ module _ {W : Type 0} (tells : W → Told → W → Type 0) (old new : W) where
   pub configured_both : (options : CaseOptions) (found outcome : Result Values Stop) (config : Values) → found ≡ Ok config → GivesMore config outcome (words_meaning options.variables) → Reads options.config found
       → Configuration options outcome
   configured_both options found outcome config e m a =
-      answered_as (λ told. OrShort found options.config told (Configured (ReadsConfig options.config told) found)) (λ told. OrShort outcome options.config told (Configured (Configures options told) outcome))
-      (λ told h. by told (subst (λ (o : Result Values Stop). OrShort o options.config told (Configured (ReadsConfig options.config told) o)) e h)) a
+      answered-as a (λ told h. by told (subst (λ (o : Result Values Stop). OrShort o options.config told (Configured (ReadsConfig options.config told) o)) e h))
     where
       meant : (told : List Told) (r : Result (List Definition) Stop) → ReadsConfig options.config told r → Gives (Ok config) r → Configured (Configures options told) outcome
       meant told (Ok before) r g = record { meant = behind before (words_meaning options.variables); means = defined before r; gives = m before g }
@@ -115,8 +104,7 @@ module _ {W : Type 0} (tells : W → Told → W → Type 0) (old new : W) where
   -- memory ran out after the file
   pub configured_short : (options : CaseOptions) (found outcome : Result Values Stop) (config : Values) → found ≡ Ok config → IsShort outcome → Reads options.config found → Configuration options outcome
   configured_short options found outcome config e short a =
-      answered_as (λ told. OrShort found options.config told (Configured (ReadsConfig options.config told) found)) (λ told. OrShort outcome options.config told (Configured (Configures options told) outcome))
-      (λ told h. by told (subst (λ (o : Result Values Stop). OrShort o options.config told (Configured (ReadsConfig options.config told) o)) e h)) a
+      answered-as a (λ told h. by told (subst (λ (o : Result Values Stop). OrShort o options.config told (Configured (ReadsConfig options.config told) o)) e h))
     where
       by : (told : List Told) → OrShort {T = Values} (Ok config) options.config told (Configured (ReadsConfig options.config told) (Ok config)) → OrShort outcome options.config told (Configured (Configures options told) outcome)
       by told (inl s) = absurd s.0

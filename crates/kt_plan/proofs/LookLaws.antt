@@ -1,6 +1,7 @@
 -- What the host is asked for, and what is noted of its answers.
 use Rattle.std.proofs.Common.{Bool, true, false, Option, ◌≡◌, ℕ, List, [], ◌∷◌, ◌++◌, ◌&&◌, ◌||◌, refl, sym, ap, ◌∙◌, subst, append_assoc, append-nil}
-use Rattle.kt_plan.proofs.Common.{Chain, Answered, is_found, is_same_need, IsNoted, Host, Need, Candidate, Notes, finds, needs_of, LooksFor, nothing, asked, Surveys, SurveysFirst, AreFirst, Told, Finds, IsRoot, HasMemory, HasDisk, chain-append}
+use Rattle.kt_plan.proofs.Common.{Answered, is_found, is_same_need, IsNoted, Host, Need, Candidate, Notes, finds, needs_of, LooksFor, nothing, asked, Surveys, SurveysFirst, AreFirst, Told, Finds, IsRoot, HasMemory, HasDisk}
+use Rattle.kt_plan.proofs.Chains.{answered-as, answered-once, answered-then, asked_nothing}
 use Rattle.std.specs.List.{list_any}
 use Rattle.std.proofs.lemmas.List.Folds.{list_any-append}
 use Rattle.std.proofs.Math.Bool.{or-false, and-true, and-false, or_assoc}
@@ -68,71 +69,46 @@ module _ {W : Type 0} (tells : W → Told → W → Type 0) where
   -- a required file or program isn't there
   pub word_missing : (need : Need) (name : List ℕ) (old new : W) (host : Host) (answer : Bool) → answer ≡ false → tells old (Finds need name answer) new
       → Answered tells old new (λ told. LooksFor ((need, name) ∷ []) told × Notes told host host)
-  word_missing need name old new host answer missing h = record {
-    asked = Finds need name false ∷ [];
-    chain = (new, subst (λ (b : Bool). tells old (Finds need name b) new) missing h, refl);
-    holds = (asked need name [] false [] nothing, notes_missing need name host);
-  }
+  word_missing need name old new host answer missing h =
+      answered-once (Finds need name false) (subst (λ (b : Bool). tells old (Finds need name b) new) missing h) (asked need name [] false [] nothing, notes_missing need name host)
 
   -- it is there
   pub word_there : (need : Need) (name : List ℕ) (old new : W) (was now : Host) (answer : Bool) → answer ≡ true → tells old (Finds need name answer) new → IsNoted need name was now
       → Answered tells old new (λ told. LooksFor ((need, name) ∷ []) told × Notes told was now)
-  word_there need name old new was now answer there h n = record {
-    asked = Finds need name true ∷ [];
-    chain = (new, subst (λ (b : Bool). tells old (Finds need name b) new) there h, refl);
-    holds = (asked need name [] true [] nothing, notes_there need name was now n);
-  }
+  word_there need name old new was now answer there h n =
+      answered-once (Finds need name true) (subst (λ (b : Bool). tells old (Finds need name b) new) there h) (asked need name [] true [] nothing, notes_there need name was now n)
 
   -- memory ran out after a question about a word
   pub word_asked : (need : Need) (name : List ℕ) (old new : W) (answer : Bool) → tells old (Finds need name answer) new → Answered tells old new (λ told. AreFirst (LooksFor ((need, name) ∷ [])) told)
-  word_asked need name old new answer h = record {
-    asked = Finds need name answer ∷ [];
-    chain = (new, h, refl);
-    holds = ([], asked need name [] answer [] nothing);
-  }
+  word_asked need name old new answer h = answered-once (Finds need name answer) h ([], asked need name [] answer [] nothing)
 
   module _ (needs : List (Need × List ℕ)) (old : W) (was : Host) where
     -- the questions so far, and what was noted
-    pub record Looking (rest : List (Need × List ℕ)) (new : W) (now : Host) : Type 0 where
-      pub told : List Told
-      pub chain : Chain tells old told new
-      pub goes : (more : List Told) → LooksFor rest more → LooksFor needs (told ++ more)
-      pub notes : Notes told was now
+    abbrev pub Looking : List (Need × List ℕ) → W → Host → Type 0
+    Looking rest new now = Answered tells old new (λ told. ((more : List Told) → LooksFor rest more → LooksFor needs (told ++ more)) × Notes told was now)
 
     pub looking_first : Looking needs old was
-    looking_first = record { told = []; chain = refl; goes = λ more h. h; notes = notes_nothing was }
+    looking_first = asked_nothing tells old _ (λ more h. h, notes_nothing was)
 
     pub looking_next : (rest some after : List (Need × List ℕ)) (mid new : W) (then now : Host) → rest ≡ some ++ after → Looking rest mid then
         → Answered tells mid new (λ told. LooksFor some told × Notes told then now) → Looking after new now
-    looking_next rest some after mid new then now e l a = record {
-      told = l.told ++ a.asked;
-      chain = chain-append tells l.told a.asked old mid new l.chain a.chain;
-      goes = λ more h. subst (λ (ts : List Told). LooksFor needs ts) (sym (append_assoc l.told a.asked more))
-          (l.goes (a.asked ++ more) (subst (λ (ns : List (Need × List ℕ)). LooksFor ns (a.asked ++ more)) (sym e) (looks_append some after a.asked more a.holds.0 h)));
-      notes = notes_more l.told a.asked was then now l.notes a.holds.1;
-    }
+    looking_next rest some after mid new then now e l a = answered-then l a (λ told own g h. (
+      λ more k. rw append_assoc (g.0 (own ++ more) (rw e (looks_append some after own more h.0 k))),
+      notes_more told own was then now g.1 h.1,
+    ))
 
     -- memory ran out
     pub looking_stopped : (rest some after : List (Need × List ℕ)) (mid new : W) (then : Host) → rest ≡ some ++ after → Looking rest mid then
         → Answered tells mid new (λ told. AreFirst (LooksFor some) told) → Answered tells old new (λ told. AreFirst (LooksFor needs) told)
     looking_stopped rest some after mid new then e l a =
         let others = asks_all after in
-        record {
-          asked = l.told ++ a.asked;
-          chain = chain-append tells l.told a.asked old mid new l.chain a.chain;
-          holds = (
-            a.holds.0 ++ others.0,
-            subst (λ (ts : List Told). LooksFor needs ts) (rejoined l.told a.asked a.holds.0 others.0)
-                (l.goes ((a.asked ++ a.holds.0) ++ others.0) (subst (λ (ns : List (Need × List ℕ)). LooksFor ns ((a.asked ++ a.holds.0) ++ others.0)) (sym e) (looks_append some after (a.asked ++ a.holds.0) others.0 a.holds.1 others.1))),
-          );
-        }
+        answered-then l a (λ told own g h. (
+          h.0 ++ others.0,
+          subst (λ (ts : List Told). LooksFor needs ts) (rejoined told own h.0 others.0) (g.0 ((own ++ h.0) ++ others.0) (rw e (looks_append some after (own ++ h.0) others.0 h.1 others.1))),
+        ))
 
     pub looking_all : (rest : List (Need × List ℕ)) (new : W) (now : Host) → rest ≡ [] → Looking rest new now → Answered tells old new (λ told. LooksFor needs told × Notes told was now)
-    looking_all rest new now e l = record {
-      asked = l.told;
-      chain = l.chain;
-      holds = (subst (λ (ts : List Told). LooksFor needs ts) (append-nil l.told) (l.goes [] (subst (λ (ns : List (Need × List ℕ)). LooksFor ns []) (sym e) nothing)), l.notes);
-    }
+    looking_all rest new now e l = answered-as l (λ told g. (rw append-nil at (g.0 [] (rw e nothing)), g.1))
 
   -- all that the host was asked
   pub surveyed : (cases : List Candidate) (old a b d new : W) (was now : Host) (root : Bool) (memory disk : Option ℕ) → was.root ≡ root → was.memory ≡ memory → was.disk ≡ disk

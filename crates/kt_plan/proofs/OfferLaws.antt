@@ -1,6 +1,7 @@
 -- The cases of programs, and what the world is asked for them.
-use Rattle.std.proofs.Common.{Some, None, ◌≡◌, ◌≢◌, List, [], ◌∷◌, ◌++◌, refl, sym, subst, append_assoc, append-nil, length}
-use Rattle.kt_plan.proofs.Common.{Atf, Values, Chain, Answered, Filter, Program, Candidate, ListsFirst, before_list, after_list, candidates_of, variables_for, IsWanted, ListsCases, listed, OffersOne, listing, unlisted, single, Offers, one_and, OffersFirst, no_further, asks, passes, Told, Lists, chain-append}
+use Rattle.std.proofs.Common.{Some, None, ◌≡◌, ◌≢◌, List, [], ◌∷◌, ◌++◌, sym, subst, append_assoc, append-nil, length}
+use Rattle.kt_plan.proofs.Common.{Atf, Values, Answered, Filter, Program, Candidate, ListsFirst, before_list, after_list, candidates_of, variables_for, IsWanted, ListsCases, listed, OffersOne, listing, unlisted, single, Offers, one_and, OffersFirst, no_further, asks, passes, Told, Lists}
+use Rattle.kt_plan.proofs.Chains.{answered-as, answered-once, answered-then, asked_nothing}
 use Rattle.kt_base.specs.declared.variable.Variable.{Variable}
 use Rattle.kt_atflist.specs.Cases.{AreCases}
 use Rattle.kt_atflist.specs.declared.listing.CaseDef.{CaseDef}
@@ -11,34 +12,28 @@ use Rattle.std.proofs.lemmas.List.{nil_from_length}
 -- memory ran out after it was asked for its list
 pub list_asked : {W : Type 0} (tells : W → Told → W → Type 0) (config : Values) (program : Program) (variables : List Variable) (old new : W) (answer : Listing) → variables ≡ variables_for config program.suite
     → tells old (Lists program variables answer) new → Answered tells old new (λ told. ListsFirst config program told)
-list_asked tells config program variables old new answer e h = record {
-  asked = Lists program (variables_for config program.suite) answer ∷ [];
-  chain = (new, subst (λ (vs : List Variable). tells old (Lists program vs answer) new) e h, refl);
-  holds = after_list answer;
-}
+list_asked tells config program variables old new answer e h =
+    answered-once (Lists program (variables_for config program.suite) answer) (subst (λ (vs : List Variable). tells old (Lists program vs answer) new) e h) (after_list answer)
 
 -- a program was asked for its list
 pub lists_cases : {W : Type 0} (tells : W → Told → W → Type 0) (config : Values) (program : Program) (variables : List Variable) (old new : W) (answer : Listing) (cases : List CaseDef)
     → variables ≡ variables_for config program.suite → tells old (Lists program variables answer) new
     → AreCases program.props Atf (Some answer) cases → Answered tells old new (λ told. ListsCases config program told cases)
-lists_cases tells config program variables old new answer cases e h a = record {
-  asked = Lists program (variables_for config program.suite) answer ∷ [];
-  chain = (new, subst (λ (vs : List Variable). tells old (Lists program vs answer) new) e h, refl);
-  holds = listed answer cases a;
-}
+lists_cases tells config program variables old new answer cases e h a =
+    answered-once (Lists program (variables_for config program.suite) answer) (subst (λ (vs : List Variable). tells old (Lists program vs answer) new) e h) (listed answer cases a)
 
 module _ {W : Type 0} (tells : W → Told → W → Type 0) (config : Values) (filters : List Filter) where
   pub offers_listed : (program : Program) (old new : W) (cases : List CaseDef) → program.interface ≡ Atf → IsWanted filters program → Answered tells old new (λ told. ListsCases config program told cases)
       → Answered tells old new (λ told. OffersOne config filters program told (candidates_of program cases))
-  offers_listed program old new cases e w a = record { asked = a.asked; chain = a.chain; holds = listing a.asked cases e w a.holds }
+  offers_listed program old new cases e w a = answered-as a (λ told h. listing told cases e w h)
 
   pub offers_none : (program : Program) (world : W) (cases : List CaseDef) → program.interface ≡ Atf → (IsWanted filters program → ⊥) → cases ≡ []
       → Answered tells world world (λ told. OffersOne config filters program told (candidates_of program cases))
-  offers_none program world cases e n c = record { asked = []; chain = refl; holds = subst (λ (cs : List CaseDef). OffersOne config filters program [] (candidates_of program cs)) (sym c) (unlisted e n) }
+  offers_none program world cases e n c = asked_nothing tells world _ (subst (λ (cs : List CaseDef). OffersOne config filters program [] (candidates_of program cs)) (sym c) (unlisted e n))
 
   pub offers_single : (program : Program) (world : W) (cases : List CaseDef) → program.interface ≢ Atf → AreCases program.props program.interface None cases
       → Answered tells world world (λ told. OffersOne config filters program told (candidates_of program cases))
-  offers_single program world cases n a = record { asked = []; chain = refl; holds = single cases n a }
+  offers_single program world cases n a = asked_nothing tells world _ (single cases n a)
 
   -- a program's questions are the first ones for it and for those after it
   first_of_one : (program : Program) (rest : List Program) (own more : List Told) (found : List Candidate) → OffersOne config filters program own found → OffersFirst config filters rest more
@@ -61,7 +56,7 @@ module _ {W : Type 0} (tells : W → Told → W → Type 0) (config : Values) (f
   -- the list of a program that is wanted was asked for, or not yet
   pub first_listed : (program : Program) (old new : W) → program.interface ≡ Atf → IsWanted filters program → Answered tells old new (λ told. ListsFirst config program told)
       → Answered tells old new (λ told. OffersFirst config filters (program ∷ []) told)
-  first_listed program old new e w a = record { asked = a.asked; chain = a.chain; holds = by a.asked a.holds }
+  first_listed program old new e w a = answered-as a by
     where
       by : (told : List Told) → ListsFirst config program told → OffersFirst config filters (program ∷ []) told
       by _ before_list = no_further (program ∷ [])
@@ -70,48 +65,26 @@ module _ {W : Type 0} (tells : W → Told → W → Type 0) (config : Values) (f
   -- the cases of a program were had
   pub first_offered : (program : Program) (old new : W) (found : List Candidate) → Answered tells old new (λ told. OffersOne config filters program told found)
       → Answered tells old new (λ told. OffersFirst config filters (program ∷ []) told)
-  first_offered program old new found a = record {
-    asked = a.asked;
-    chain = a.chain;
-    holds = subst (λ (ts : List Told). OffersFirst config filters (program ∷ []) ts) (append-nil a.asked) (first_of_one program [] a.asked [] found a.holds (no_further []));
-  }
+  first_offered program old new found a = answered-as a (λ told h. rw append-nil at (first_of_one program [] told [] found h (no_further [])))
 
   -- the cases of some programs so far
-  pub record Offering (programs : List Program) (old : W) (rest : List Program) (new : W) (found : List Candidate) : Type 0 where
-    pub told : List Told
-    pub chain : Chain tells old told new
-    pub goes : (more : List Told) (others : List Candidate) → Offers config filters rest more others → Offers config filters programs (told ++ more) (found ++ others)
-    pub first : (more : List Told) → OffersFirst config filters rest more → OffersFirst config filters programs (told ++ more)
+  abbrev pub Offering : List Program → W → List Program → W → List Candidate → Type 0
+  Offering programs old rest new found = Answered tells old new (λ told.
+      ((more : List Told) (others : List Candidate) → Offers config filters rest more others → Offers config filters programs (told ++ more) (found ++ others))
+      × ((more : List Told) → OffersFirst config filters rest more → OffersFirst config filters programs (told ++ more)))
 
   module _ (programs : List Program) (old : W) where
     pub offers_next : (rest after : List Program) (program : Program) (mid new : W) (found grown : List Candidate) (cases : List CaseDef) → rest ≡ program ∷ after → Offering programs old rest mid found
         → Answered tells mid new (λ told. OffersOne config filters program told (candidates_of program cases)) → grown ≡ found ++ candidates_of program cases → Offering programs old after new grown
-    offers_next rest after program mid new found grown cases e o a g = record {
-      told = o.told ++ a.asked;
-      chain = chain-append tells o.told a.asked old mid new o.chain a.chain;
-      goes = λ more others h.
-          let own = candidates_of program cases in
-          subst (λ (cs : List Candidate). Offers config filters programs ((o.told ++ a.asked) ++ more) (cs ++ others)) (sym g)
-          (subst (λ (cs : List Candidate). Offers config filters programs ((o.told ++ a.asked) ++ more) cs) (sym (append_assoc found own others))
-          (subst (λ (ts : List Told). Offers config filters programs ts (found ++ (own ++ others))) (sym (append_assoc o.told a.asked more))
-          (o.goes (a.asked ++ more) (own ++ others) (subst (λ (ps : List Program). Offers config filters ps (a.asked ++ more) (own ++ others)) (sym e) (one_and program after a.asked more own others a.holds h)))));
-      first = λ more h. subst (λ (ts : List Told). OffersFirst config filters programs ts) (sym (append_assoc o.told a.asked more))
-          (o.first (a.asked ++ more) (subst (λ (ps : List Program). OffersFirst config filters ps (a.asked ++ more)) (sym e) (first_of_one program after a.asked more (candidates_of program cases) a.holds h)));
-    }
+    offers_next rest after program mid new found grown cases e o a g = let own = candidates_of program cases in answered-then o a (λ told asked f h. (
+      λ more others k. rw (append_assoc, g, append_assoc) (f.0 (asked ++ more) (own ++ others) (rw e (one_and program after asked more own others h k))),
+      λ more k. rw append_assoc (f.1 (asked ++ more) (rw e (first_of_one program after asked more own h k))),
+    ))
 
     -- memory ran out at a program
     pub offers_stopped : (rest after : List Program) (program : Program) (mid new : W) (found : List Candidate) → rest ≡ program ∷ after → Offering programs old rest mid found
         → Answered tells mid new (λ told. OffersFirst config filters (program ∷ []) told) → Answered tells old new (λ told. OffersFirst config filters programs told)
-    offers_stopped rest after program mid new found e o a = record {
-      asked = o.told ++ a.asked;
-      chain = chain-append tells o.told a.asked old mid new o.chain a.chain;
-      holds = o.first a.asked (subst (λ (ps : List Program). OffersFirst config filters ps a.asked) (sym e) (first_before program after a.asked a.holds));
-    }
+    offers_stopped rest after program mid new found e o a = answered-then o a (λ told asked f h. f.1 asked (rw e (first_before program after asked h)))
 
     pub offers_all : (rest : List Program) (new : W) (found : List Candidate) → length rest ≡ 0 → Offering programs old rest new found → Answered tells old new (λ told. Offers config filters programs told found)
-    offers_all rest new found e o = record {
-      asked = o.told;
-      chain = o.chain;
-      holds = subst (λ (ts : List Told). Offers config filters programs ts found) (append-nil o.told)
-          (subst (λ (cs : List Candidate). Offers config filters programs (o.told ++ []) cs) (append-nil found) (o.goes [] [] (subst (λ (ps : List Program). Offers config filters ps [] []) (sym (nil_from_length rest e)) none)));
-    }
+    offers_all rest new found e o = answered-as o (λ told f. rw (append-nil, append-nil) at (f.0 [] [] (rw (nil_from_length rest e) none)))

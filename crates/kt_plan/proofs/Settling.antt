@@ -3,7 +3,8 @@ use Rattle.std.proofs.Common.{Result, Ok, Err, IsErrAnd, ◌≡◌, Bool, List, 
 use Rattle.kt_plan.proofs.Common.{err_from_is_err_and, Definition, Values, Answered, Filter, Configured, Gives, OrShort, SettlesOrShort, Configures, Filters, Settles, settled, unconfigured, unfiltered, IsShort, Told, CaseOptions, Settings, Stop}
 use Rattle.kt_base.specs.declared.no_memory.NoMemory.{NoMemory as OutOfMemory}
 use Rattle.kt_plan.specs.declared.stop.Stop.TheVariants as stop
-use Rattle.kt_plan.proofs.Configurations.{Configuration, answered_as, configuration_first}
+use Rattle.kt_plan.proofs.Chains.{answered-as}
+use Rattle.kt_plan.proofs.Configurations.{Configuration, configuration_first}
 
 -- memory ran out
 pub stops_short : {T : Type 0} (result : Result T Stop) (refusal : OutOfMemory) → IsErrAnd result (λ e. e ≡ stop.NoMemory refusal) → IsShort result
@@ -19,9 +20,8 @@ module _ {W : Type 0} (tells : W → Told → W → Type 0) (old new : W) (needs
   pub not_configured : (found : Result Values Stop) (result : Result Settings Stop) (fault : Stop) → found ≡ Err fault → IsErrAnd result (λ e. e ≡ fault) → Configuration tells old new options found → Settled result
   not_configured found result fault e r a =
       let p = err_from_is_err_and result r in
-      answered_as tells old new (λ told. OrShort found options.config told (Configured (Configures options told) found)) (λ told. SettlesOrShort needs_case options told result)
-      (λ told h. subst (λ (o : Result Settings Stop). SettlesOrShort needs_case options told o) (sym (p.1 ∙ ap (λ (x : Stop). Err x) p.2))
-      (by told (subst (λ (o : Result Values Stop). OrShort o options.config told (Configured (Configures options told) o)) e h))) a
+      answered-as a (λ told h. subst (λ (o : Result Settings Stop). SettlesOrShort needs_case options told o) (sym (p.1 ∙ ap (λ (x : Stop). Err x) p.2))
+      (by told (subst (λ (o : Result Values Stop). OrShort o options.config told (Configured (Configures options told) o)) e h)))
     where
       meant : (told : List Told) (m : Result (List Definition) Stop) → Configures options told m → Gives (Err fault) m → Settles needs_case options told (Err fault)
       meant told (Ok definitions) m g = absurd g
@@ -35,8 +35,7 @@ module _ {W : Type 0} (tells : W → Told → W → Type 0) (old new : W) (needs
     -- the definitions of the configuration, and what follows from them
     with_definitions : (P : List Told → Type 0) → ((told : List Told) (definitions : List Definition) → Configures options told (Ok definitions) → Gives (Ok config) (Ok definitions) → P told) → Answered tells old new P
     with_definitions P f =
-        answered_as tells old new (λ told. OrShort found options.config told (Configured (Configures options told) found)) P
-        (λ told h. by told (subst (λ (o : Result Values Stop). OrShort o options.config told (Configured (Configures options told) o)) e h)) a
+        answered-as a (λ told h. by told (subst (λ (o : Result Values Stop). OrShort o options.config told (Configured (Configures options told) o)) e h))
       where
         meant : (told : List Told) (m : Result (List Definition) Stop) → Configures options told m → Gives (Ok config) m → P told
         meant told (Ok definitions) m g = f told definitions m g

@@ -11,35 +11,19 @@ use Rattle.kt_suite.specs.declared.filter.FilterFault.TheVariants as filter
 chars-script : (fault : ScriptFault) → chars (script_words fault) ≡ script_words fault
 unfolding chars
 chars-script (script.NoMemory refusal) = refl
-chars-script script.NotUtf8 = refl
-chars-script (script.BadToken line) = refl
-chars-script (script.NotLiteral line) = refl
-chars-script (script.Unclosed line) = refl
-chars-script script.TooLong = refl
+chars-script fault = refl
 
 pub chars-config : (fault : ConfigFault) → chars (config_words fault) ≡ config_words fault
 unfolding chars
-chars-config (config.NoMemory refusal) = refl
-chars-config config.UnknownVariable = refl
-chars-config config.BadValue = refl
 chars-config (config.Script fault) = chars-script fault
-chars-config config.NoSyntax = refl
-chars-config config.NotAssignment = refl
+chars-config fault = refl
 
 pub chars-filter : (fault : FilterFault) → chars (filter_words fault) ≡ filter_words fault
 unfolding chars
 chars-filter (filter.NoMemory refusal) = refl
-chars-filter filter.Empty = refl
-chars-filter filter.Absolute = refl
-chars-filter filter.EmptyCase = refl
-chars-filter (filter.Repeated position) = refl
-chars-filter (filter.NotDisjoint position) = refl
+chars-filter fault = refl
 
 pub utf8-config : (fault : ConfigFault) → utf8 (config_words fault) ≡ config_words fault
 unfolding encode
-utf8-config (config.NoMemory refusal) = refl
-utf8-config config.UnknownVariable = refl
-utf8-config config.BadValue = refl
 utf8-config (config.Script fault) = utf8-script fault
-utf8-config config.NoSyntax = refl
-utf8-config config.NotAssignment = refl
+utf8-config fault = refl
