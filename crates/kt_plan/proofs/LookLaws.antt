@@ -1,14 +1,10 @@
 -- What the host is asked for, and what is noted of its answers.
 use Rattle.std.proofs.Common.{Bool, true, false, Option, ◌≡◌, ℕ, List, [], ◌∷◌, ◌++◌, ◌&&◌, ◌||◌, refl, sym, ap, ◌∙◌, subst, append_assoc, append-nil}
 use Rattle.kt_plan.proofs.Common.{Answered, is_found, is_same_need, IsNoted, Host, Need, Candidate, Notes, finds, needs_of, LooksFor, nothing, asked, Surveys, SurveysFirst, AreFirst, Told, Finds, IsRoot, HasMemory, HasDisk}
-use Rattle.kt_plan.proofs.Chains.{answered-as, answered-once, answered-then, asked_nothing}
+use Rattle.kt_plan.proofs.Chains.{answered-as, answered-once, answered-then}
 use Rattle.std.specs.List.{list_any}
 use Rattle.std.proofs.lemmas.List.Folds.{list_any-append}
 use Rattle.std.proofs.Math.Bool.{or-false, and-true, and-false, or_assoc}
-
--- nothing was asked
-notes_nothing : (host : Host) → Notes [] host host
-notes_nothing host = record { found = λ need word. sym (or-false (is_found need host word)); root = refl; memory = refl; disk = refl }
 
 -- more was asked
 notes_more : (told more : List Told) (a b d : Host) → Notes told a b → Notes more b d → Notes (told ++ more) a d
@@ -86,9 +82,6 @@ module _ {W : Type 0} (tells : W → Told → W → Type 0) where
     -- the questions so far, and what was noted
     abbrev pub Looking : List (Need × List ℕ) → W → Host → Type 0
     Looking rest new now = Answered tells old new (λ told. ((more : List Told) → LooksFor rest more → LooksFor needs (told ++ more)) × Notes told was now)
-
-    pub looking_first : Looking needs old was
-    looking_first = asked_nothing tells old _ (λ more h. h, notes_nothing was)
 
     pub looking_next : (rest some after : List (Need × List ℕ)) (mid new : W) (then now : Host) → rest ≡ some ++ after → Looking rest mid then
         → Answered tells mid new (λ told. LooksFor some told × Notes told then now) → Looking after new now

@@ -1,5 +1,5 @@
 -- The code's steps go through each script, to its statements.
-use Rattle.std.proofs.Common.{◌≡◌, ℕ, true, false, List, [], ◌∷◌, ◌++◌, Option, Some, None, refl, ap, sym, ◌∙◌, append_assoc, option_map, option_and_then}
+use Rattle.std.proofs.Common.{arith, ◌≡◌, ℕ, true, false, List, [], ◌∷◌, ◌++◌, Option, Some, None, refl, ap, sym, ◌∙◌, append_assoc, option_map, option_and_then}
 use Rattle.kt_script.proofs.Common.{append-nil, Token, Kind, Name, Quoted, OpenParen, CloseParen, OpenBrace, CloseBrace, Equals, Semicolon, Place, Start, Whole, Within, Pair, Stmt, Literal, Action, Call, Assign, Table, Named, Pairs, Paired, Path, Step, To, Ends, token_of, pair, Key, by_name, by_text, Separator, comma, semicolon, no_pairs, last_pair, pair_and, Parts, no_parts, named_part, quoted_part, Statement, call, call_table, call_text, bare_table, assign, kinds, placed, Script, no_stmts, stmt_and, ended_and, value_of, closed, with_pair, step, next, landed, listed, run, IsResting}
 use Rattle.kt_script.specs.declared.syntax.Literal.TheVariants as literal
 use Rattle.kt_script.specs.declared.syntax.Arg.TheVariants as arg
@@ -93,8 +93,7 @@ map_some None f y e = absurd cc
 map_some (Some x) f y e = (x, refl, cc)
 
 joined_twice : (xs ys : List Stmt) (o : Option (Place × List Stmt)) → option_map (joined xs) (option_map (joined ys) o) ≡ option_map (joined (xs ++ ys)) o
-joined_twice xs ys None = refl
-joined_twice xs ys (Some end) = ap (λ (zs : List Stmt). Some (end.0, zs)) (sym (append_assoc xs ys end.1))
+joined_twice xs ys o = grind (arith, append_assoc {A = Stmt})
 
 joined_none : (o : Option (Place × List Stmt)) → option_map (joined []) o ≡ o
 joined_none None = refl

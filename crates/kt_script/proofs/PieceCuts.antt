@@ -1,12 +1,12 @@
 -- A piece is not empty, and the text may be cut after it: it ends with ASCII or with the text, or ASCII follows it.
-use Rattle.std.proofs.Common.{◌≡◌, ℕ, ◌+◌, ◌<◌, Bool, true, false, eqb, ◌||◌, List, [], ◌∷◌, ◌++◌, length, get_or, Option, Some, None, refl, ap, sym, subst, ◌∙◌, arith, append_assoc, length-append, inl, inr, IsUtf8, IfSome}
-use Rattle.kt_script.proofs.Common.{append-nil, IsCharBoundary, prefix_len, eqb-true, not-false, IsCharBoundary-end, IsCharBoundary-after_ascii, IsCharBoundary-from_rest, Kind, Piece, is_space, is_word, is_digit, mark_of, piece_at, Each, StopsAt, in_line, Closes, not_yet, Blank, space, line_comment, long_comment, Word, a_name, a_number, a_string, a_mark, no_word}
+use Rattle.std.proofs.Common.{◌≡◌, ℕ, ◌+◌, ◌<◌, Bool, true, false, eqb, ◌||◌, List, [], ◌∷◌, ◌++◌, length, get_or, Option, Some, None, refl, ap, sym, subst, ◌∙◌, arith, append_assoc, length-append, inl, inr, IsUtf8}
+use Rattle.kt_script.proofs.Common.{nat_tests, append-nil, IsCharBoundary, prefix_len, eqb-true, not-false, IsCharBoundary-end, IsCharBoundary-after_ascii, IsCharBoundary-from_rest, Kind, Piece, is_space, is_word, is_digit, mark_of, piece_at, Each, StopsAt, in_line, Closes, not_yet, Blank, space, line_comment, long_comment, Word, a_name, a_number, a_string, a_mark, no_word}
 use Rattle.std.proofs.lemmas.List.{get_or_at}
 use Rattle.kt_script.specs.TokenRules.{closed}
 use Rattle.kt_script.proofs.Cuts.{passing_cut, stopping_cut, space_small, digit_small, word_small}
 use Rattle.kt_script.proofs.OneReading.{IsRead, word_read}
 use Rattle.kt_script.proofs.ReadStrings.{long_is, line_is}
-use Rattle.kt_script.proofs.ReadWords.{each_run, every_mark, quote_range, stops_digits}
+use Rattle.kt_script.proofs.ReadWords.{each_run, quote_range, stops_digits}
 use Rattle.kt_script.proofs.SomeReading.{something_first}
 
 -- so many bytes, one or more, after which the rest is UTF-8
@@ -29,9 +29,7 @@ last_cut xs c after small u =
 -- ---- words
 
 mark_small : (c : ℕ) (kind : Kind) → mark_of c ≡ Some kind → c < 128
-mark_small c kind is =
-    let each = every_mark (λ c _. c < 128) (omega arith) (omega arith) (omega arith) (omega arith) (omega arith) (omega arith) (omega arith) (omega arith) (omega arith) (omega arith) c in
-    subst (λ (o : Option Kind). IfSome o (λ _. c < 128)) is each
+mark_small c kind is = grind (arith, nat_tests, is)
 
 word_cut : (bytes after : List ℕ) (kind : Kind) → Word bytes after kind → IsUtf8 (bytes ++ after) → IsCharBoundary (bytes ++ after) (length bytes)
 word_cut bytes after kind (a_name {c = c} {cs = cs} {after = rest} letter each stop) u = run_cut is_word word_small (c ∷ cs) rest (ap (λ (b : Bool). b || is_digit c) letter, each) stop u

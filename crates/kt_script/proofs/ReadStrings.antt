@@ -1,6 +1,6 @@
 -- The bytes of a string or a comment are the piece that is read there.
-use Rattle.std.proofs.Common.{◌≡◌, ℕ, suc, ◌+◌, Bool, true, false, cond, eqb, ◌&&◌, List, [], ◌∷◌, ◌++◌, length, Option, Some, None, Result, Ok, Err, refl, ap, sym, ◌∙◌, arith, append_assoc, length-append, nat_eq, codes, option_map}
-use Rattle.kt_script.proofs.Common.{nat_tests, chars, prefix_len, starts_with, eqb-true, eq-eqb, not-false, append-nil, Flaw, Bad, Leveled, Endless, Quoted, blank, token, broken, with_front, escaped, string_at, decoded, quoted, escape_of, closes_at, comment_at, piece_at, Each, StopsAt, is_quote, in_line, Inside, nothing, itself, escape, NoEscape, Closes, not_yet, NeverCloses, opens_long, opens_level}
+use Rattle.std.proofs.Common.{◌≡◌, ℕ, suc, ◌+◌, Bool, true, false, cond, eqb, List, [], ◌∷◌, ◌++◌, length, Some, None, Result, Ok, Err, refl, ap, sym, ◌∙◌, arith, append_assoc, length-append, nat_eq, codes, option_map}
+use Rattle.kt_script.proofs.Common.{nat_tests, chars, prefix_len, starts_with, append-nil, Flaw, Bad, Leveled, Endless, Quoted, blank, token, broken, with_front, string_at, decoded, quoted, closes_at, comment_at, piece_at, Each, StopsAt, is_quote, in_line, Inside, nothing, itself, escape, NoEscape, Closes, not_yet, NeverCloses, opens_long, opens_level}
 use Rattle.kt_script.specs.Inner.Comments.{long_comment}
 use Rattle.kt_script.specs.TokenRules.{closed}
 use Rattle.kt_script.proofs.StringRuns.{with_front_twice, with_front_none, plain_is}
@@ -8,31 +8,20 @@ use Rattle.kt_script.proofs.ReadWords.{each_run, at_quote, at_dash}
 
 -- ---- strings
 
-one_and : (n : ℕ) (xs : List ℕ) (r : Result (List ℕ × ℕ) Flaw) → with_front xs (1 + n) r ≡ with_front xs (suc n) r
-one_and n xs r = let e : 1 + n ≡ suc n = omega arith in ap (λ (m : ℕ). with_front xs m r) e
-
 pub inside_reads : (quote : ℕ) (words bytes tail : List ℕ) → eqb 92 quote ≡ false → Inside quote words bytes → string_at quote false (words ++ tail) ≡ with_front bytes (length words) (string_at quote false tail)
 inside_reads quote words bytes tail slash nothing = sym (with_front_none (string_at quote false tail))
 inside_reads quote words bytes tail slash (itself {c = c} {cs = cs} {bytes = bs} plain more) =
     let tests = plain_is quote c plain in
-    let here : string_at quote false (c ∷ (cs ++ tail)) ≡ with_front (c ∷ []) 1 (string_at quote false (cs ++ tail)) = rw (tests.0, tests.1, tests.2) refl in
-    here ∙ ap (with_front (c ∷ []) 1) (inside_reads quote cs bs tail slash more) ∙ with_front_twice (c ∷ []) bs 1 (length cs) (string_at quote false tail) ∙ one_and (length cs) (c ∷ bs) (string_at quote false tail)
+    rw (tests.0, tests.1, tests.2, inside_reads quote cs bs tail slash more) (grind (arith, with_front_twice (c ∷ []) bs 1 (length cs) (string_at quote false tail)))
 inside_reads quote words bytes tail slash (escape {c = c} {d = d} {cs = cs} {bytes = bs} stands more) =
-    let here : string_at quote false (92 ∷ c ∷ (cs ++ tail)) ≡ with_front [] 1 (escaped (escape_of c) (string_at quote false (cs ++ tail))) = rw slash refl in
-    here ∙ ap (λ (o : Option ℕ). with_front [] 1 (escaped o (string_at quote false (cs ++ tail)))) stands ∙ with_front_twice [] (d ∷ []) 1 1 (string_at quote false (cs ++ tail))
-    ∙ ap (with_front (d ∷ []) 2) (inside_reads quote cs bs tail slash more) ∙ with_front_twice (d ∷ []) bs 2 (length cs) (string_at quote false tail) ∙ two_and (length cs) (d ∷ bs) (string_at quote false tail)
-  where
-    two_and : (n : ℕ) (xs : List ℕ) (r : Result (List ℕ × ℕ) Flaw) → with_front xs (2 + n) r ≡ with_front xs (suc (suc n)) r
-    two_and n xs r = let e : 2 + n ≡ suc (suc n) = omega arith in ap (λ (m : ℕ). with_front xs m r) e
+    let rest = with_front bs (length cs) (string_at quote false tail) in
+    rw (slash, stands, inside_reads quote cs bs tail slash more) (grind (arith, with_front_twice [] (d ∷ []) 1 1 rest, with_front_twice (d ∷ []) bs 2 (length cs) (string_at quote false tail)))
 
 no_slash : (quote : ℕ) → is_quote quote ≡ true → eqb 92 quote ≡ false
 no_slash quote e = grind (arith, nat_tests, e)
 
 no_newline : (quote : ℕ) → is_quote quote ≡ true → eqb 10 quote ≡ false
 no_newline quote e = grind (arith, nat_tests, e)
-
-same_quote : (quote : ℕ) → eqb quote quote ≡ true
-same_quote quote = eq-eqb quote quote refl
 
 string_piece : (quote : ℕ) (words bytes tail : List ℕ) (r : Result (List ℕ × ℕ) Flaw) → is_quote quote ≡ true → Inside quote words bytes → string_at quote false tail ≡ r
     → piece_at (quote ∷ words ++ tail) ≡ quoted (quote ∷ words ++ tail) (decoded (with_front bytes (length words) r))
@@ -43,7 +32,7 @@ string_piece quote words bytes tail r q inside end =
 pub string_is : (quote : ℕ) (words bytes after : List ℕ) → is_quote quote ≡ true → Inside quote words bytes
     → piece_at ((quote ∷ words ++ quote ∷ []) ++ after) ≡ token (length (quote ∷ words ++ quote ∷ [])) (Quoted (chars bytes))
 string_is quote words bytes after q inside =
-    let end : string_at quote false (quote ∷ after) ≡ Ok ([], 1) = ap (λ (b : Bool). cond b (Ok ([], 1)) (cond (eqb quote 10) (Err Endless) (cond (eqb quote 92) (with_front [] 1 (string_at quote true after)) (with_front (quote ∷ []) 1 (string_at quote false after))))) (same_quote quote) in
+    let end : string_at quote false (quote ∷ after) ≡ Ok ([], 1) = grind (arith, nat_tests) in
     let regrouped : (quote ∷ words ++ quote ∷ []) ++ after ≡ quote ∷ words ++ quote ∷ after = ap (λ (xs : List ℕ). quote ∷ xs) (append_assoc words (quote ∷ []) after) in
     let len : length words + 1 + 1 ≡ length (quote ∷ words ++ quote ∷ []) = omega (arith, length-append words (quote ∷ [])) in
     ap piece_at regrouped ∙ string_piece quote words bytes (quote ∷ after) (Ok ([], 1)) q inside end
@@ -52,9 +41,7 @@ string_is quote words bytes after q inside =
 pub endless_is : (quote : ℕ) (words bytes after : List ℕ) → is_quote quote ≡ true → Inside quote words bytes → StopsAt in_line after → piece_at (quote ∷ words ++ after) ≡ broken (quote ∷ words ++ after) Endless
 endless_is quote words bytes [] q inside stop = string_piece quote words bytes [] (Err Endless) q inside refl
 endless_is quote words bytes (c ∷ after) q inside stop =
-    let newline : eqb c 10 ≡ true = not-false (eqb c 10) stop in
-    let other : eqb c quote ≡ false = ap (λ (n : ℕ). eqb n quote) (eqb-true c 10 newline) ∙ no_newline quote q in
-    let end : string_at quote false (c ∷ after) ≡ Err Endless = rw (other, newline) refl in
+    let end : string_at quote false (c ∷ after) ≡ Err Endless = grind (arith, nat_tests, no_newline quote q, stop) in
     string_piece quote words bytes (c ∷ after) (Err Endless) q inside end
 
 pub bad_escape_is : (quote : ℕ) (words bytes after : List ℕ) → is_quote quote ≡ true → Inside quote words bytes → NoEscape after → piece_at (quote ∷ words ++ 92 ∷ after) ≡ broken (quote ∷ words ++ 92 ∷ after) Bad
@@ -68,8 +55,7 @@ bad_escape_is quote words bytes after q inside none = string_piece quote words b
 
 pub closes_is : (words after : List ℕ) → Closes words after → closes_at (words ++ after) ≡ Some (length words)
 closes_is words after closed = refl
-closes_is words after (not_yet {c = c} {cs = cs} none more) =
-    ap (λ (b : Bool). cond b (Some 2) (option_map suc (closes_at (cs ++ after)))) none ∙ ap (option_map suc) (closes_is cs after more)
+closes_is words after (not_yet {c = c} {cs = cs} none more) = grind (arith, none, closes_is cs after more)
 
 pub never_is : (text : List ℕ) → NeverCloses text → closes_at text ≡ None
 never_is [] h = refl
@@ -93,10 +79,6 @@ line_is words after a b each stop =
     let here : comment_at (45 ∷ 45 ∷ (words ++ after)) ≡ blank (2 + prefix_len in_line (words ++ after)) = rw (a, b) refl in
     at_dash (45 ∷ (words ++ after)) ∙ here ∙ ap (λ (n : ℕ). blank (2 + n)) (each_run in_line words after each stop) ∙ ap blank len
 
-other_dash : (c : ℕ) (cs : List ℕ) (b : Bool) → eqb 45 c ≡ b → starts_with nat_eq (c ∷ cs) (codes "-") ≡ false → comment_at (45 ∷ c ∷ cs) ≡ broken (45 ∷ c ∷ cs) Bad
-other_dash c cs true is e = let x : true ≡ false = ap (λ (b : Bool). b && true) (sym is) ∙ e in absurd cc
-other_dash c cs false is e = rw is refl
-
 pub dash_is : (text : List ℕ) → starts_with nat_eq text (codes "-") ≡ false → piece_at (45 ∷ text) ≡ broken (45 ∷ text) Bad
 dash_is [] e = at_dash []
-dash_is (c ∷ cs) e = at_dash (c ∷ cs) ∙ other_dash c cs (eqb 45 c) refl e
+dash_is (c ∷ cs) e = at_dash (c ∷ cs) ∙ grind (arith, nat_tests, e)

@@ -1,6 +1,6 @@
 -- The bytes of a name or a number are the piece that is read there.
-use Rattle.std.proofs.Common.{◌≡◌, ℕ, suc, ◌+◌, ◌<◌, ◌≤◌, ◌^◌, Bool, true, false, cond, eqb, ◌||◌, List, [], ◌∷◌, ◌++◌, length, take, drop, Option, Some, None, refl, ap, sym, subst, ◌∙◌, arith, IfSome}
-use Rattle.kt_script.proofs.Common.{nat_tests, or_parts, prefix_len, take-append_seam, drop-append_seam, eqb-true, le-ltb, lt-ltb, Bad, Kind, Number, OpenParen, CloseParen, OpenBrace, CloseBrace, OpenBracket, CloseBracket, Equals, Comma, Semicolon, Dot, mark_of, is_space, is_letter, is_word, is_digit, decimal_from, fits, token, broken, word, Each, StopsAt, is_quote, IsStrange, name_at, number, number_at, begins_with_letter, quoted_at, comment_at, piece_at}
+use Rattle.std.proofs.Common.{◌≡◌, ℕ, ◌+◌, ◌<◌, ◌≤◌, ◌^◌, Bool, true, false, cond, eqb, ◌||◌, List, [], ◌∷◌, ◌++◌, length, take, Option, Some, None, refl, ap, sym, subst, ◌∙◌, arith, IfSome}
+use Rattle.kt_script.proofs.Common.{nat_tests, or_parts, prefix_len, take-append_seam, drop-append_seam, eqb-true, Bad, Kind, Number, OpenParen, CloseParen, OpenBrace, CloseBrace, OpenBracket, CloseBracket, Equals, Comma, Semicolon, Dot, mark_of, is_space, is_letter, is_word, is_digit, decimal_from, fits, token, broken, word, Each, StopsAt, is_quote, IsStrange, name_at, number, number_at, begins_with_letter, quoted_at, comment_at, piece_at}
 
 -- ---- classes
 
@@ -27,9 +27,7 @@ module _ (P : ℕ → Kind → Type 0) where
 pub each_run : (p : ℕ → Bool) (xs after : List ℕ) → Each p xs → StopsAt p after → prefix_len p (xs ++ after) ≡ length xs
 each_run p [] [] h stop = refl
 each_run p [] (c ∷ cs) h stop = ap (λ (b : Bool). cond b (1 + prefix_len p cs) 0) stop
-each_run p (x ∷ xs) after h stop =
-    let later : 1 + prefix_len p (xs ++ after) ≡ suc (length xs) = omega (arith, each_run p xs after h.1 stop) in
-    ap (λ (b : Bool). cond b (1 + prefix_len p (xs ++ after)) 0) h.0 ∙ later
+each_run p (x ∷ xs) after h stop = grind (arith, h.0, each_run p xs after h.1 stop)
 
 -- ---- which piece begins with a byte
 
@@ -73,10 +71,7 @@ name_is c cs after e each stop =
 pub digits_are : (c : ℕ) (cs after : List ℕ) → Each is_digit (c ∷ cs) → StopsAt is_digit after
     → piece_at ((c ∷ cs) ++ after) ≡ number ((c ∷ cs) ++ after) (length (c ∷ cs)) (begins_with_letter after) (fits (decimal_from 0 (c ∷ cs)))
 digits_are c cs after each stop =
-    at_digit c (cs ++ after) each.0
-    ∙ ap (λ (n : ℕ). number ((c ∷ cs) ++ after) n (begins_with_letter (drop n ((c ∷ cs) ++ after))) (fits (decimal_from 0 (take n ((c ∷ cs) ++ after))))) (each_run is_digit (c ∷ cs) after each stop)
-    ∙ ap (λ (rest : List ℕ). number ((c ∷ cs) ++ after) (length (c ∷ cs)) (begins_with_letter rest) (fits (decimal_from 0 (take (length (c ∷ cs)) ((c ∷ cs) ++ after))))) (drop-append_seam (c ∷ cs) after)
-    ∙ ap (λ (digits : List ℕ). number ((c ∷ cs) ++ after) (length (c ∷ cs)) (begins_with_letter after) (fits (decimal_from 0 digits))) (take-append_seam (c ∷ cs) after)
+    at_digit c (cs ++ after) each.0 ∙ rw (each_run is_digit (c ∷ cs) after each stop, drop-append_seam (c ∷ cs) after, take-append_seam (c ∷ cs) after) refl
 
 pub stops_digits : (after : List ℕ) → StopsAt is_word after → (StopsAt is_digit after) × (begins_with_letter after ≡ false)
 stops_digits [] stop = (tt, refl)
@@ -87,12 +82,11 @@ stops_digits (c ∷ cs) stop =
 pub number_is : (c : ℕ) (cs after : List ℕ) → Each is_digit (c ∷ cs) → StopsAt is_word after → decimal_from 0 (c ∷ cs) < 2 ^ 64 → piece_at ((c ∷ cs) ++ after) ≡ token (length (c ∷ cs)) (Number (decimal_from 0 (c ∷ cs)))
 number_is c cs after each stop small =
     let s = stops_digits after stop in
-    digits_are c cs after each s.0 ∙ ap (λ (b : Bool). number ((c ∷ cs) ++ after) (length (c ∷ cs)) b (fits (decimal_from 0 (c ∷ cs)))) s.1
-    ∙ ap (λ (b : Bool). number ((c ∷ cs) ++ after) (length (c ∷ cs)) false (cond b (Some (decimal_from 0 (c ∷ cs))) None)) (lt-ltb (decimal_from 0 (c ∷ cs)) (2 ^ 64) small)
+    let no_letter = s.1 in
+    digits_are c cs after each s.0 ∙ rw no_letter (grind (arith, nat_tests, small))
 
 pub large_is : (text : List ℕ) (n : ℕ) (b : Bool) (v : ℕ) → 2 ^ 64 ≤ v → number text n b (fits v) ≡ broken text Bad
-large_is text n true v large = refl
-large_is text n false v large = ap (λ (b : Bool). number text n false (cond b (Some v) None)) (le-ltb v (2 ^ 64) large)
+large_is text n b v large = grind (arith, nat_tests)
 
 letter_no_digit : (d : ℕ) → is_letter d ≡ true → is_digit d ≡ false
 letter_no_digit d e = grind (arith, nat_tests, e)

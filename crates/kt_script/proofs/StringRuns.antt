@@ -1,16 +1,12 @@
 -- A string, run by run of bytes that stand for themselves.
-use Rattle.std.proofs.Common.{◌≡◌, ℕ, suc, ◌+◌, Bool, true, false, cond, eqb, List, [], ◌∷◌, ◌++◌, take, drop, Option, Some, None, Result, Ok, Err, refl, ap, sym, ◌∙◌, subst, append_assoc, arith, inl, inr}
-use Rattle.kt_script.proofs.Common.{nat_tests, prefix_len, cases_Bool, eqb-true, Flaw, Stop, Quote, Escape, Flawed, with_front, escaped, escape_stop, escape_at, stop_at, string_at, escape_of, is_plain}
+use Rattle.std.proofs.Common.{◌≡◌, ℕ, suc, ◌+◌, Bool, true, false, eqb, List, [], ◌∷◌, ◌++◌, take, drop, Option, Some, None, Result, Ok, Err, refl, ap, sym, ◌∙◌, append_assoc, arith, inl, inr}
+use Rattle.kt_script.proofs.Common.{nat_tests, prefix_len, cases_Bool, Flaw, Stop, Quote, Escape, Flawed, with_front, escaped, escape_stop, escape_at, stop_at, string_at, escape_of, is_plain}
 
 pub with_front_twice : (xs ys : List ℕ) (n m : ℕ) (r : Result (List ℕ × ℕ) Flaw) → with_front xs n (with_front ys m r) ≡ with_front (xs ++ ys) (n + m) r
-with_front_twice xs ys n m (Ok x) =
-    let e : n + (m + x.1) ≡ (n + m) + x.1 = omega arith in
-    rw (e, append_assoc) refl
-with_front_twice xs ys n m (Err f) = refl
+with_front_twice xs ys n m r = grind (arith, append_assoc {A = ℕ})
 
 pub with_front_none : (r : Result (List ℕ × ℕ) Flaw) → with_front [] 0 r ≡ r
-with_front_none (Ok x) = let e : 0 + x.1 ≡ x.1 = omega arith in rw e refl
-with_front_none (Err f) = refl
+with_front_none r = grind arith
 
 -- ---- bytes that stand for themselves
 
@@ -63,23 +59,6 @@ slash_follows : (quote c : ℕ) (cs : List ℕ) → with_front [] 1 (string_at q
 slash_follows quote c [] = refl
 slash_follows quote c (d ∷ ds) = escape_follows quote c d ds (escape_of d)
 
--- each of the three tests
-by_tests : (quote c : ℕ) (cs : List ℕ) (a b d : Bool) → eqb c quote ≡ a → eqb c 10 ≡ b → eqb c 92 ≡ d → is_plain quote c ≡ false
-    → string_at quote false (c ∷ cs) ≡ after_stop quote (c ∷ cs) (stop_at quote (c ∷ cs))
-by_tests quote c cs true b d x y z other = rw x refl
-by_tests quote c cs false true d x y z other =
-    let no_slash : eqb c 92 ≡ false = ap (λ (n : ℕ). eqb n 92) (eqb-true c 10 y) in
-    rw (x, y, no_slash) refl
-by_tests quote c cs false false true x y z other = rw (x, y, z) (slash_follows quote c cs)
-by_tests quote c cs false false false x y z other =
-    let plain : is_plain quote c ≡ true = rw (x, y, z) refl in
-    let both : true ≡ false = sym plain ∙ other in
-    absurd cc
-
 pub stops : (quote : ℕ) (text : List ℕ) → prefix_len (is_plain quote) text ≡ 0 → string_at quote false text ≡ after_stop quote text (stop_at quote text)
 stops quote [] none = refl
-stops quote (c ∷ cs) none =
-    elim (cases_Bool (is_plain quote c)) [
-      | inl plain ↦ let e : 1 + prefix_len (is_plain quote) cs ≡ 0 = subst (λ (b : Bool). cond b (1 + prefix_len (is_plain quote) cs) 0 ≡ 0) plain none in absurd (omega arith)
-      | inr other ↦ by_tests quote c cs (eqb c quote) (eqb c 10) (eqb c 92) refl refl refl other
-    ]
+stops quote (c ∷ cs) none = grind (arith, nat_tests, slash_follows quote c cs, none)

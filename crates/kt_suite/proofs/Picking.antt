@@ -1,5 +1,5 @@
 -- The filters that match no item are what the items leave of all filters.
-use Rattle.std.proofs.Common.{◌≡◌, ℕ, ◌+◌, suc, Bool, true, false, List, [], ◌∷◌, ◌++◌, refl, sym, ap, ◌∙◌, arith, length, slice_get, Option, ◌||◌, not, if◌then◌else◌}
+use Rattle.std.proofs.Common.{◌≡◌, ℕ, ◌+◌, suc, Bool, true, false, List, [], ◌∷◌, ◌++◌, refl, sym, ap, ◌∙◌, arith, length, slice_get, Option, ◌||◌, not}
 use Rattle.kt_suite.proofs.Common.{append_assoc, list_any, filter, Filter, Item, all_places, is_some_match, is_match, is_miss, places, is_idle, idle_places}
 
 -- the filter at a position matches none of these items
@@ -13,17 +13,11 @@ pub kept_all : {A : Type 0} (test : A → Bool) → ((x : A) → test x ≡ true
 kept_all test h [] = refl
 kept_all test h (x ∷ xs) = rw (h x) (ap (λ (ys : List _). x ∷ ys) (kept_all test h xs))
 
-both_step : {A : Type 0} (second : A → Bool) (x : A) (all after : List A) → (b : Bool)
-    → all ≡ filter (λ y. not (second y)) after
-    → (if not (b || second x) then x ∷ all else all) ≡ filter (λ y. not (second y)) (if not b then x ∷ after else after)
-both_step second x all after true e = e
-both_step second x all after false e = rw e refl
-
 -- one test after the other
 pub kept_both : {A : Type 0} (first second : A → Bool) (xs : List A)
     → filter (λ x. not (first x || second x)) xs ≡ filter (λ x. not (second x)) (filter (λ x. not (first x)) xs)
 kept_both first second [] = refl
-kept_both first second (x ∷ xs) = both_step second x _ _ (first x) (kept_both first second xs)
+kept_both first second (x ∷ xs) = grind (arith, kept_both first second xs)
 
 -- ---- places
 
@@ -33,37 +27,24 @@ next_place n k = omega arith
 -- what was found goes on with a place that passes
 pub place_taken : (test : Item → Bool) (n : ℕ) (items : List Item) (item : Item) (after : List Item) (old new all : List ℕ) → items ≡ item ∷ after → true ≡ test item → new ≡ old ++ n ∷ []
     → old ++ places test n items ≡ all → new ++ places test (n + 1) after ≡ all
-place_taken test n items item after old new all e t h w =
-    ap (λ (ps : List ℕ). ps ++ places test (n + 1) after) h
-    ∙ append_assoc old (n ∷ []) (places test (n + 1) after)
-    ∙ ap (λ (b : Bool). old ++ (if b then n ∷ places test (n + 1) after else places test (n + 1) after)) t
-    ∙ ap (λ (xs : List Item). old ++ places test n xs) (sym e)
-    ∙ w
+place_taken test n items item after old new all e t h w = rw (h, append_assoc) (rw (e, ← t) at w)
 
 -- and without one that doesn't
 pub place_passed : (test : Item → Bool) (n : ℕ) (items : List Item) (item : Item) (after : List Item) (old new all : List ℕ) → items ≡ item ∷ after → false ≡ test item → new ≡ old
     → old ++ places test n items ≡ all → new ++ places test (n + 1) after ≡ all
-place_passed test n items item after old new all e t h w =
-    ap (λ (ps : List ℕ). ps ++ places test (n + 1) after) h
-    ∙ ap (λ (b : Bool). old ++ (if b then n ∷ places test (n + 1) after else places test (n + 1) after)) t
-    ∙ ap (λ (xs : List Item). old ++ places test n xs) (sym e)
-    ∙ w
+place_passed test n items item after old new all e t h w = rw h (rw (e, ← t) at w)
 
 -- ---- the filters that no item matches
-
-idle_step : (n : ℕ) (rest : List ℕ) (kept : List ℕ) (test : ℕ → Bool) (b : Bool) → test n ≡ b → filter test rest ≡ kept
-    → filter test (n ∷ rest) ≡ (if b then n ∷ kept else kept)
-idle_step n rest kept test b e h = rw (e, h) refl
 
 -- the filters that no item matches, counted from a number
 idle_from : (items : List Item) (all : List Filter) (n : ℕ) (filters : List Filter) → ((k : ℕ) → slice_get all (n + k) ≡ slice_get filters k)
     → filter (is_idle_at items all) (places (λ f. true) n filters) ≡ places (is_idle items) n filters
 idle_from items all n [] at = refl
 idle_from items all n (f ∷ rest) at =
-    idle_step n _ _ (is_idle_at items all) (is_idle items f)
-    (ap (λ (o : Option Filter). not (list_any (λ item. is_some_match item o) items))
-    (ap (λ (k : ℕ). slice_get all k) (let z : n ≡ n + 0 = omega arith in z) ∙ at 0))
-    (idle_from items all (n + 1) rest (λ k. ap (λ (p : ℕ). slice_get all p) (next_place n k) ∙ at (suc k)))
+    let same : n ≡ n + 0 = omega arith in
+    let here : is_idle_at items all n ≡ is_idle items f = ap (λ (o : Option Filter). not (list_any (λ item. is_some_match item o) items)) (ap (slice_get all) same ∙ at 0) in
+    let later = idle_from items all (n + 1) rest (λ k. ap (λ (p : ℕ). slice_get all p) (next_place n k) ∙ at (suc k)) in
+    rw (here, later) refl
 
 -- what all items leave of all filters are the idle ones
 pub idle_of_all : (items : List Item) (filters : List Filter) (all : List ℕ) → all ≡ all_places filters → filter (is_idle_at items filters) all ≡ idle_places items filters
@@ -74,11 +55,7 @@ idle_of_all items filters all e =
 -- what one item leaves, the items after it go on with
 pub idle_after : (items : List Item) (filters : List Filter) (item : Item) (after : List Item) (idle left wanted : List ℕ) → items ≡ item ∷ after
     → left ≡ filter (is_miss filters item) idle → filter (is_idle_at items filters) idle ≡ wanted → filter (is_idle_at after filters) left ≡ wanted
-idle_after items filters item after idle left wanted e l w =
-    ap (λ (ps : List ℕ). filter (is_idle_at after filters) ps) l
-    ∙ sym (kept_both (is_match filters item) (λ place. list_any (λ x. is_match filters x place) after) idle)
-    ∙ sym (ap (λ (xs : List Item). filter (is_idle_at xs filters) idle) e)
-    ∙ w
+idle_after items filters item after idle left wanted e l w = rw l (sym (kept_both (is_match filters item) (λ place. list_any (λ x. is_match filters x place) after) idle) ∙ (rw e at w))
 
 left_by_none : (items : List Item) (filters : List Filter) → length items ≡ 0 → (place : ℕ) → is_idle_at items filters place ≡ true
 left_by_none [] filters e place = refl

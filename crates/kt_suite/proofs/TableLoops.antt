@@ -10,12 +10,10 @@ pub record TableSoFar (found : ProgramTable) (rest pairs : List Pair) : Type 0 w
   pub fault : first_fault (definitions rest) ≡ first_fault (definitions pairs)
 
 ok_unless : (fault : Option SuiteCause) (next table : ProgramTable) → ◌≡◌ {A = Result ProgramTable SuiteCause} (Ok next) (unless fault table) → (fault ≡ None) × (next ≡ table)
-ok_unless None next table e = (refl, ap (λ (r : Result ProgramTable SuiteCause). elim r [ Ok t ↦ t | Err cause ↦ next ]) e)
-ok_unless (Some cause) next table e = absurd (cc)
+ok_unless fault next table e = (grind (arith, e), grind (arith, e))
 
 err_unless : (fault : Option SuiteCause) (cause : SuiteCause) (table : ProgramTable) → ◌≡◌ {A = Result ProgramTable SuiteCause} (Err cause) (unless fault table) → fault ≡ Some cause
-err_unless None cause table e = absurd (cc)
-err_unless (Some other) cause table e = ap (λ (r : Result ProgramTable SuiteCause). elim r [ Ok t ↦ Some other | Err c ↦ Some c ]) (sym e)
+err_unless fault cause table e = grind (arith, e)
 
 -- the faults of the pairs that are left, the next of them first
 left_fault : (pair : Pair) (after rest pairs : List Pair) → rest ≡ pair ∷ after → first_fault (definitions rest) ≡ first_fault (definitions pairs)

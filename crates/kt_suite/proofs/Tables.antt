@@ -36,10 +36,7 @@ key_says n k is = subst (KeySays n) (sym is) (by (bytes_eq n (codes "name")) (by
 three_parts : (before : List Variable) (pair : Variable) (name suite : Option (List ℕ)) (props : List Variable)
     → value_of (codes "name") (before ++ pair ∷ []) ≡ name → value_of (codes "test_suite") (before ++ pair ∷ []) ≡ suite → filter is_property (before ++ pair ∷ []) ≡ props
     → table_of (before ++ pair ∷ []) ≡ record { name = name; suite = suite; props = last_values props }
-three_parts before pair name suite props n s p =
-    ap (λ (x : Option (List ℕ)). record { name = x; suite = value_of (codes "test_suite") (before ++ pair ∷ []); props = last_values (filter is_property (before ++ pair ∷ [])) }) n
-    ∙ ap (λ (x : Option (List ℕ)). record { name = name; suite = x; props = last_values (filter is_property (before ++ pair ∷ [])) }) s
-    ∙ ap (λ (x : List Variable). record { name = name; suite = suite; props = last_values x }) p
+three_parts before pair name suite props n s p = rw (n, s, p) refl
 
 -- a name more
 push_name : (before : List Variable) (text : List ℕ) → table_of (before ++ (record { name = codes "name"; value = text }) ∷ []) ≡ record (table_of before) { name = Some text }
