@@ -1,6 +1,6 @@
 -- What is read of a text, and what is left of it.
 use Rattle.std.proofs.Common.{◌≡◌, ℕ, ◌+◌, ◌<◌, ◌≤◌, List, [], ◌∷◌, ◌++◌, length, take, drop, Option, Some, None, Result, Ok, Err, refl, ap, sym, ◌∙◌, subst, append_assoc, arith, length-take, length-drop, IfOk, IfErr}
-use Rattle.kt_script.proofs.Common.{append-nil, nil_from_length, ScriptFault, NoMemory, Token, Kind, Piece, Place, Start, Whole, Within, Parser, State, Stmt, Script, run, IsResting, IfFault, IsFaultOf, last, open_lines, end_fault, HasRead, IsMisfit, piece_at, tokens, tokens_in, line_past}
+use Rattle.kt_script.proofs.Common.{append-nil, ScriptFault, NoMemory, Token, Kind, Piece, Place, Start, Whole, Within, Parser, State, Stmt, Script, run, IsResting, IfFault, IsFaultOf, last, open_lines, end_fault, HasRead, IsMisfit, piece_at, tokens, tokens_in, line_past}
 use Rattle.kt_script.specs.Inner.Places.{IsWithin}
 use Rattle.kt_script.proofs.Sound.{accepted, misfit, unfinished}
 use Rattle.kt_script.proofs.PieceTokens.{tokens-piece, tokens-end}
@@ -80,6 +80,3 @@ ends_fault (Err f) place parser line rest text h none given =
     let fault = unfinished (tokens 1 0 text) given.0 w.0 parser.statements runs in
     let same : end_fault (last (open_lines [] (tokens 1 0 text))) given.0 ≡ f = sym (given.2 ∙ ap (λ (lines : List ℕ). end_fault (last lines) given.0) done.brackets) in
     some_fault (List Stmt) f (λ f. IsFaultOf (tokens 1 0 text) f) (subst (λ (x : ScriptFault). IsFaultOf (tokens 1 0 text) x) same fault)
-
-pub none_left : (rest : List ℕ) → length rest ≡ 0 → rest ≡ []
-none_left rest e = nil_from_length rest e

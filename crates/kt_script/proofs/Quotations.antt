@@ -1,6 +1,6 @@
 -- The reading of a string: what was read of it and what is left.
-use Rattle.std.proofs.Common.{◌≡◌, ℕ, zero, suc, ◌+◌, ◌-◌, ◌<◌, ◌≤◌, Bool, true, false, cond, eqb, List, [], ◌∷◌, ◌++◌, length, take, drop, Option, Some, None, Ok, Err, refl, ap, sym, ◌∙◌, subst, arith, length-drop, IsUtf8}
-use Rattle.kt_script.proofs.Common.{nat_tests, chars, IsAscii, IsCharBoundary, prefix_len, append-nil, prefix_len-le-length, chars-nil, chars-append, chars-IsAscii, IsUtf8-nil, IsUtf8-append, IsUtf8-from_ascii, IsUtf8-take, IsUtf8-drop, IsCharBoundary-after_ascii, Flaw, Endless, Stop, Quote, Escape, Flawed, with_front, escape_stop, escape_at, stop_at, string_at, decoded, escape_of, is_plain}
+use Rattle.std.proofs.Common.{◌≡◌, ℕ, zero, suc, ◌+◌, ◌-◌, ◌<◌, ◌≤◌, false, List, [], ◌∷◌, ◌++◌, length, take, drop, get_or, Ok, Err, ap, sym, ◌∙◌, subst, arith, length-drop, IsUtf8}
+use Rattle.kt_script.proofs.Common.{nat_tests, chars, IsAscii, IsCharBoundary, prefix_len, append-nil, prefix_len-le-length, chars-nil, chars-append, chars-IsAscii, IsUtf8-nil, IsUtf8-append, IsUtf8-from_ascii, IsUtf8-take, IsUtf8-drop, IsCharBoundary-after_ascii, Flaw, Stop, Quote, Escape, Flawed, with_front, stop_at, string_at, decoded, is_plain}
 use Rattle.kt_script.proofs.Cuts.{stopping_cut_at}
 use Rattle.kt_script.proofs.StringRuns.{with_front_twice, with_front_none, plain_run, no_more, after_stop, stops}
 
@@ -34,50 +34,22 @@ reads_run quote string rest text new plain after n h n_is plain_is after_is utf8
       len = omega (arith, h.len, ap length after_is, length-drop n rest);
     }
 
-escape_small : (c d : ℕ) → escape_of c ≡ Some d → d < 128
-escape_small c d e = grind (arith, nat_tests, e)
-
--- the byte after a backslash
-letter_small : (e d : ℕ) → escape_of e ≡ Some d → e < 128
-letter_small e d is = grind (arith, nat_tests, is)
-
--- a text begins with a backslash and a byte that stand for a character
-pub record IsEscape (text : List ℕ) (d : ℕ) : Type 0 where
-  pub slash : ℕ
-  pub letter : ℕ
-  pub rest : List ℕ
-  pub parts : text ≡ slash ∷ letter ∷ rest
-  pub stands : escape_of letter ≡ Some d
-
-some_escape : (slash letter d : ℕ) (rest : List ℕ) (o : Option ℕ) → escape_of letter ≡ o → escape_stop o ≡ Escape d → IsEscape (slash ∷ letter ∷ rest) d
-some_escape slash letter d rest None is e = absurd cc
-some_escape slash letter d rest (Some x) is e = let same : x ≡ d = cc in record { slash = slash; letter = letter; rest = rest; parts = refl; stands = is ∙ ap Some same }
-
-at_slash : (slash d : ℕ) (cs : List ℕ) → escape_at cs ≡ Escape d → IsEscape (slash ∷ cs) d
-at_slash slash d [] e = absurd cc
-at_slash slash d (letter ∷ rest) e = some_escape slash letter d rest (escape_of letter) refl e
-
-at_stop : (c d : ℕ) (cs : List ℕ) (a b : Bool) → cond a Quote (cond b (escape_at cs) (Flawed Endless)) ≡ Escape d → IsEscape (c ∷ cs) d
-at_stop c d cs true b e = absurd cc
-at_stop c d cs false true e = at_slash c d cs e
-at_stop c d cs false false e = absurd cc
-
-escape_is : (quote d : ℕ) (text : List ℕ) → stop_at quote text ≡ Escape d → IsEscape text d
+-- a backslash and a byte that stand for a character, which is ASCII as that byte is
+escape_is : (quote d : ℕ) (text : List ℕ) → stop_at quote text ≡ Escape d → (2 ≤ length text) × (get_or text 1 0 < 128) × (d < 128)
 escape_is quote d [] e = absurd cc
-escape_is quote d (c ∷ cs) e = at_stop c d cs (eqb c quote) (eqb c 92) e
+escape_is quote d (c ∷ []) e = absurd (grind (arith, e))
+escape_is quote d (c ∷ letter ∷ rest) e = (omega arith, grind (arith, nat_tests, e), grind (arith, nat_tests, e))
 
 pub escape_cut : (quote d : ℕ) (text : List ℕ) → IsUtf8 text → stop_at quote text ≡ Escape d → IsCharBoundary text 2
 escape_cut quote d text u e =
     let is = escape_is quote d text e in
-    let two : IsUtf8 (is.slash ∷ is.letter ∷ is.rest) = subst IsUtf8 is.parts u in
-    subst (λ (xs : List ℕ). IsCharBoundary xs 2) (sym is.parts) (IsCharBoundary-after_ascii (is.slash ∷ is.letter ∷ is.rest) 1 two (omega arith) (letter_small is.letter d is.stands))
+    IsCharBoundary-after_ascii text 1 u (omega (arith, is.0)) is.1
 
 pub reads_escape : (quote d : ℕ) (string after text new left : List ℕ) → ReadsOn quote string after text → prefix_len (is_plain quote) after ≡ 0 → stop_at quote after ≡ Escape d
     → new ≡ string ++ d ∷ [] → left ≡ drop 2 after → ReadsOn quote new left text
 reads_escape quote d string after text new left h none stop pushed left_is =
     let is = escape_is quote d after stop in
-    let small = escape_small is.letter d is.stands in
-    let ascii : IsAscii (d ∷ []) = one_ascii d small in
+    let ascii : IsAscii (d ∷ []) = one_ascii d is.2 in
     let here : string_at quote false after ≡ with_front (d ∷ []) 2 (string_at quote false left) =
     stops quote after none ∙ ap (after_stop quote after) stop ∙ ap (λ (xs : List ℕ). with_front (d ∷ []) 2 (string_at quote false xs)) (sym left_is) in
     record {
@@ -86,7 +58,7 @@ reads_escape quote d string after text new left h none stop pushed left_is =
       is = pushed ∙ ap (λ (xs : List ℕ). xs ++ d ∷ []) h.is ∙ ap (λ (xs : List ℕ). chars h.front ++ xs) (sym (chars-IsAscii (d ∷ []) ascii)) ∙ sym (chars-append h.front (d ∷ []) h.utf8);
       count = h.count + 2;
       so_far = sym (with_front_twice h.front (d ∷ []) h.count 2 (string_at quote false left)) ∙ ap (with_front h.front h.count) (sym here) ∙ h.so_far;
-      len = omega (arith, h.len, ap length left_is, ap length is.parts, length-drop 2 after);
+      len = omega (arith, h.len, ap length left_is, is.0, length-drop 2 after);
     }
   where
     one_ascii : (d : ℕ) → d < 128 → IsAscii (d ∷ [])

@@ -1,8 +1,8 @@
 use Rattle.std.proofs.Common.{◌≡◌, List, take, arith, length, ap, subst, sym, ◌∙◌, IsUtf8}
-use Rattle.kt_script.proofs.Common.{IsUtf8-drop, line_past, Place, Stmt}
+use Rattle.kt_script.proofs.Common.{nil_from_length, IsUtf8-drop, line_past, Place, Stmt}
 use Rattle.std.proofs.lemmas.Result.{err_from_is_err_and}
 use Rattle.kt_script.proofs.PieceCuts.{piece_cut}
-use Rattle.kt_script.proofs.Going.{goes_on, stops, ends_ok, ends_fault, none_left}
+use Rattle.kt_script.proofs.Going.{goes_on, stops, ends_ok, ends_fault}
 use Rattle.kt_script.proofs.script.statements.Goals as goal
 
 pub split_at-requires : goal.split_at-requires
@@ -31,8 +31,8 @@ loop-rest-preserved c =
 
 pub returns-clause-ok : goal.returns-clause-ok
 returns-clause-ok c = ends_ok c.finish.result c.loop-rest.place c.loop-rest.parser c.loop-rest.line c.loop-rest.rest.now c.args.text.now c.loop-rest.invariant.0
-    (none_left c.loop-rest.rest.now (grind arith)) c.finish.ensures.ok
+    (nil_from_length c.loop-rest.rest.now (grind arith)) c.finish.ensures.ok
 
 pub returns-clause-fault : goal.returns-clause-fault
 returns-clause-fault c = ends_fault c.finish.result c.loop-rest.place c.loop-rest.parser c.loop-rest.line c.loop-rest.rest.now c.args.text.now c.loop-rest.invariant.0
-    (none_left c.loop-rest.rest.now (grind arith)) c.finish.ensures.fault
+    (nil_from_length c.loop-rest.rest.now (grind arith)) c.finish.ensures.fault
