@@ -73,15 +73,12 @@ behind_statements file (first ∷ rest) _ qs (a_wrong _ _ a e) (a_right _ _ _ f 
 behind_statements file (first ∷ rest) ps _ (a_right _ _ _ e h) (a_wrong _ _ b f) = let z = sym e ∙ f in absurd (cc)
 behind_statements file (first ∷ rest) ps qs (a_right _ _ _ e h) (a_right _ _ _ f k) = statements_agree file None rest ps qs h k
 
-behind_text : (file text : List ℕ) (why : ScriptFault) (stmts : List Stmt) (ps qs : List Part) → IsDue text why → Spells text stmts → AgreeParts ps qs
-behind_text file text why stmts ps qs i s = absurd (not_both text stmts why s i)
-
 behind_answer : (file : List ℕ) (answer : Result (List ℕ) ReadFault) (ps qs : List Part) → AfterAnswer file answer ps → AfterAnswer file answer qs → AgreeParts ps qs
 behind_answer file (Err why) _ _ (b_unread _) (b_unread _) = same_part _ [] [] no_parts
 behind_answer file (Ok text) _ _ (b_faulty _ f i) (b_faulty _ g j) =
     subst (λ (z : ScriptFault). AgreeParts (Says (Fault (fault_at file (script_line f) (Script f))) ∷ []) (Says (Fault (fault_at file (script_line z) (Script z))) ∷ [])) (two_due text f g i j) (same_part _ [] [] no_parts)
-behind_answer file (Ok text) _ qs (b_faulty _ f i) (b_script _ stmts _ s b) = behind_text file text f stmts _ qs i s
-behind_answer file (Ok text) ps _ (b_script _ stmts _ s b) (b_faulty _ f i) = behind_text file text f stmts ps _ i s
+behind_answer file (Ok text) _ qs (b_faulty _ f i) (b_script _ stmts _ s b) = absurd (not_both text stmts f s i)
+behind_answer file (Ok text) ps _ (b_script _ stmts _ s b) (b_faulty _ f i) = absurd (not_both text stmts f s i)
 behind_answer file (Ok text) ps qs (b_script _ stmts _ s a) (b_script _ other _ t b) =
     behind_statements file stmts ps qs a (subst (λ (z : List Stmt). AfterStatements file z qs) (two_spelled text other stmts t s) b)
 

@@ -1,5 +1,5 @@
 -- A path whose components are appended one by one.
-use Rattle.std.proofs.Common.{◌≡◌, ℕ, Bool, true, false, List, [], ◌∷◌, ◌++◌, refl, ◌∙◌, cond, if◌then◌else◌, append_assoc, filter}
+use Rattle.std.proofs.Common.{arith, ◌≡◌, ℕ, Bool, true, false, List, [], ◌∷◌, ◌++◌, refl, ◌∙◌, cond, if◌then◌else◌, append_assoc, filter}
 use Rattle.kt_suite.proofs.Common.{join_with_byte, with_component, counts}
 
 -- a path with further components
@@ -22,10 +22,8 @@ glued-first part (next ∷ parts) = refl
 
 with-glued : (c : ℕ) (path : List ℕ) (parts : List (List ℕ)) → with_components (c ∷ path) parts ≡ glued (c ∷ path) (filter counts parts)
 with-glued c path [] = refl
-with-glued c path (part ∷ parts) = elim (counts part) as (λ b. with_components (if b then c ∷ path ++ 47 ∷ part else c ∷ path) parts ≡ glued (c ∷ path) (cond b (part ∷ filter counts parts) (filter counts parts))) [
-  | true ↦ with-glued c (path ++ 47 ∷ part) parts ∙ glued-more (c ∷ path) part (filter counts parts)
-  | false ↦ with-glued c path parts
-]
+with-glued c path (part ∷ parts) =
+    grind (arith, with-glued c (path ++ 47 ∷ part) parts ∙ glued-more (c ∷ path) part (filter counts parts), with-glued c path parts)
 
 first_part : (part : List ℕ) (parts : List (List ℕ)) (b : Bool) → counts part ≡ b → with_components [] parts ≡ join_with_byte 47 (filter counts parts)
     → with_components (if b then part else []) parts ≡ join_with_byte 47 (cond b (part ∷ filter counts parts) (filter counts parts))

@@ -65,15 +65,12 @@ cuts_same n k _ _ _ _ ps _ f _ (both_ask q r _ _ e a) s (c_asks _ _ _ ms qs _ _ 
 cuts_same n k _ _ _ _ _ os _ g (both_ask q r _ _ e a) s (c_stop _ _ _ ms x d) (c_asks _ _ _ ns rs _ _ c) = elim d [ ]
 cuts_same n k _ _ _ _ _ _ _ _ (both_ask q r _ _ e a) s (c_stop _ _ _ ms x d) (c_stop _ _ _ ns y h) = elim d [ ]
 
-no_fault : (f : SuiteFault) (fs : List SuiteFault) → f ∷ fs ≡ [] → ⊥
-no_fault f fs e = absurd (cc)
-
 cut_all : (n k : ℕ) (ms : List Mark) → faults_in ms ≡ [] → n + files_in ms ≤ file_limit → k + length (programs_in ms) ≤ program_limit → Cut n k ms (questions_in ms) (programs_in ms) None
 cut_all n k [] e f p = c_end n k
 cut_all n k (Asks q ∷ ms) e f p = c_asks n k q ms _ _ _ (cut_all n k ms e f p)
 cut_all n k (File at ∷ ms) e f p = c_file n k at ms _ _ _ (omega (arith, f)) (cut_all (n + 1) k ms e (omega (arith, f)) p)
 cut_all n k (Listed at x ∷ ms) e f p = c_listed n k at x ms _ _ _ (omega (arith, p)) (cut_all n (k + 1) ms e f (omega (arith, p)))
-cut_all n k (Fault x ∷ ms) e f p = absurd (no_fault x (faults_in ms) e)
+cut_all n k (Fault x ∷ ms) e f p = absurd (cc)
 
 cut_front : (n k : ℕ) (ms back : List Mark) (m : Mark) (fault : SuiteFault) (u v : ℕ) → u ≡ n + files_in ms → v ≡ k + length (programs_in ms) → faults_in ms ≡ [] → u ≤ file_limit → v ≤ program_limit → Decides u v m fault
     → (ps : List Program) × Cut n k (ms ++ m ∷ back) (questions_in ms) ps (Some fault)
@@ -84,7 +81,7 @@ cut_front n k [] back m fault u v a b e f p d =
 cut_front n k (Asks q ∷ ms) back m fault u v a b e f p d = let c = cut_front n k ms back m fault u v a b e f p d in (c.0, c_asks n k q _ _ _ _ c.1)
 cut_front n k (File at ∷ ms) back m fault u v a b e f p d = let c = cut_front (n + 1) k ms back m fault u v (omega (arith, a)) b e f p d in (c.0, c_file n k at _ _ _ _ (omega (arith, a, f)) c.1)
 cut_front n k (Listed at x ∷ ms) back m fault u v a b e f p d = let c = cut_front n (k + 1) ms back m fault u v a (omega (arith, b)) e f p d in (x ∷ c.0, c_listed n k at x _ _ _ _ (omega (arith, b, p)) c.1)
-cut_front n k (Fault x ∷ ms) back m fault u v a b e f p d = absurd (no_fault x (faults_in ms) e)
+cut_front n k (Fault x ∷ ms) back m fault u v a b e f p d = absurd (cc)
 
 -- what is registered comes from a cut of what the tree gives
 data Comes (asked : List Asked) (root : List ℕ) : Outcome → Type 0 where

@@ -1,6 +1,7 @@
 -- The pairs of a table are taken one by one.
-use Rattle.std.proofs.Common.{Option, Some, None, Result, Ok, Err, ◌≡◌, List, [], ◌∷◌, ◌++◌, length, arith, refl, sym, ap, ◌∙◌}
+use Rattle.std.proofs.Common.{Option, Some, None, Result, Ok, Err, ◌≡◌, List, [], ◌∷◌, ◌++◌, length, arith, sym, ap, ◌∙◌}
 use Rattle.kt_suite.proofs.Common.{append_assoc, append-nil, Variable, Pair, SuiteCause, ProgramTable, table_with, option_or, definition, definitions, pair_fault, first_fault, table_of, unless, declared}
+use Rattle.std.proofs.lemmas.List.{nil_from_length}
 
 -- none of the pairs so far is refused, and they are what was found
 pub record TableSoFar (found : ProgramTable) (rest pairs : List Pair) : Type 0 where
@@ -38,13 +39,9 @@ table_stops found cause pair after rest pairs e s h =
     ap (λ (f : Option SuiteCause). unless f (table_of (definitions pairs)))
     (ap (λ (f : Option SuiteCause). option_or f (first_fault (definitions after))) (sym u) ∙ left_fault pair after rest pairs e s.fault)
 
-none_left : (rest : List Pair) → length rest ≡ 0 → rest ≡ []
-none_left [] e = refl
-none_left (x ∷ xs) e = absurd (omega (arith, e))
-
 pub table_all : (found : ProgramTable) (rest pairs : List Pair) → length rest ≡ 0 → TableSoFar found rest pairs → ◌≡◌ {A = Result ProgramTable SuiteCause} (Ok found) (declared pairs)
 table_all found rest pairs e s =
-    let n = none_left rest e in
+    let n = nil_from_length rest e in
     let whole : s.before ≡ definitions pairs = sym (append-nil s.before) ∙ ap (λ (ps : List Pair). s.before ++ definitions ps) (sym n) ∙ s.whole in
     ap (λ (t : ProgramTable). Ok t) (s.is ∙ ap table_of whole)
     ∙ ap (λ (f : Option SuiteCause). unless f (table_of (definitions pairs))) (ap (λ (ps : List Pair). first_fault (definitions ps)) (sym n) ∙ s.fault)

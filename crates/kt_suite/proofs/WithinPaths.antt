@@ -1,6 +1,7 @@
 -- Paths that lie within others, and their bytes.
-use Rattle.std.proofs.Common.{◌≡◌, ℕ, Bool, true, false, List, [], ◌∷◌, ◌++◌, refl, sym, ap, ◌∙◌, arith, drop, length, encode_utf8_all, ◌==◌}
+use Rattle.std.proofs.Common.{◌≡◌, ℕ, true, false, List, [], ◌∷◌, ◌++◌, refl, sym, ap, ◌∙◌, arith, drop, length, encode_utf8_all, ◌==◌}
 use Rattle.kt_suite.proofs.Common.{chars, IsUtf8, eq-eqb, eqb-true, and_parts, is_within}
+use Rattle.std.proofs.lemmas.Bool.{false_from_ne_true}
 use Rattle.std.proofs.lemmas.Str.{encodes-chars, chars-append, encodes-append, encode_ascii}
 use Rattle.std.proofs.lemmas.List.Prefix.{front_rest}
 
@@ -23,17 +24,12 @@ pub within-found : (directory path rest : List ℕ) → IsUtf8 directory → pat
 within-found directory path rest u e =
     sym (ap (λ (p : List ℕ). is_within (chars directory) p) (ap chars e ∙ chars-append directory rest u) ∙ within-append (chars directory) (chars rest))
 
-none-next : (directory path : List ℕ) → IsUtf8 directory → IsUtf8 path → ((rest : List ℕ) → path ≡ directory ++ rest → ⊥)
-    → (b : Bool) → is_within (chars directory) (chars path) ≡ b → false ≡ is_within (chars directory) (chars path)
-none-next directory path u v lacks false e = sym e
-none-next directory path u v lacks true e =
-    let parts : (rest : List ℕ) × (chars path ≡ chars directory ++ rest) = append-within (chars directory) (chars path) e in
-    absurd (lacks (encode_utf8_all parts.0)
-    (sym (encodes-chars path v) ∙ ap encode_utf8_all parts.1 ∙ encodes-append (chars directory) parts.0 ∙ ap (λ (bs : List ℕ). bs ++ encode_utf8_all parts.0) (encodes-chars directory u)))
-
 -- bytes that don't
 pub within-none : (directory path : List ℕ) → IsUtf8 directory → IsUtf8 path → ((rest : List ℕ) → path ≡ directory ++ rest → ⊥) → false ≡ is_within (chars directory) (chars path)
-within-none directory path u v lacks = none-next directory path u v lacks (is_within (chars directory) (chars path)) refl
+within-none directory path u v lacks = sym (false_from_ne_true (is_within (chars directory) (chars path)) (λ e.
+    let parts : (rest : List ℕ) × (chars path ≡ chars directory ++ rest) = append-within (chars directory) (chars path) e in
+    lacks (encode_utf8_all parts.0)
+    (sym (encodes-chars path v) ∙ ap encode_utf8_all parts.1 ∙ encodes-append (chars directory) parts.0 ∙ ap (λ (bs : List ℕ). bs ++ encode_utf8_all parts.0) (encodes-chars directory u))))
 
 -- a path that is over or goes on with a slash, in bytes
 ends-encoded : (rest : List ℕ) → is_within [] rest ≡ true → is_within [] (encode_utf8_all rest) ≡ true
@@ -42,18 +38,13 @@ ends-encoded (c ∷ rest) e =
     let slash : c ≡ 47 = eqb-true c 47 e in
     ap (λ (x : ℕ). is_within [] (encode_utf8_all (x ∷ rest))) slash ∙ ap (λ (bs : List ℕ). is_within [] (bs ++ encode_utf8_all rest)) (encode_ascii 47 (omega arith))
 
-past-next : (directory path : List ℕ) → IsUtf8 directory → IsUtf8 path → is_within [] (drop (length directory) path) ≡ false
-    → (b : Bool) → is_within (chars directory) (chars path) ≡ b → false ≡ is_within (chars directory) (chars path)
-past-next directory path u v goes false e = sym e
-past-next directory path u v goes true e =
+-- a path that goes on otherwise behind as many bytes as the directory has
+pub within-past : (directory path : List ℕ) → IsUtf8 directory → IsUtf8 path → is_within [] (drop (length directory) path) ≡ false → false ≡ is_within (chars directory) (chars path)
+within-past directory path u v goes = sym (false_from_ne_true (is_within (chars directory) (chars path)) (λ e.
     let parts : (rest : List ℕ) × (chars path ≡ chars directory ++ rest) = append-within (chars directory) (chars path) e in
     let over : is_within [] parts.0 ≡ true = sym (within-append (chars directory) parts.0) ∙ ap (λ (p : List ℕ). is_within (chars directory) p) (sym parts.1) ∙ e in
     let bytes : path ≡ directory ++ encode_utf8_all parts.0 =
     sym (encodes-chars path v) ∙ ap encode_utf8_all parts.1 ∙ encodes-append (chars directory) parts.0 ∙ ap (λ (bs : List ℕ). bs ++ encode_utf8_all parts.0) (encodes-chars directory u) in
     let true_too : is_within [] (drop (length directory) path) ≡ true =
     ap (λ (bs : List ℕ). is_within [] bs) (front_rest path directory (encode_utf8_all parts.0) bytes) ∙ ends-encoded parts.0 over in
-    absurd (let n : false ≡ true = sym goes ∙ true_too in cc)
-
--- a path that goes on otherwise behind as many bytes as the directory has
-pub within-past : (directory path : List ℕ) → IsUtf8 directory → IsUtf8 path → is_within [] (drop (length directory) path) ≡ false → false ≡ is_within (chars directory) (chars path)
-within-past directory path u v goes = past-next directory path u v goes (is_within (chars directory) (chars path)) refl
+    cc))
