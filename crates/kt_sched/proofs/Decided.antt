@@ -1,5 +1,5 @@
 -- decided cases: which of them are open from a turn on, and which an event opens
-use Rattle.kt_sched.proofs.Common.{ne_eqb, slice_get, filter, take, drop, Some, not, nat_lt, ◌==◌, ◌&&◌, ◌||◌, if◌then◌else◌, ◌≡◌, ◌≢◌, ℕ, zero, suc, ◌+◌, ◌-◌, ◌<◌, ◌≤◌, ◌⊎◌, Bool, true, false, List, [], ◌∷◌, refl, sym, ◌∙◌, ap, arith, inl, inr, and-false, and-true, or-false, and_from, and_parts, cases_Bool, or_left, or_right, list_all, list_any, nat_tests, take-append-drop, filter-append, cases_eq, cases_lt, Job, Event, Trace, Then, active, turns, body_starts, is_open, was_open, is_begun, ahead, IsPlan, HasStarted, AreGone, opened, positions, is_decided, is_undecided}
+use Rattle.kt_sched.proofs.Common.{ne_eqb, slice_get, filter, take, drop, Some, not, nat_lt, ◌==◌, ◌&&◌, ◌||◌, if◌then◌else◌, ◌≡◌, ◌≢◌, ℕ, zero, suc, ◌+◌, ◌-◌, ◌<◌, ◌≤◌, ◌⊎◌, Bool, true, false, List, [], ◌∷◌, refl, sym, ◌∙◌, ap, arith, inl, inr, and-true, or-false, and_from, and_parts, list_all, list_any, nat_tests, take-append-drop, filter-append, cases_eq, cases_lt, Job, Event, Trace, Then, active, turns, body_starts, is_open, was_open, is_begun, ahead, IsPlan, HasStarted, AreGone, opened, positions, is_decided, is_undecided}
 use Rattle.kt_sched.proofs.Lists.{any_none, filter_alike, filter_in, filter_none, get_drop, get_take, list_all_at, list_all_from, mapped_at, none_passes, take_within}
 use Rattle.kt_sched.proofs.Turns.{opens_now, turn_distinct, turn_sorted}
 use Rattle.std.proofs.lemmas.Option.{same_Some}
@@ -30,13 +30,11 @@ any_filtered q p (y ∷ ys) (suc k) x g e f = grind (arith, any_filtered q p ys 
 module _ {plan : List Job} (T : Trace) (p : ℕ) (h : IsPlan plan) (s : HasStarted plan T p) where
   -- the cases before the turn are begun
   begun_before : (j : ℕ) (job : Job) → j < p → slice_get (turns plan) j ≡ Some job → is_begun T job ≡ true
-  begun_before j job l g = elim (cases_Bool (is_decided job)) [
-    | inl d ↦ or_left _ _ d
-    | inr d ↦
-        let q = λ (i : ℕ). i == job.position in
-        let any = any_filtered q is_undecided (take p (turns plan)) j job (get_take (turns plan) p j l ∙ g) (ap not d) (same_number job.position) in
-        or_right (is_decided job) (list_any q (body_starts T)) (ap (list_any q) s ∙ any)
-  ]
+  begun_before j job l g =
+      let q = λ (i : ℕ). i == job.position in
+      let any : is_undecided job ≡ true → list_any q (body_starts T) ≡ true = λ d. ap (list_any q) s
+      ∙ any_filtered q is_undecided (take p (turns plan)) j job (get_take (turns plan) p j l ∙ g) d (same_number job.position) in
+      grind (arith, any)
 
   -- that of the turn is if it is decided
   begun_at : (job : Job) → slice_get (turns plan) p ≡ Some job → is_begun T job ≡ is_decided job
@@ -101,10 +99,7 @@ module _ {plan : List Job} {n : ℕ} {T : Trace} (e : Event) {p q : ℕ} (over :
   passed k job l g d = elim (cases_lt k p) [ inl x ↦ gone.gone k job x g d | inr x ↦ absurd (cc (over.1 k job x l g, d)) ]
 
   not_now : (k : ℕ) (job : Job) → k < q → slice_get (turns plan) k ≡ Some job → opens_now plan n T e job ≡ false
-  not_now k job l g = elim (cases_Bool (is_decided job)) [
-    | inl d ↦ rw (passed k job l g d) (and-false (is_open plan n (Then T e) job))
-    | inr d ↦ rw d refl
-  ]
+  not_now k job l g = grind (arith, passed k job l g)
 
   -- what an event opens is what is open from the turn on
   pub newly_open : filter (opens_now plan n T e) (turns plan) ≡ opened plan n (Then T e) q

@@ -2,7 +2,7 @@
 use Rattle.kt_base.specs.Kinds.{good as is_good}
 use Rattle.kt_sched.specs.declared.sink.Sink as sink
 use Rattle.kt_sched.specs.EntryOf as recorded
-use Rattle.kt_sched.proofs.Common.{slice_get, filter, Option, Some, None, map, Result, Ok, is_some, not, ◌≡◌, ◌≢◌, ℕ, ◌-◌, ◌≤◌, ◌⊎◌, false, List, [], ◌∷◌, ◌++◌, length, take, refl, sym, ◌∙◌, ap, subst, arith, length-append, inl, inr, length-map, map-append, take-append-le, cases_eq, slice_get_within, Entry, Job, SinkFault, Totals, Event, Trace, Then, position_of, event_count, mark_of, history, is_whole, turns, Due, dues, put_at, finished_by, recorded, IsEntry, Gains, IsEntryOf, AreEntries, IsPlan, Fed, has_failed, with_event, IsUpToDate, counted, FailedPut, Counts, if◌then◌else◌, true, cases_lt, Judged, of, Mark, BodyStarted, BodyRefused, BodyEnded, CleanupStarted, CleanupRefused, CleanupEnded, has_whole_history, was_open, AreWhole, WereOpen, NamesEachOnce, list_all, ◌==◌, Bool, ⊤, Start, End, NoEvent, Each, IsMoment, IsStorable, HasMoment, FitsAt}
+use Rattle.kt_sched.proofs.Common.{slice_get, filter, Option, Some, None, map, Result, Ok, is_some, not, ◌≡◌, ◌≢◌, ℕ, ◌-◌, ◌≤◌, ◌⊎◌, false, List, [], ◌∷◌, ◌++◌, length, take, refl, sym, ◌∙◌, ap, subst, arith, length-append, inl, inr, length-map, map-append, take-append-le, cases_eq, slice_get_within, Entry, Job, SinkFault, Totals, Event, Trace, Then, position_of, event_count, mark_of, history, is_whole, turns, Due, dues, put_at, finished_by, recorded, IsEntry, Gains, IsEntryOf, AreEntries, IsPlan, Fed, has_failed, with_event, IsUpToDate, counted, FailedPut, Counts, if◌then◌else◌, true, cases_lt, of, Mark, BodyStarted, BodyRefused, BodyEnded, CleanupStarted, CleanupRefused, CleanupEnded, has_whole_history, AreWhole, WereOpen, NamesEachOnce, list_all, ◌==◌, Bool, ⊤, Start, End, NoEvent, Each, IsMoment, IsStorable, HasMoment, FitsAt}
 use Rattle.kt_sched.proofs.Lists.{in_append, append_left, count-cons, count_by-append, mapped_at, none_past, list_all_at, within_some}
 use Rattle.kt_sched.proofs.Turns.{of_other, opens_now}
 use Rattle.kt_sched.proofs.Once.{NotWhole, Recorded, recorded_event, is_done, names_once}
@@ -152,14 +152,10 @@ four_calls plan T p h b i = elim (cases_lt i (length plan)) [
 -- where every history is whole and every decided case was open, each case is named once
 pub named_once : {plan : List Job} (n : ℕ) (T : Trace) → IsPlan plan → list_all (has_whole_history T) plan ≡ true → WereOpen plan n T → Recorded plan n T
     → NamesEachOnce plan (recorded plan n T)
-named_once {plan} n T p w o r = names_once n T p r (λ i job g. done i job g job.decided refl)
+named_once {plan} n T p w o r = names_once n T p r done
   where
-    by : Job → Option Judged → Bool
-    by job o = if is_some o then was_open plan n T job else has_whole_history T job
-
-    done : (i : ℕ) (job : Job) → slice_get plan i ≡ Some job → (o : Option Judged) → job.decided ≡ o → is_done plan n T job ≡ true
-    done i job g (Some v) d = ap (by job) d ∙ o i job g (ap is_some d)
-    done i job g None d = ap (by job) d ∙ list_all_at (has_whole_history T) plan i job g w
+    done : (i : ℕ) (job : Job) → slice_get plan i ≡ Some job → is_done plan n T job ≡ true
+    done i job g = grind (arith, o i job g, list_all_at (has_whole_history T) plan i job g w)
 
 abbrev HasGoodMoment : Event → Type 0
 HasGoodMoment (Start i role answer) = HasMoment answer

@@ -169,8 +169,7 @@ pub count_alike : {X Y : Type 0} (p : X → Bool) (q : Y → Bool) (xs : List X)
     → ((i : ℕ) (x : X) (y : Y) → slice_get xs i ≡ Some x → slice_get ys i ≡ Some y → p x ≡ q y) → count_by p xs ≡ count_by q ys
 count_alike p q [] [] e h = refl
 count_alike p q (x ∷ xs) (y ∷ ys) e h =
-    let r = count_alike p q xs ys (omega arith) (λ i a b g k. h (suc i) a b g k) in
-    omega (arith, count-cons p x xs, count-cons q y ys, r, ap (λ (b : Bool). cond {A = ℕ} b 1 0) (h 0 x y refl refl))
+    grind (arith, count-cons p x xs, count-cons q y ys, h 0 x y refl refl, count_alike p q xs ys (omega arith) (λ i a b g k. h (suc i) a b g k))
 count_alike p q xs ys e h = absurd (omega arith)
 
 pub count_by-append : {X : Type 0} (p : X → Bool) (xs ys : List X) → count_by p (xs ++ ys) ≡ count_by p xs + count_by p ys

@@ -1,6 +1,6 @@
 -- the run loop: what holds before each turn, and how each answer keeps it
 use Rattle.kt_base.specs.Kinds.{good as is_good}
-use Rattle.kt_sched.proofs.Common.{Bool, option_map, Option, Some, None, is_some, not, Ok, Err, ◌^◌, ◌≡◌, ◌<◌, ℕ, ◌+◌, ◌-◌, true, false, if◌then◌else◌, ◌==◌, List, [], ◌∷◌, ◌++◌, refl, append-nil, append_assoc, length-append, count_by-le-length, false_from_ne_true, cases_eq, filter, take, length, slice_get, slice_get_within, sym, ◌∙◌, ap, subst, arith, Role, Body, Cleanup, Entry, Job, StartAnswer, Ended, SinkFault, Totals, Child, IsEvidence, IsIdle, IsMoment, HasMoment, MayStart, IsPlan, IsEntryOf, AreEntries, IsStorable, Start, End, Each, FitsAt, Trace, event_count, owed, is_owed, history, is_whole, runs, turns, recorded, Due, dues, is_open, running_after_start, running_after_end, pending_after_start, pending_after_end, child_of, CanCount, counted, FailedPut, Fed, after_put, with_event, nothing_fed, IsNext, Follows, NoEvent, Case, Implies, SchedState, Stands, Takes, stage_runs}
+use Rattle.kt_sched.proofs.Common.{Bool, option_map, Option, Some, None, is_some, not, Ok, Err, ◌^◌, ◌≡◌, ◌<◌, ℕ, ◌+◌, ◌-◌, true, false, if◌then◌else◌, ◌==◌, List, [], ◌∷◌, ◌++◌, refl, append-nil, append_assoc, length-append, count_by-le-length, false_from_ne_true, filter, take, length, slice_get, slice_get_within, sym, ◌∙◌, ap, subst, arith, Role, Body, Cleanup, Entry, Job, StartAnswer, Ended, SinkFault, Totals, Child, IsEvidence, IsIdle, IsMoment, HasMoment, MayStart, IsPlan, IsEntryOf, AreEntries, IsStorable, Start, End, Each, FitsAt, Trace, event_count, owed, is_owed, history, is_whole, runs, turns, recorded, Due, dues, is_open, running_after_start, running_after_end, pending_after_start, pending_after_end, child_of, CanCount, counted, FailedPut, Fed, after_put, with_event, nothing_fed, IsNext, Follows, NoEvent, Case, Implies, SchedState, Stands, Takes, stage_runs}
 use Rattle.kt_sched.specs.declared.next.Next.TheVariants as next
 use Rattle.kt_sched.specs.declared.launcher.Launcher as launcher
 use Rattle.kt_sched.specs.declared.sink.Sink as sink
@@ -105,7 +105,7 @@ module _ {L S : Type 0} {l : launcher.Ghosts L} {s : sink.Ghosts S} {plan : List
       stands = z.stands plan n fed (y plan n fed k.stands);
       going = record {
         leads = (mid, job, k.going.leads, place, w);
-        runs = λ j r. u j r ∙ start_runs plan T (l.running mid) k.going.runs i job role r place (p.placed i job place) t.history_is a j (cases_eq j i);
+        runs = λ j r. u j r ∙ start_runs plan T (l.running mid) k.going.runs i job role r place (p.placed i job place) t.history_is a j;
         owes = λ j. v j ∙ (ap (λ y. pending_after_start (l.pending mid) y role j) (p.placed i job place) ∙ t.clears j);
         rules = (k.going.rules, t.fair a m);
       };
@@ -141,7 +141,7 @@ module _ {L S : Type 0} {l : launcher.Ghosts L} {s : sink.Ghosts S} {plan : List
       stands = z.stands plan n fed (y plan n fed k.stands);
       going = record {
         leads = (mid, k.going.leads, v);
-        runs = λ j r. u j r ∙ end_runs plan T (l.running mid) k.going.runs e j ran r (cases_eq j e.position);
+        runs = λ j r. u j r ∙ end_runs plan T (l.running mid) k.going.runs e j ran r;
         owes = λ j. o j ∙ end_owes plan T (l.running mid) k.going.runs e j ran (l.pending mid) (owes x.1 j);
         rules =
             let y = subst (λ (c : Child). IsEvidence c.interface e.role e.evidence) one.1.2 w.2 in

@@ -1,5 +1,5 @@
 -- each position stands in the record order once
-use Rattle.kt_sched.proofs.Common.{ne_eqb, slice_get, filter, count_by, Option, Some, None, is_some, is_none, not, ◌==◌, ◌&&◌, ◌||◌, if◌then◌else◌, ◌≡◌, ◌≢◌, ℕ, suc, ◌+◌, ◌≤◌, Bool, true, false, cond, List, [], ◌∷◌, ◌++◌, length, refl, sym, ◌∙◌, ap, subst, arith, inl, inr, and_from, nat_tests, cases_lt, length-filter, count_by-le-length, slice_get_within, Judged, Job, Event, Trace, NoEvent, Then, position_of, history, is_whole, has_whole_history, turns, finished_by, is_open, was_open, recorded, IsPlan, is_decided, positions, NamesEachOnce}
+use Rattle.kt_sched.proofs.Common.{ne_eqb, slice_get, filter, count_by, Some, ◌==◌, ◌&&◌, if◌then◌else◌, ◌≡◌, ◌≢◌, ℕ, suc, ◌+◌, ◌≤◌, Bool, true, false, cond, List, [], ◌∷◌, ◌++◌, length, refl, sym, ◌∙◌, ap, arith, inl, inr, and_from, nat_tests, cases_lt, length-filter, count_by-le-length, slice_get_within, Job, Event, Trace, NoEvent, Then, position_of, history, is_whole, has_whole_history, turns, finished_by, is_open, was_open, recorded, IsPlan, is_decided, positions, NamesEachOnce}
 use Rattle.kt_sched.proofs.Lists.{counted_one, counted_only, count-cons, count_alike, count_by-append, filter_none, pick, within_some}
 use Rattle.kt_sched.proofs.Turns.{count_turns, history_other, put_at_positions, recorded_more, finishes, opens_now}
 use Rattle.std.proofs.lemmas.Option.{same_Some}
@@ -17,9 +17,6 @@ NotWhole plan T i = (job : Job) → slice_get plan i ≡ Some job → is_whole j
 abbrev pub Recorded : List Job → ℕ → Trace → Type 0
 Recorded plan n T = (q : ℕ → Bool) → count_by q (recorded plan n T) ≡ count_by (λ job. q job.position && is_done plan n T job) plan
 
-count_pick : {X : Type 0} (f : X → Bool) (b : Bool) (x : X) (xs : List X) → count_by f (pick b x xs) ≡ cond {A = ℕ} (f x && b) 1 0 + count_by f xs
-count_pick f b x xs = grind (arith, count-cons f x xs)
-
 count_positions : (q : ℕ → Bool) (p : Job → Bool) (xs : List Job) → count_by q (positions (filter p xs)) ≡ count_by (λ job. q job.position && p job) xs
 count_positions q p xs = mapped (filter p xs) ∙ filtered xs
   where
@@ -30,17 +27,7 @@ count_positions q p xs = mapped (filter p xs) ∙ filtered xs
     filtered : (ys : List Job) → count_by (λ (job : Job). q job.position) (filter p ys) ≡ count_by (λ job. q job.position && p job) ys
     filtered [] = refl
     filtered (y ∷ ys) =
-        omega (arith, filtered ys, count_pick (λ (job : Job). q job.position) (p y) y (filter p ys), count-cons (λ job. q job.position && p job) y ys)
-
--- a case that was done, that an event finishes or that it opens is done after it
-abbrev Sum : Bool → Bool → Bool → Bool → Bool → Type 0
-Sum q was finished opened now = cond {A = ℕ} (q && was) 1 0 + (cond (q && finished) 1 0 + cond (q && opened) 1 0) ≡ cond (q && now) 1 0
-
-opened_once : (q h w x : Bool) → Sum q w (h && false) (x && not w) (w || x)
-opened_once q h w x = grind arith
-
-finished_once : (q h v u : Bool) → (h ≡ true → v ≡ false) → (h ≡ false → u ≡ v) → Sum q v (h && (true && (u && not v))) false u
-finished_once q h v u a b = grind (arith, a, b)
+        grind (arith, filtered ys, count-cons (λ (job : Job). q job.position) y (filter p ys), count-cons (λ job. q job.position && p job) y ys)
 
 count_three : {X : Type 0} (a b c d : X → Bool) (xs : List X)
     → ((i : ℕ) (x : X) → slice_get xs i ≡ Some x → cond {A = ℕ} (a x) 1 0 + (cond (b x) 1 0 + cond (c x) 1 0) ≡ cond (d x) 1 0)
@@ -50,32 +37,21 @@ count_three a b c d (x ∷ xs) h =
     omega (arith, h 0 x refl, count_three a b c d xs (λ i y g. h (suc i) y g), count-cons a x xs, count-cons b x xs, count-cons c x xs, count-cons d x xs)
 
 module _ (plan : List Job) (n : ℕ) (T : Trace) (e : Event) (p : IsPlan plan) (h : NotWhole plan T (position_of e)) where
-  each : (q : Bool) (k : ℕ) (job : Job) → slice_get plan k ≡ Some job → (o : Option Judged) → job.decided ≡ o
-      → Sum q (is_done plan n T job) (finishes T e job) (opens_now plan n T e job) (is_done plan n (Then T e) job)
-  each q k job g o d = subst S (sym d) (by o d)
+  -- a case that was done, that the event finishes or that it opens is done after it
+  each : (q : Bool) (k : ℕ) (job : Job) → slice_get plan k ≡ Some job
+      → cond {A = ℕ} (q && is_done plan n T job) 1 0 + (cond (q && finishes T e job) 1 0 + cond (q && opens_now plan n T e job) 1 0)
+      ≡ cond (q && is_done plan n (Then T e) job) 1 0
+  each q k job g = grind (arith, not_yet, other)
     where
-      here : Bool
-      here = job.position == position_of e
+      not_yet : (job.position == position_of e) ≡ true → has_whole_history T job ≡ false
+      not_yet r =
+          let s : job.position ≡ position_of e = grind (arith, nat_tests, r) in
+          ap (λ i. is_whole job (history i T)) s ∙ h job (ap (slice_get plan) (sym s ∙ p.placed k job g) ∙ g)
 
-      S : Option Judged → Type 0
-      S o = Sum q (if is_some o then was_open plan n T job else has_whole_history T job)
-          (here && (is_none o && (has_whole_history (Then T e) job && not (has_whole_history T job)))) (opens_now plan n T e job)
-          (if is_some o then was_open plan n (Then T e) job else has_whole_history (Then T e) job)
-
-      by : (o : Option Judged) → job.decided ≡ o → S o
-      by (Some v) d = opened_once q here (was_open plan n T job) (is_open plan n (Then T e) job)
-      by None d = let none : opens_now plan n T e job ≡ false = rw d refl in
-          rw none (finished_once q here (has_whole_history T job) (has_whole_history (Then T e) job) not_yet other)
-        where
-          not_yet : here ≡ true → has_whole_history T job ≡ false
-          not_yet r =
-              let s : job.position ≡ position_of e = grind (arith, nat_tests, r) in
-              ap (λ i. is_whole job (history i T)) s ∙ h job (ap (slice_get plan) (sym s ∙ p.placed k job g) ∙ g)
-
-          other : here ≡ false → has_whole_history (Then T e) job ≡ has_whole_history T job
-          other r =
-              let apart : job.position ≢ position_of e = λ s. cc (ap (λ i. i == position_of e) s, same_number (position_of e), r) in
-              ap (is_whole job) (history_other (position_of e) job.position T e refl apart)
+      other : (job.position == position_of e) ≡ false → has_whole_history (Then T e) job ≡ has_whole_history T job
+      other r =
+          let apart : job.position ≢ position_of e = grind (arith, nat_tests, r) in
+          ap (is_whole job) (history_other (position_of e) job.position T e refl apart)
 
   pub recorded_event : Recorded plan n T → Recorded plan n (Then T e)
   recorded_event r q =
@@ -87,7 +63,7 @@ module _ (plan : List Job) (n : ℕ) (T : Trace) (e : Event) (p : IsPlan plan) (
       let three = count_three (λ job. q job.position && is_done plan n T job) (λ job. q job.position && finishes T e job)
       (λ job. q job.position && opens_now plan n T e job)
       (λ job. q job.position && is_done plan n (Then T e) job) plan
-      (λ k job g. each (q job.position) k job g job.decided refl) in
+      (λ k job g. each (q job.position) k job g) in
       omega (arith, all, r q, count_positions q (finishes T e) plan, opens, three)
 
 pub recorded_first : (plan : List Job) (n : ℕ) → Recorded plan n NoEvent
@@ -96,12 +72,11 @@ recorded_first plan n q =
     ∙ (count_positions q (is_open plan n NoEvent) (turns plan)
     ∙ (count_turns (λ job. q job.position && is_open plan n NoEvent job) plan
     ∙ count_alike (λ job. q job.position && is_open plan n NoEvent job) (λ job. q job.position && is_done plan n NoEvent job) plan plan refl
-    (λ i x y g k. ap (λ b. q x.position && b) (at_first x x.decided refl)
+    (λ i x y g k. ap (λ b. q x.position && b) (at_first x)
     ∙ ap (λ (job : Job). q job.position && is_done plan n NoEvent job) (same_Some x y (sym g ∙ k)))))
   where
-    at_first : (job : Job) → (o : Option Judged) → job.decided ≡ o → is_open plan n NoEvent job ≡ is_done plan n NoEvent job
-    at_first job (Some v) d = sym (ap (λ (o : Option Judged). if is_some o then was_open plan n NoEvent job else has_whole_history NoEvent job) d)
-    at_first job None d = rw d refl
+    at_first : (job : Job) → is_open plan n NoEvent job ≡ is_done plan n NoEvent job
+    at_first job = grind arith
 
 count_all : {X : Type 0} (xs : List X) → count_by (λ (x : X). true) xs ≡ length xs
 count_all [] = refl

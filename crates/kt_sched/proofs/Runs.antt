@@ -1,9 +1,8 @@
 -- what runs and what is owed after a trace, as a launcher shows it, and the rules that a trace keeps
-use Rattle.kt_sched.proofs.Common.{ne_eqb, is_some, IfSome, append-nil, ◌≤◌, arith, nat_tests, MayStart, HasMoment, NoEvent, Leads, first, event_count, body_starts, body_start_of, Each, WidthAt, AloneAt, PromptAt, BusyAt, Fed, FitsAt, has_failed, IsUpToDate, MayStartNow, pending_after_start, slice_get, Option, Some, None, if◌then◌else◌, ◌&&◌, ◌≡◌, ◌≢◌, ℕ, ◌⊎◌, ◌==◌, Bool, true, false, List, [], ◌∷◌, ◌++◌, refl, sym, ◌∙◌, ap, subst, inl, inr, option_map, Role, Body, Cleanup, Job, StartAnswer, Ended, Child, child_of, same_role, running_after_start, running_after_end, pending_after_end, with_cleanup_declared, Event, Start, End, Trace, Then, position_of, Mark, BodyStarted, BodyEnded, CleanupStarted, mark_of, end_mark, start_mark, history, owed, declares, is_owed, role_runs, runs}
+use Rattle.kt_sched.proofs.Common.{is_some, IfSome, append-nil, ◌≤◌, arith, nat_tests, MayStart, HasMoment, NoEvent, Leads, first, event_count, body_starts, body_start_of, Each, WidthAt, AloneAt, PromptAt, BusyAt, Fed, FitsAt, has_failed, IsUpToDate, MayStartNow, pending_after_start, slice_get, Option, Some, None, if◌then◌else◌, ◌&&◌, ◌≡◌, ◌≢◌, ℕ, ◌==◌, Bool, true, false, List, [], ◌∷◌, ◌++◌, refl, sym, ◌∙◌, ap, subst, option_map, Role, Body, Cleanup, Job, StartAnswer, Ended, Child, child_of, same_role, running_after_start, running_after_end, pending_after_end, with_cleanup_declared, Event, Start, End, Trace, Then, position_of, Mark, BodyStarted, BodyEnded, CleanupStarted, mark_of, end_mark, start_mark, history, owed, declares, is_owed, role_runs, runs}
 use Rattle.kt_sched.specs.declared.job.StartAnswer.TheVariants as told
 use Rattle.kt_sched.specs.declared.launcher.Launcher as launcher
 use Rattle.kt_sched.proofs.Turns.{history_same, history_other}
-use Rattle.kt_base.proofs.Lists.{same_number}
 
 -- the child at a position of a plan
 abbrev pub child_at : List Job → ℕ → Option Child
@@ -44,20 +43,16 @@ runs_now plan T i r w d = ap (runs_by plan i r) d
 -- what runs and what is owed, from a launcher that shows what ran
 module _ (plan : List Job) (T : Trace) (running : ℕ → Role → Option Child) (h : (j : ℕ) (s : Role) → running j s ≡ running_of plan T j s) where
   -- an event changes what runs of its case in a role, and nothing else
-  changed : (e : Event) (role r : Role) (k : ℕ) (x : Option Child) → (k ≡ position_of e) ⊎ (k ≢ position_of e)
+  changed : (e : Event) (role r : Role) (k : ℕ) (x : Option Child)
       → (if same_role r role then x else running (position_of e) r) ≡ running_of plan (Then T e) (position_of e) r
       → (if k == position_of e && same_role r role then x else running k r) ≡ running_of plan (Then T e) k r
-  changed e role r k x (inl q) y =
-      subst (λ j. (if j == position_of e && same_role r role then x else running j r) ≡ running_of plan (Then T e) j r) (sym q)
-      (ap (λ b. if b && same_role r role then x else running (position_of e) r) (same_number (position_of e)) ∙ y)
-  changed e role r k x (inr q) y =
-      ap (λ b. if b && same_role r role then x else running k r) (ne_eqb k (position_of e) q) ∙ (h k r ∙ sym (runs_other plan T e k r q))
+  changed e role r k x y = grind (arith, nat_tests, y, h k r, runs_other plan T e k r)
 
   module _ (i : ℕ) (job : Job) (role r : Role) (g : slice_get plan i ≡ Some job) (p : job.position ≡ i) (w : history i T ≡ history_before role) where
-    pub start_runs : (a : StartAnswer) (k : ℕ) → (k ≡ i) ⊎ (k ≢ i) → running_after_start running job role a k r ≡ running_of plan (Then T (Start i role a)) k r
-    start_runs (told.Started m) k d =
+    pub start_runs : (a : StartAnswer) (k : ℕ) → running_after_start running job role a k r ≡ running_of plan (Then T (Start i role a)) k r
+    start_runs (told.Started m) k =
         ap (λ j. if k == j && same_role r role then Some (child_of job) else running k r) p
-        ∙ changed (Start i role (told.Started m)) role r k (Some (child_of job)) d (starts role r (h i r ∙ runs_now plan T i r (history_before role) w)
+        ∙ changed (Start i role (told.Started m)) role r k (Some (child_of job)) (starts role r (h i r ∙ runs_now plan T i r (history_before role) w)
         ∙ sym (runs_same plan T (Start i role (told.Started m)) r (history_before role) w))
       where
         starts : (role r : Role) → running i r ≡ runs_by plan i r (history_before role)
@@ -65,21 +60,23 @@ module _ (plan : List Job) (T : Trace) (running : ℕ → Role → Option Child)
         starts Body Body e = sym (ap (option_map child_of) g)
         starts Cleanup Cleanup e = sym (ap (option_map child_of) g)
         starts role r e = e
-    start_runs (told.Refused c) k (inr q) = h k r ∙ sym (runs_other plan T (Start i role (told.Refused c)) k r q)
-    start_runs (told.Refused c) k (inl q) =
-        subst (λ j. running j r ≡ running_of plan (Then T (Start i role (told.Refused c))) j r) (sym q)
-        (h i r ∙ (runs_now plan T i r (history_before role) w ∙ (starts_not role r
-        ∙ sym (runs_same plan T (Start i role (told.Refused c)) r (history_before role) w))))
+    start_runs (told.Refused c) k = grind (arith, nat_tests, here, h k r, runs_other plan T e k r)
       where
+        e : Event
+        e = Start i role (told.Refused c)
+
         starts_not : (role r : Role) → runs_by plan i r (history_before role) ≡ runs_by plan i r (history_before role ++ start_mark role (told.Refused c) ∷ [])
         starts_not Body Body = refl
         starts_not Cleanup Cleanup = refl
         starts_not role r = refl
 
+        here : running i r ≡ running_of plan (Then T e) i r
+        here = h i r ∙ (runs_now plan T i r (history_before role) w ∙ (starts_not role r ∙ sym (runs_same plan T e r (history_before role) w)))
+
   module _ (e : Ended) (k : ℕ) (w : history e.position T ≡ history_while e.role) where
     -- an end stops what ran in its role, and nothing else
-    pub end_runs : (r : Role) → (k ≡ e.position) ⊎ (k ≢ e.position) → running_after_end running e k r ≡ running_of plan (Then T (End e)) k r
-    end_runs r d = changed (End e) e.role r k None d (ends e.role r (h e.position r ∙ runs_now plan T e.position r (history_while e.role) w)
+    pub end_runs : (r : Role) → running_after_end running e k r ≡ running_of plan (Then T (End e)) k r
+    end_runs r = changed (End e) e.role r k None (ends e.role r (h e.position r ∙ runs_now plan T e.position r (history_while e.role) w)
         ∙ sym (runs_same plan T (End e) r (history_while e.role) w))
       where
         ends : (role r : Role) → running e.position r ≡ runs_by plan e.position r (history_while role)
