@@ -1,38 +1,28 @@
 -- The filters of a command, word by word and together.
-use Rattle.std.proofs.Common.{Option, Some, None, Result, Ok, Err, IsErrAnd, find, unwrap_or, option_map, slice_get, if◌then◌else◌, ◌≡◌, ℕ, suc, ◌<◌, Bool, true, false, List, [], ◌∷◌, length, get_or, take, refl, sym, ap, ◌∙◌, subst, ◌⊎◌, inr}
+use Rattle.std.proofs.Common.{arith, Option, Some, None, Result, Ok, Err, IsErrAnd, find, option_map, slice_get, ◌≡◌, ℕ, suc, ◌<◌, Bool, true, false, List, [], ◌∷◌, length, get_or, take, refl, sym, ap, ◌∙◌, subst, ◌⊎◌, inr}
 use Rattle.kt_plan.proofs.Common.{err_from_is_err_and, Filter, FilterFault, ChecksTogether, apart, position_in, shared, Filters, clash, each_of, filters_of, in_front, lacks_case, right, unnamed, unparsed, IsShort, Stop}
 use Rattle.std.proofs.lemmas.Option.{slice_get_read, slice_get_within}
-use Rattle.kt_suite.specs.declared.filter.FilterFault.TheVariants.{Repeated, NotDisjoint}
 use Rattle.kt_suite.specs.Disjoint.{IsDisjoint, IsFirstFault, fault_after, is_same_filter, overlap}
 use Rattle.kt_suite.specs.Disjoint as of
 use Rattle.kt_plan.specs.declared.stop.Stop.TheVariants as stop
 
 -- ---- how many there are
 
-abbrev items_or : {A : Type 0} → List A → Result (List A) Stop → List A
-items_or other (Ok xs) = xs
-items_or other (Err fault) = other
-
 length_in_front : {A : Type 0} (m : Result A Stop) (rest : Result (List A) Stop) (all : List A) (n : ℕ) → in_front m rest ≡ Ok all → ((more : List A) → rest ≡ Ok more → n ≡ length more) → suc n ≡ length all
 length_in_front (Err fault) rest all n e f = absurd (cc)
 length_in_front (Ok one) (Err fault) all n e f = absurd (cc)
-length_in_front {A} (Ok one) (Ok more) all n e f = ap suc (f more refl) ∙ ap (λ (r : Result (List A) Stop). length (items_or all r)) e
+length_in_front {A} (Ok one) (Ok more) all n e f = let same : one ∷ more ≡ all = cc in ap suc (f more refl) ∙ ap (λ (xs : List A). length xs) same
 
 -- each word means one value
 pub length_of_each : {A : Type 0} (meaning : List ℕ → Result A Stop) (words : List (List ℕ)) (all : List A) → each_of meaning words ≡ Ok all → length words ≡ length all
-length_of_each {A} meaning [] all e = ap (λ (r : Result (List A) Stop). length (items_or all r)) e
+length_of_each {A} meaning [] all e = let same : [] ≡ all = cc in ap (λ (xs : List A). length xs) same
 length_of_each meaning (word ∷ words) all e = length_in_front (meaning word) (each_of meaning words) all (length words) e (λ more m. length_of_each meaning words more m)
 
 -- ---- the filter that a fault names
 
-position_by : (b : Bool) (position : ℕ) → position_in (if b then Repeated position else NotDisjoint position) ≡ position
-position_by true position = refl
-position_by false position = refl
-
 position_found : (position : ℕ) (filter : Filter) (found : Option Filter) (fault : FilterFault) → option_map (of.clash position filter) found ≡ Some fault → position_in fault ≡ position
 position_found position filter None fault e = absurd (cc)
-position_found position filter (Some earlier) fault e =
-    sym (ap (λ (o : Option FilterFault). position_in (unwrap_or o fault)) e) ∙ position_by (is_same_filter filter earlier) position
+position_found position filter (Some earlier) fault e = let same : of.clash position filter earlier ≡ fault = cc in rw (← same) (grind arith)
 
 position_behind : (earlier : List Filter) (position : ℕ) (o : Option Filter) (fault : FilterFault) → fault_after earlier position o ≡ Some fault → position_in fault ≡ position
 position_behind earlier position None fault e = absurd (cc)

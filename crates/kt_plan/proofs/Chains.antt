@@ -5,11 +5,13 @@ use Rattle.kt_base.specs.declared.child.Role.{Role}
 
 module _ {W Q : Type 0} {leads : W → Q → W → Type 0} where
   -- the same answers, seen otherwise
-  pub answered-as : {old new : W} {P R : List Q → Type 0} → Answered leads old new P → ((asked : List Q) → P asked → R asked) → Answered leads old new R
+  pub answered-as : {old new : W} {P R : List Q → Type 0} → Answered leads old new P → ((asked : List Q) → P asked → R asked)
+      → Answered leads old new R
   answered-as a f = record { asked = a.asked; chain = a.chain; holds = f a.asked a.holds }
 
   -- answers, and others after them
-  pub answered-then : {old mid new : W} {P R S : List Q → Type 0} → Answered leads old mid P → Answered leads mid new R → ((some more : List Q) → P some → R more → S (some ++ more))
+  pub answered-then : {old mid new : W} {P R S : List Q → Type 0} → Answered leads old mid P → Answered leads mid new R
+      → ((some more : List Q) → P some → R more → S (some ++ more))
       → Answered leads old new S
   answered-then {old} {mid} {new} a b both =
       record { asked = a.asked ++ b.asked; chain = chain-append leads a.asked b.asked old mid new a.chain b.chain; holds = both a.asked b.asked a.holds b.holds }

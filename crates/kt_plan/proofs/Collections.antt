@@ -7,18 +7,12 @@ use Rattle.kt_suite.specs.Faults.{IsNoMemory}
 use Rattle.kt_plan.specs.declared.stop.Stop.TheVariants as stop
 use Rattle.kt_plan.proofs.OfferLaws.{all_first}
 
-err_is : {X Y : Type 0} (r : Result X Y) (x y : Y) → r ≡ Err x → r ≡ Err y → x ≡ y
-err_is r x y e f = cc
-
-no_ok : {X Y : Type 0} (x : X) (y : Y) → Ok x ≡ Err y → ⊥
-no_ok x y e = absurd (cc)
-
 -- memory didn't run out
 never_short : (fault : SuiteFault) → (IsNoMemory fault → ⊥) → RanShort (Err fault) → ⊥
-never_short fault never s = never (s.1.0, err_is (Err fault) fault s.0 refl s.2 ∙ s.1.1)
+never_short fault never s = let e = s.2 in let same : fault ≡ s.0 = cc in never (s.1.0, same ∙ s.1.1)
 
 loaded_all : (programs : List Program) (asked : List Asked) (kyuafile : List ℕ) → LoadsOrShort kyuafile asked (Ok programs) → Loads kyuafile asked (Ok programs)
-loaded_all programs asked kyuafile (inl s) = absurd (no_ok programs s.0.0 s.0.2)
+loaded_all programs asked kyuafile (inl s) = let e = s.0.2 in absurd (cc)
 loaded_all programs asked kyuafile (inr l) = l
 
 -- not more are selected than there are

@@ -81,7 +81,8 @@ module _ {W : Type 0} (tells : W → Told → W → Type 0) where
   module _ (needs : List (Need × List ℕ)) (old : W) (was : Host) where
     -- the questions so far, and what was noted
     abbrev pub Looking : List (Need × List ℕ) → W → Host → Type 0
-    Looking rest new now = Answered tells old new (λ told. ((more : List Told) → LooksFor rest more → LooksFor needs (told ++ more)) × Notes told was now)
+    Looking rest new now =
+        Answered tells old new (λ told. ((more : List Told) → LooksFor rest more → LooksFor needs (told ++ more)) × Notes told was now)
 
     pub looking_next : (rest some after : List (Need × List ℕ)) (mid new : W) (then now : Host) → rest ≡ some ++ after → Looking rest mid then
         → Answered tells mid new (λ told. LooksFor some told × Notes told then now) → Looking after new now

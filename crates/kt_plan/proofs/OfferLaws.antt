@@ -84,7 +84,8 @@ module _ {W : Type 0} (tells : W → Told → W → Type 0) (config : Values) (f
     -- memory ran out at a program
     pub offers_stopped : (rest after : List Program) (program : Program) (mid new : W) (found : List Candidate) → rest ≡ program ∷ after → Offering programs old rest mid found
         → Answered tells mid new (λ told. OffersFirst config filters (program ∷ []) told) → Answered tells old new (λ told. OffersFirst config filters programs told)
-    offers_stopped rest after program mid new found e o a = answered-then o a (λ told asked f h. f.1 asked (rw e (first_before program after asked h)))
+    offers_stopped rest after program mid new found e o a =
+        answered-then o a (λ told asked f h. f.1 asked (rw e (first_before program after asked h)))
 
     pub offers_all : (rest : List Program) (new : W) (found : List Candidate) → length rest ≡ 0 → Offering programs old rest new found → Answered tells old new (λ told. Offers config filters programs told found)
     offers_all rest new found e o = answered-as o (λ told f. rw (append-nil, append-nil) at (f.0 [] [] (rw (nil_from_length rest e) none)))

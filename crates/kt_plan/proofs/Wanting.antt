@@ -1,5 +1,5 @@
 -- Whether some filter selects a case that a program could have.
-use Rattle.std.proofs.Common.{◌≡◌, ℕ, ◌<◌, List, [], ◌∷◌, sym, subst, ◌⊎◌, inl, inr, Contains, arith}
+use Rattle.std.proofs.Common.{◌≡◌, ℕ, ◌<◌, List, [], ◌∷◌, sym, subst, inl, inr, Contains, arith}
 use Rattle.kt_plan.proofs.Common.{Filter, MayMatch}
 use Rattle.std.proofs.lemmas.List.Elements.{Contains-append_left, Contains-append_right, Contains-append_cases, Contains-push, Contains-push_cases}
 
@@ -11,11 +11,7 @@ none_in : (one : Filter) → Contains [] one → ⊥
 none_in one h = absurd (let less : h.0 < 0 = h.1 in omega (arith, less))
 
 only_in : (f one : Filter) → Contains (f ∷ []) one → f ≡ one
-only_in f one h = by (Contains-push_cases [] f one h)
-  where
-    by : Contains [] one ⊎ (f ≡ one) → f ≡ one
-    by (inl c) = absurd (none_in one c)
-    by (inr e) = e
+only_in f one h = elim (Contains-push_cases [] f one h) [ inl c ↦ absurd (none_in one c) | inr e ↦ e ]
 
 -- the filters to come are among all
 abbrev pub AreAmong : List Filter → List Filter → Type 0
@@ -35,11 +31,10 @@ IsAhead rest all path = AnyMatches all path → AnyMatches rest path
 pub ahead_after : (f : Filter) (after rest all : List Filter) (path : List ℕ) → rest ≡ f ∷ after → (MayMatch f path → ⊥) → IsAhead rest all path → IsAhead after all path
 ahead_after f after rest all path e never h any =
     let found = h any in
-    by found.0 found.2 (Contains-append_cases (f ∷ []) after found.0 (subst (λ (xs : List Filter). Contains xs found.0) e found.1))
-  where
-    by : (one : Filter) → MayMatch one path → Contains (f ∷ []) one ⊎ Contains after one → AnyMatches after path
-    by one m (inl c) = absurd (never (subst (λ (x : Filter). MayMatch x path) (sym (only_in f one c)) m))
-    by one m (inr c) = (one, c, m)
+    elim (Contains-append_cases (f ∷ []) after found.0 (subst (λ (xs : List Filter). Contains xs found.0) e found.1)) [
+      | inl c ↦ absurd (never (subst (λ (x : Filter). MayMatch x path) (sym (only_in f found.0 c)) found.2))
+      | inr c ↦ (found.0, c, found.2)
+    ]
 
 pub none_matches : (rest all : List Filter) (path : List ℕ) → rest ≡ [] → IsAhead rest all path → AnyMatches all path → ⊥
 none_matches rest all path e h any =

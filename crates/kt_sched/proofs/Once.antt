@@ -1,6 +1,6 @@
 -- each position stands in the record order once
 use Rattle.kt_sched.proofs.Common.{ne_eqb, slice_get, filter, count_by, Some, ◌==◌, ◌&&◌, if◌then◌else◌, ◌≡◌, ◌≢◌, ℕ, suc, ◌+◌, ◌≤◌, Bool, true, false, cond, List, [], ◌∷◌, ◌++◌, length, refl, sym, ◌∙◌, ap, arith, inl, inr, and_from, nat_tests, cases_lt, length-filter, count_by-le-length, slice_get_within, Job, Event, Trace, NoEvent, Then, position_of, history, is_whole, has_whole_history, turns, finished_by, is_open, was_open, recorded, IsPlan, is_decided, positions, NamesEachOnce}
-use Rattle.kt_sched.proofs.Lists.{counted_one, counted_only, count-cons, count_alike, count_by-append, filter_none, pick, within_some}
+use Rattle.kt_sched.proofs.Lists.{counted_one, counted_only, count-cons, count_alike, count_by-append, filter_none, within_some}
 use Rattle.kt_sched.proofs.Turns.{count_turns, history_other, put_at_positions, recorded_more, finishes, opens_now}
 use Rattle.std.proofs.lemmas.Option.{same_Some}
 use Rattle.kt_base.proofs.Lists.{same_number}

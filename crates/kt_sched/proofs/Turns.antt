@@ -106,7 +106,8 @@ pub finished_is : {plan : List Job} (T : Trace) (e : Event) {job : Job} (b : Boo
     → is_whole job (history (position_of e) T) ≡ false → is_whole job (history (position_of e) (Then T e)) ≡ b
     → positions (finished_by plan T e) ≡ pick b (position_of e) []
 finished_is {plan} T e {job} b h d g w v =
-    ap positions (filter_only (finishes T e) plan i job g (λ k j q n. rw (h.placed k j q, ne_eqb k i n) refl) ∙ ap (λ c. pick c job []) does) ∙ placed b
+    ap positions (filter_only (finishes T e) plan i job g (λ k j q n. rw (h.placed k j q, ne_eqb k i n) refl) ∙ ap (λ c. pick c job []) does)
+    ∙ placed b
   where
     i : ℕ
     i = position_of e

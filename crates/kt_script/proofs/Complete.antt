@@ -104,7 +104,8 @@ abbrev pub reached : ℕ → Step → Place × List Stmt
 reached line s = ((landed line s).0, listed (landed line s).1)
 
 -- the rest of a statement, as tokens
-steps_run : (ts : List Token) (line : ℕ) (s r : Step) → walk s (kinds ts) ≡ Some r → option_map (joined (listed (landed line s).1)) (run (landed line s).0 ts) ≡ Some (reached line r)
+steps_run : (ts : List Token) (line : ℕ) (s r : Step) → walk s (kinds ts) ≡ Some r
+    → option_map (joined (listed (landed line s).1)) (run (landed line s).0 ts) ≡ Some (reached line r)
 steps_run [] line (To q) r e = ap (λ (s : Step). Some (reached line s)) (same_Some (To q) r e)
 steps_run [] line (Ends a) r e = ap (λ (s : Step). Some (reached line s)) (same_Some (Ends a) r e)
 steps_run (t ∷ ts) line (To q) r e =
@@ -131,7 +132,8 @@ name_from_resting Whole t n r e = rw e refl
 name_from_resting (Within line q) t n r e = elim r [ ]
 
 -- a statement's name, and tokens after it
-pub named_runs : (t : Token) (ts : List Token) (p : Place) (n : List ℕ) (s : Step) → IsResting p → t.kind ≡ Name n → walk (To (Named n)) (kinds ts) ≡ Some s
+pub named_runs : (t : Token) (ts : List Token) (p : Place) (n : List ℕ) (s : Step) → IsResting p → t.kind ≡ Name n
+    → walk (To (Named n)) (kinds ts) ≡ Some s
     → run p (t ∷ ts) ≡ Some (reached t.line s)
 named_runs t ts p n s r first leads = rw (name_from_resting p t n r first) (steps_run ts t.line (To (Named n)) s leads)
 

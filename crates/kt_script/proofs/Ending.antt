@@ -22,7 +22,8 @@ parens false = []
 
 -- the rest of a table, and of its statement
 data EndsTable (t : Table) : List Kind → Action → Type 0 where
-  table_ends : {words : List Kind} {pairs : List Pair} → grammar.Pairs words pairs → EndsTable t (words ++ CloseBrace ∷ parens t.in_parens) (Call t.name (arg.Table (t.pairs ++ pairs)))
+  table_ends : {words : List Kind} {pairs : List Pair} → grammar.Pairs words pairs
+      → EndsTable t (words ++ CloseBrace ∷ parens t.in_parens) (Call t.name (arg.Table (t.pairs ++ pairs)))
 
 -- what a brace closes
 closes : (b : Bool) (c a : Action) (w : List Kind) → walk (if b then To (Closing c) else Ends c) w ≡ Some (Ends a) → (w ≡ parens b) × (c ≡ a)
@@ -32,20 +33,23 @@ closes false c a [] e = (refl, cc)
 closes false c a (k ∷ w) e = absurd cc
 
 -- a table without another pair
-closed_at_once : (t : Table) (w : List Kind) (a : Action) → (w ≡ parens t.in_parens) × (Call t.name (arg.Table t.pairs) ≡ a) → EndsTable t (CloseBrace ∷ w) a
+closed_at_once : (t : Table) (w : List Kind) (a : Action) → (w ≡ parens t.in_parens) × (Call t.name (arg.Table t.pairs) ≡ a)
+    → EndsTable t (CloseBrace ∷ w) a
 closed_at_once t w a d =
     let none : EndsTable t (CloseBrace ∷ parens t.in_parens) (Call t.name (arg.Table (t.pairs ++ []))) = table_ends no_pairs in
     rw (d.0, ← d.1) (rw append-nil at none)
 
 -- the last pair of a table
 closed_after : (t : Table) (words : List Kind) (key : List ℕ) (v : Literal) (w : List Kind) (a : Action) → Key words key
-    → (w ≡ parens t.in_parens) × (Call t.name (arg.Table (with_pair t key v).pairs) ≡ a) → EndsTable t (words ++ Equals ∷ token_of v ∷ CloseBrace ∷ w) a
+    → (w ≡ parens t.in_parens) × (Call t.name (arg.Table (with_pair t key v).pairs) ≡ a)
+    → EndsTable t (words ++ Equals ∷ token_of v ∷ CloseBrace ∷ w) a
 closed_after t words key v w a is d =
     let one : EndsTable t ((words ++ Equals ∷ token_of v ∷ []) ++ CloseBrace ∷ parens t.in_parens) (Call t.name (arg.Table (with_pair t key v).pairs)) = table_ends (last_pair is v) in
     rw (d.0, ← d.1) (rw append_assoc at one)
 
 -- a pair that others follow
-pair_and_more : (t : Table) (words : List Kind) (key : List ℕ) (v : Literal) (s : Kind) (w : List Kind) (a : Action) → Key words key → Separator s → EndsTable (with_pair t key v) w a
+pair_and_more : (t : Table) (words : List Kind) (key : List ℕ) (v : Literal) (s : Kind) (w : List Kind) (a : Action) → Key words key → Separator s
+    → EndsTable (with_pair t key v) w a
     → EndsTable t (words ++ Equals ∷ token_of v ∷ s ∷ w) a
 pair_and_more t words key v s w a is sep (table_ends {words = others} {pairs = ps} more) =
     let all : EndsTable t ((words ++ Equals ∷ token_of v ∷ s ∷ others) ++ CloseBrace ∷ parens t.in_parens) (Call t.name (arg.Table (t.pairs ++ pair key v ∷ ps))) = table_ends (pair_and is v sep more) in
@@ -53,7 +57,8 @@ pair_and_more t words key v s w a is sep (table_ends {words = others} {pairs = p
 
 -- a pair, if what follows a separator after it ends a table
 module _ (t : Table) (words : List Kind) (key : List ℕ) (is : Key words key) (w : List Kind) (a : Action) (later : (u : Table) → walk (To (Pairs u)) w ≡ Some (Ends a) → EndsTable u w a) where
-  pair_ends : (v : Literal) (s : Kind) → walk (To (Paired (with_pair t key v))) (s ∷ w) ≡ Some (Ends a) → EndsTable t (words ++ Equals ∷ token_of v ∷ s ∷ w) a
+  pair_ends : (v : Literal) (s : Kind) → walk (To (Paired (with_pair t key v))) (s ∷ w) ≡ Some (Ends a)
+      → EndsTable t (words ++ Equals ∷ token_of v ∷ s ∷ w) a
   pair_ends v Comma e = pair_and_more t words key v Comma w a is comma (later (with_pair t key v) e)
   pair_ends v Semicolon e = pair_and_more t words key v Semicolon w a is semicolon (later (with_pair t key v) e)
   pair_ends v CloseBrace e = closed_after t words key v w a is (closes t.in_parens (Call t.name (arg.Table (with_pair t key v).pairs)) a w e)
@@ -75,7 +80,8 @@ table_is : (t : Table) (w : List Kind) (a : Action) → walk (To (Pairs t)) w �
 table_is t (CloseBrace ∷ w) a e = closed_at_once t w a (closes t.in_parens (Call t.name (arg.Table t.pairs)) a w e)
 table_is t (Name n ∷ Equals ∷ k ∷ s ∷ w) a e = pair_at t (Name n ∷ []) n (by_name n) w a (λ u. table_is u w a) k s e
 table_is t (Name n ∷ Equals ∷ k ∷ []) a e = absurd (no_end t n k a e)
-table_is t (OpenBracket ∷ Quoted n ∷ CloseBracket ∷ Equals ∷ k ∷ s ∷ w) a e = pair_at t (OpenBracket ∷ Quoted n ∷ CloseBracket ∷ []) n (by_text n) w a (λ u. table_is u w a) k s e
+table_is t (OpenBracket ∷ Quoted n ∷ CloseBracket ∷ Equals ∷ k ∷ s ∷ w) a e =
+    pair_at t (OpenBracket ∷ Quoted n ∷ CloseBracket ∷ []) n (by_text n) w a (λ u. table_is u w a) k s e
 table_is t (OpenBracket ∷ Quoted n ∷ CloseBracket ∷ Equals ∷ k ∷ []) a e = absurd (no_end t n k a e)
 table_is t _ a e = absurd cc
 
@@ -90,11 +96,13 @@ name_then : (path : List (List ℕ)) (n : List ℕ) (w : List Kind) (a : Action)
 name_then path n w a (path_ends v more) = rw append_assoc (path_ends v (named_part n more))
 
 -- a string in brackets more
-text_then : (path : List (List ℕ)) (t : List ℕ) (w : List Kind) (a : Action) → EndsPath (path ++ t ∷ []) w a → EndsPath path (OpenBracket ∷ Quoted t ∷ CloseBracket ∷ w) a
+text_then : (path : List (List ℕ)) (t : List ℕ) (w : List Kind) (a : Action) → EndsPath (path ++ t ∷ []) w a
+    → EndsPath path (OpenBracket ∷ Quoted t ∷ CloseBracket ∷ w) a
 text_then path t w a (path_ends v more) = rw append_assoc (path_ends v (quoted_part t more))
 
 -- the value of an assignment
-value_then : (path : List (List ℕ)) (v : Literal) (a : Action) → Some (Ends (Assign path v)) ≡ Some (Ends a) → EndsPath path (Equals ∷ token_of v ∷ []) a
+value_then : (path : List (List ℕ)) (v : Literal) (a : Action) → Some (Ends (Assign path v)) ≡ Some (Ends a)
+    → EndsPath path (Equals ∷ token_of v ∷ []) a
 value_then path v a e =
     let same : Assign path v ≡ a = cc in
     let all : EndsPath path (Equals ∷ token_of v ∷ []) (Assign (path ++ []) v) = path_ends v no_parts in
@@ -116,11 +124,13 @@ ended : (w : List Kind) (b a : Action) → Some (Ends b) ≡ Some (Ends a) → S
 ended w b a e st = let same : b ≡ a = cc in rw (← same) st
 
 -- a table without parentheses
-bare : (n : List ℕ) (w : List Kind) (a : Action) → EndsTable (record { name = n; in_parens = false; pairs = [] }) w a → Statement (Name n ∷ OpenBrace ∷ w) a
+bare : (n : List ℕ) (w : List Kind) (a : Action) → EndsTable (record { name = n; in_parens = false; pairs = [] }) w a
+    → Statement (Name n ∷ OpenBrace ∷ w) a
 bare n w a (table_ends are) = bare_table n are
 
 -- a table in parentheses
-in_parens : (n : List ℕ) (w : List Kind) (a : Action) → EndsTable (record { name = n; in_parens = true; pairs = [] }) w a → Statement (Name n ∷ OpenParen ∷ OpenBrace ∷ w) a
+in_parens : (n : List ℕ) (w : List Kind) (a : Action) → EndsTable (record { name = n; in_parens = true; pairs = [] }) w a
+    → Statement (Name n ∷ OpenParen ∷ OpenBrace ∷ w) a
 in_parens n w a (table_ends are) = call_table n are
 
 -- an assignment
@@ -132,9 +142,12 @@ pub statement_is : (n : List ℕ) (w : List Kind) (a : Action) → walk (To (Nam
 statement_is n (Quoted t ∷ []) a e = ended (Name n ∷ Quoted t ∷ []) (Call n (arg.Value (literal.Text t))) a e (call_text n t)
 statement_is n (OpenBrace ∷ w) a e = bare n w a (table_is (record { name = n; in_parens = false; pairs = [] }) w a e)
 statement_is n (OpenParen ∷ OpenBrace ∷ w) a e = in_parens n w a (table_is (record { name = n; in_parens = true; pairs = [] }) w a e)
-statement_is n (OpenParen ∷ Quoted t ∷ CloseParen ∷ []) a e = ended (Name n ∷ OpenParen ∷ Quoted t ∷ CloseParen ∷ []) (Call n (arg.Value (literal.Text t))) a e (call n (literal.Text t))
-statement_is n (OpenParen ∷ Number m ∷ CloseParen ∷ []) a e = ended (Name n ∷ OpenParen ∷ Number m ∷ CloseParen ∷ []) (Call n (arg.Value (literal.Number m))) a e (call n (literal.Number m))
-statement_is n (OpenParen ∷ Truth b ∷ CloseParen ∷ []) a e = ended (Name n ∷ OpenParen ∷ Truth b ∷ CloseParen ∷ []) (Call n (arg.Value (literal.Truth b))) a e (call n (literal.Truth b))
+statement_is n (OpenParen ∷ Quoted t ∷ CloseParen ∷ []) a e =
+    ended (Name n ∷ OpenParen ∷ Quoted t ∷ CloseParen ∷ []) (Call n (arg.Value (literal.Text t))) a e (call n (literal.Text t))
+statement_is n (OpenParen ∷ Number m ∷ CloseParen ∷ []) a e =
+    ended (Name n ∷ OpenParen ∷ Number m ∷ CloseParen ∷ []) (Call n (arg.Value (literal.Number m))) a e (call n (literal.Number m))
+statement_is n (OpenParen ∷ Truth b ∷ CloseParen ∷ []) a e =
+    ended (Name n ∷ OpenParen ∷ Truth b ∷ CloseParen ∷ []) (Call n (arg.Value (literal.Truth b))) a e (call n (literal.Truth b))
 statement_is n (Dot ∷ w) a e = assigned n (Dot ∷ w) a (path_is (n ∷ []) (Dot ∷ w) a e)
 statement_is n (OpenBracket ∷ w) a e = assigned n (OpenBracket ∷ w) a (path_is (n ∷ []) (OpenBracket ∷ w) a e)
 statement_is n (Equals ∷ w) a e = assigned n (Equals ∷ w) a (path_is (n ∷ []) (Equals ∷ w) a e)

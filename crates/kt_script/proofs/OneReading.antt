@@ -29,7 +29,8 @@ pub word_read : (bytes after : List ℕ) (kind : Kind) → Word bytes after kind
 word_read bytes after kind (a_name {c = c} {cs = cs} {after = rest} letter each stop) = record { piece = name_is c cs rest letter each stop; some = omega arith }
 word_read bytes after kind (a_number {c = c} {cs = cs} {after = rest} each stop small) = record { piece = number_is c cs rest each stop small; some = omega arith }
 word_read bytes after kind (a_string {quote = q} {words = w} {bytes = b} {after = rest} quote inside) = record { piece = string_is q w b rest quote inside; some = omega arith }
-word_read bytes after kind (a_mark {c = c} {kind = k} {after = rest} is) = record { piece = subst (λ (o : Option Kind). IfSome o (λ x. piece_at (c ∷ rest) ≡ token 1 x)) is (mark_read c rest); some = omega arith }
+word_read bytes after kind (a_mark {c = c} {kind = k} {after = rest} is) =
+    record { piece = subst (λ (o : Option Kind). IfSome o (λ x. piece_at (c ∷ rest) ≡ token 1 x)) is (mark_read c rest); some = omega arith }
 word_read bytes after kind (no_word {text = t} {flaw = f} flaw) =
     let r = flaw_read t f flaw in
     record { piece = ap piece_at (append-nil t) ∙ r.0; some = r.1 }

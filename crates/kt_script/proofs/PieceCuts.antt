@@ -15,11 +15,13 @@ pub record IsCut (text : List ℕ) (n : ℕ) : Type 0 where
   pub boundary : IsCharBoundary text n
 
 -- after all the bytes of an ASCII class
-run_cut : (p : ℕ → Bool) → ((c : ℕ) → p c ≡ true → c < 128) → (xs after : List ℕ) → Each p xs → StopsAt p after → IsUtf8 (xs ++ after) → IsCharBoundary (xs ++ after) (length xs)
+run_cut : (p : ℕ → Bool) → ((c : ℕ) → p c ≡ true → c < 128) → (xs after : List ℕ) → Each p xs → StopsAt p after → IsUtf8 (xs ++ after)
+    → IsCharBoundary (xs ++ after) (length xs)
 run_cut p small xs after each stop u = subst (IsCharBoundary (xs ++ after)) (each_run p xs after each stop) (passing_cut p small (xs ++ after) u)
 
 -- after a byte that is ASCII
-last_cut : (xs : List ℕ) (c : ℕ) (after : List ℕ) → c < 128 → IsUtf8 ((xs ++ c ∷ []) ++ after) → IsCharBoundary ((xs ++ c ∷ []) ++ after) (length (xs ++ c ∷ []))
+last_cut : (xs : List ℕ) (c : ℕ) (after : List ℕ) → c < 128 → IsUtf8 ((xs ++ c ∷ []) ++ after)
+    → IsCharBoundary ((xs ++ c ∷ []) ++ after) (length (xs ++ c ∷ []))
 last_cut xs c after small u =
     let all = length-append (xs ++ c ∷ []) after in
     let len : length xs + 1 ≡ length (xs ++ c ∷ []) = omega (arith, length-append xs (c ∷ [])) in
@@ -32,39 +34,48 @@ mark_small : (c : ℕ) (kind : Kind) → mark_of c ≡ Some kind → c < 128
 mark_small c kind is = grind (arith, nat_tests, is)
 
 word_cut : (bytes after : List ℕ) (kind : Kind) → Word bytes after kind → IsUtf8 (bytes ++ after) → IsCharBoundary (bytes ++ after) (length bytes)
-word_cut bytes after kind (a_name {c = c} {cs = cs} {after = rest} letter each stop) u = run_cut is_word word_small (c ∷ cs) rest (ap (λ (b : Bool). b || is_digit c) letter, each) stop u
-word_cut bytes after kind (a_number {c = c} {cs = cs} {after = rest} each stop small) u = run_cut is_digit digit_small (c ∷ cs) rest each (stops_digits rest stop).0 u
-word_cut bytes after kind (a_string {quote = q} {words = w} {after = rest} quote inside) u = last_cut (q ∷ w) q rest (omega (arith, (quote_range q quote).1)) u
+word_cut bytes after kind (a_name {c = c} {cs = cs} {after = rest} letter each stop) u =
+    run_cut is_word word_small (c ∷ cs) rest (ap (λ (b : Bool). b || is_digit c) letter, each) stop u
+word_cut bytes after kind (a_number {c = c} {cs = cs} {after = rest} each stop small) u =
+    run_cut is_digit digit_small (c ∷ cs) rest each (stops_digits rest stop).0 u
+word_cut bytes after kind (a_string {quote = q} {words = w} {after = rest} quote inside) u =
+    last_cut (q ∷ w) q rest (omega (arith, (quote_range q quote).1)) u
 word_cut bytes after kind (a_mark {c = c} {kind = k} {after = rest} is) u = last_cut [] c rest (mark_small c k is) u
-word_cut bytes after kind (no_word {text = t} flaw) u = subst (λ (xs : List ℕ). IsCharBoundary xs (length t)) (sym (append-nil t)) (IsCharBoundary-end t)
+word_cut bytes after kind (no_word {text = t} flaw) u =
+    subst (λ (xs : List ℕ). IsCharBoundary xs (length t)) (sym (append-nil t)) (IsCharBoundary-end t)
 
 -- ---- blanks
 
 -- a comment in long brackets ends with a bracket
 closes_last : (words after : List ℕ) → Closes words after → (front : List ℕ) × (words ≡ front ++ 93 ∷ [])
 closes_last words after closed = (93 ∷ [], refl)
-closes_last words after (not_yet {c = c} {cs = cs} {after = rest} none more) = let last = closes_last cs rest more in (c ∷ last.0, ap (λ (xs : List ℕ). c ∷ xs) last.1)
+closes_last words after (not_yet {c = c} {cs = cs} {after = rest} none more) =
+    let last = closes_last cs rest more in (c ∷ last.0, ap (λ (xs : List ℕ). c ∷ xs) last.1)
 
 newline_small : (c : ℕ) → in_line c ≡ false → c < 128
 newline_small c e = omega (arith, eqb-true c 10 (not-false (eqb c 10) e))
 
-line_cut : (words after : List ℕ) → Each in_line words → StopsAt in_line after → IsCharBoundary (45 ∷ 45 ∷ (words ++ after)) (length (45 ∷ 45 ∷ words))
+line_cut : (words after : List ℕ) → Each in_line words → StopsAt in_line after
+    → IsCharBoundary (45 ∷ 45 ∷ (words ++ after)) (length (45 ∷ 45 ∷ words))
 line_cut words after each stop =
     let here = subst (IsCharBoundary (words ++ after)) (each_run in_line words after each stop) (stopping_cut in_line newline_small (words ++ after)) in
     let len : 2 + length words ≡ length (45 ∷ 45 ∷ words) = omega arith in
     subst (IsCharBoundary (45 ∷ 45 ∷ (words ++ after))) len (IsCharBoundary-from_rest (45 ∷ 45 ∷ (words ++ after)) 2 (length words) (omega arith) here)
 
-long_cut : (words after : List ℕ) → Closes words after → IsUtf8 (45 ∷ 45 ∷ 91 ∷ 91 ∷ (words ++ after)) → IsCharBoundary (45 ∷ 45 ∷ 91 ∷ 91 ∷ (words ++ after)) (length (45 ∷ 45 ∷ 91 ∷ 91 ∷ words))
+long_cut : (words after : List ℕ) → Closes words after → IsUtf8 (45 ∷ 45 ∷ 91 ∷ 91 ∷ (words ++ after))
+    → IsCharBoundary (45 ∷ 45 ∷ 91 ∷ 91 ∷ (words ++ after)) (length (45 ∷ 45 ∷ 91 ∷ 91 ∷ words))
 long_cut words after closes u =
     let last = closes_last words after closes in
     ended last.0 words after last.1 u
   where
-    ended : (xs words after : List ℕ) → words ≡ xs ++ 93 ∷ [] → IsUtf8 (45 ∷ 45 ∷ 91 ∷ 91 ∷ (words ++ after)) → IsCharBoundary (45 ∷ 45 ∷ 91 ∷ 91 ∷ (words ++ after)) (length (45 ∷ 45 ∷ 91 ∷ 91 ∷ words))
+    ended : (xs words after : List ℕ) → words ≡ xs ++ 93 ∷ [] → IsUtf8 (45 ∷ 45 ∷ 91 ∷ 91 ∷ (words ++ after))
+        → IsCharBoundary (45 ∷ 45 ∷ 91 ∷ 91 ∷ (words ++ after)) (length (45 ∷ 45 ∷ 91 ∷ 91 ∷ words))
     ended xs words after is u = rw is (last_cut (45 ∷ 45 ∷ 91 ∷ 91 ∷ xs) 93 after (omega arith) (rw is at u))
 
 -- ---- pieces
 
-read_cut : (bytes after : List ℕ) (kind : Option Kind) → IsRead bytes after kind → IsCharBoundary (bytes ++ after) (length bytes) → IsCut (bytes ++ after) (piece_at (bytes ++ after)).length
+read_cut : (bytes after : List ℕ) (kind : Option Kind) → IsRead bytes after kind → IsCharBoundary (bytes ++ after) (length bytes)
+    → IsCut (bytes ++ after) (piece_at (bytes ++ after)).length
 read_cut bytes after kind read boundary =
     let e : length bytes ≡ (piece_at (bytes ++ after)).length = ap (λ (p : Piece). p.length) (sym read.piece) in
     record { some = subst (λ (n : ℕ). 0 < n) e read.some; boundary = subst (IsCharBoundary (bytes ++ after)) e boundary }

@@ -13,7 +13,8 @@ module _ (P : ℕ → Kind → Type 0) where
   is_mark c n kind true o e here rest = subst (λ (x : ℕ). P x kind) (sym (eqb-true c n e)) here
   is_mark c n kind false o e here rest = rest
 
-  pub every_mark : P 40 OpenParen → P 41 CloseParen → P 123 OpenBrace → P 125 CloseBrace → P 91 OpenBracket → P 93 CloseBracket → P 61 Equals → P 44 Comma → P 59 Semicolon → P 46 Dot
+  pub every_mark : P 40 OpenParen → P 41 CloseParen → P 123 OpenBrace → P 125 CloseBrace → P 91 OpenBracket → P 93 CloseBracket → P 61 Equals
+      → P 44 Comma → P 59 Semicolon → P 46 Dot
       → (c : ℕ) → IfSome (mark_of c) (P c)
   every_mark paren close_paren brace close_brace bracket close_bracket equals comma semicolon dot c =
       is_mark c 40 OpenParen (eqb c 40) _ refl paren (is_mark c 41 CloseParen (eqb c 41) _ refl close_paren
@@ -71,7 +72,8 @@ name_is c cs after e each stop =
 pub digits_are : (c : ℕ) (cs after : List ℕ) → Each is_digit (c ∷ cs) → StopsAt is_digit after
     → piece_at ((c ∷ cs) ++ after) ≡ number ((c ∷ cs) ++ after) (length (c ∷ cs)) (begins_with_letter after) (fits (decimal_from 0 (c ∷ cs)))
 digits_are c cs after each stop =
-    at_digit c (cs ++ after) each.0 ∙ rw (each_run is_digit (c ∷ cs) after each stop, drop-append_seam (c ∷ cs) after, take-append_seam (c ∷ cs) after) refl
+    at_digit c (cs ++ after) each.0
+    ∙ rw (each_run is_digit (c ∷ cs) after each stop, drop-append_seam (c ∷ cs) after, take-append_seam (c ∷ cs) after) refl
 
 pub stops_digits : (after : List ℕ) → StopsAt is_word after → (StopsAt is_digit after) × (begins_with_letter after ≡ false)
 stops_digits [] stop = (tt, refl)

@@ -61,8 +61,10 @@ whole_ended done ts t w is =
     let one : Script (phrase ++ t ∷ []) (placed phrase w.action ∷ []) = ended_and phrase t (whole_statement done ts w) is no_stmts in
     rw (w.begun.parts, w.stmts, append_assoc) (Script-append w.begun.before (phrase ++ t ∷ []) w.earlier (placed phrase w.action ∷ []) w.begun.script one)
 
-enters : (done : List Stmt) (ts : List Token) (t : Token) (n : List ℕ) → Script ts done → t.kind ≡ Name n → Stands (Within t.line (Named n)) (done ++ []) (ts ++ t ∷ [])
-enters done ts t n script is = (record { before = ts; first = t; others = []; parts = refl; script = rw append-nil script; name = n; named = is; leads = refl }, refl)
+enters : (done : List Stmt) (ts : List Token) (t : Token) (n : List ℕ) → Script ts done → t.kind ≡ Name n
+    → Stands (Within t.line (Named n)) (done ++ []) (ts ++ t ∷ [])
+enters done ts t n script is =
+    (record { before = ts; first = t; others = []; parts = refl; script = rw append-nil script; name = n; named = is; leads = refl }, refl)
 
 begin_is : (line : ℕ) (k : Kind) (to : Place × Option Stmt) → begin line k ≡ Some to → (n : List ℕ) × (k ≡ Name n) × (to ≡ (Within line (Named n), None))
 begin_is line (Name n) to e = (n, refl, sym (same_Some (Within line (Named n), None) to e))
@@ -141,7 +143,8 @@ tokens_with [] = ([], refl)
 tokens_with (k ∷ ks) = let r = tokens_with ks in (record { line = 0; kind = k } ∷ r.0, ap (λ (x : List Kind). k ∷ x) r.1)
 
 -- how a statement that was begun may end
-pub finished : (q : State) (done : List Stmt) (ts : List Token) (b : Begun (To q) done ts) → (more : List Token) × (a : Action) × Statement (kinds ((b.first ∷ b.others) ++ more)) a
+pub finished : (q : State) (done : List Stmt) (ts : List Token) (b : Begun (To q) done ts)
+    → (more : List Token) × (a : Action) × Statement (kinds ((b.first ∷ b.others) ++ more)) a
 finished q done ts b =
     let end = some_end q in
     let more = tokens_with end.0 in

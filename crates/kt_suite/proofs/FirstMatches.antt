@@ -14,15 +14,18 @@ use Rattle.kt_suite.proofs.Picking.{kept_all}
 no_position : (test : Filter → Bool) (filters : List Filter) → position test filters ≡ None → length filters ≤ position_or_len test filters
 no_position test filters e = grind (arith, common_steps)
 
-match_at : (item : Item) (filters : List Filter) (k : ℕ) (d : Filter) → k < length filters → is_match filters item k ≡ matches_item item (get_or filters k d)
+match_at : (item : Item) (filters : List Filter) (k : ℕ) (d : Filter) → k < length filters
+    → is_match filters item k ≡ matches_item item (get_or filters k d)
 match_at item filters k d l = ap (is_some_match item) (slice_get-get_or filters k d l)
 
 -- without a first match none matches
-none_match : (item : Item) (filters : List Filter) → first_match filters item ≡ None → (is_matched filters item ≡ false) × ((k : ℕ) → is_match filters item k ≡ false)
+none_match : (item : Item) (filters : List Filter) → first_match filters item ≡ None
+    → (is_matched filters item ≡ false) × ((k : ℕ) → is_match filters item k ≡ false)
 none_match item [] e = (refl, λ k. refl)
 none_match item (f ∷ fs) e =
     let past = no_position (matches_item item) (f ∷ fs) e in
-    let each : (k : ℕ) → k < length (f ∷ fs) → matches_item item (get_or (f ∷ fs) k f) ≡ false = λ k l. fails_before_first (matches_item item) (f ∷ fs) k f (omega (arith, past, l)) in (
+    let each : (k : ℕ) → k < length (f ∷ fs)
+    → matches_item item (get_or (f ∷ fs) k f) ≡ false = λ k l. fails_before_first (matches_item item) (f ∷ fs) k f (omega (arith, past, l)) in (
       list_any_none (matches_item item) (f ∷ fs) (All-from_get_or (λ x. matches_item item x ≡ false) (f ∷ fs) f each),
       λ k. elim (cases_lt k (length (f ∷ fs))) [ inl l ↦ match_at item (f ∷ fs) k f l ∙ each k l | inr l ↦ ap (is_some_match item) (slice_get_past (f ∷ fs) k l) ],
     )

@@ -65,7 +65,8 @@ covered : (program : List ℕ) (part : Option (List ℕ)) (other : List ℕ) (ot
 covered program None other None path case_name e f = within_within program other path e f
 covered program None other (Some own) path case_name e f = grind (arith, e, f, same path other)
 covered program (Some mine) other None path case_name e f = absurd (let h = and_parts (bytes_eq program other) false e in let n : false ≡ true = h.1 in cc)
-covered program (Some mine) other (Some own) path case_name e f = grind (arith, e, f, same program other, same mine own, same path other, same case_name own, same-refl other, same-refl own)
+covered program (Some mine) other (Some own) path case_name e f =
+    grind (arith, e, f, same program other, same mine own, same path other, same case_name own, same-refl other, same-refl own)
 
 shared_by : (filter other : Filter) → covers filter other ≡ true → (path case_name : List ℕ) × IsTrue (matches filter path case_name) × IsTrue (matches other path case_name)
 shared_by filter other e =

@@ -55,7 +55,8 @@ idle_of_all items filters all e =
 -- what one item leaves, the items after it go on with
 pub idle_after : (items : List Item) (filters : List Filter) (item : Item) (after : List Item) (idle left wanted : List ℕ) → items ≡ item ∷ after
     → left ≡ filter (is_miss filters item) idle → filter (is_idle_at items filters) idle ≡ wanted → filter (is_idle_at after filters) left ≡ wanted
-idle_after items filters item after idle left wanted e l w = rw l (sym (kept_both (is_match filters item) (λ place. list_any (λ x. is_match filters x place) after) idle) ∙ (rw e at w))
+idle_after items filters item after idle left wanted e l w =
+    rw l (sym (kept_both (is_match filters item) (λ place. list_any (λ x. is_match filters x place) after) idle) ∙ (rw e at w))
 
 left_by_none : (items : List Item) (filters : List Filter) → length items ≡ 0 → (place : ℕ) → is_idle_at items filters place ≡ true
 left_by_none [] filters e place = refl

@@ -36,7 +36,8 @@ module _ {T : Type 0} (asks : T → Asked → T → Type 0) where
       record {
         asked = questions_in marks;
         chain = c;
-        holds = inl (subst (λ (ps : List Program). Registered (questions_in marks) root (Ok ps)) (sym (totals root_counted after marks k).programs) r);
+        holds =
+            inl (subst (λ (ps : List Program). Registered (questions_in marks) root (Ok ps)) (sym (totals root_counted after marks k).programs) r);
       }
   registered_root old new root _ (stops front back mark mid fault g c k d) =
       let t = totals root_counted mid front k in
@@ -67,4 +68,5 @@ module _ {T : Type 0} (asks : T → Asked → T → Type 0) where
   registered old new root start result e w = registered_root old new root result (subst (λ (s : Registry). Walked asks old new (FileGives s.reading root) s result) e w)
 
   pub few_counted : (old new : T) (root : List ℕ) (start : Registry) (r : Registry) → start ≡ root_counted → Walked asks old new (FileGives start.reading root) start (Ok r) → length r.programs ≤ program_limit
-  few_counted old new root start r e (through marks _ g c k) = let p = ap (λ (s : Registry). length s.programs) e in (totals start r marks k).few_programs (omega (arith, p))
+  few_counted old new root start r e (through marks _ g c k) =
+      let p = ap (λ (s : Registry). length s.programs) e in (totals start r marks k).few_programs (omega (arith, p))

@@ -23,7 +23,8 @@ KeySays n key.Property = (bytes_eq n (codes "name") ≡ false) × (bytes_eq n (c
 KeySays n key.Unknown = Unit {0}
 
 key_says : (n : List ℕ) (k : Key) → k ≡ key_named n → KeySays n k
-key_says n k is = subst (KeySays n) (sym is) (by (bytes_eq n (codes "name")) (bytes_eq n (codes "test_suite")) (is_kyuafile_property n) refl refl refl)
+key_says n k is =
+    subst (KeySays n) (sym is) (by (bytes_eq n (codes "name")) (bytes_eq n (codes "test_suite")) (is_kyuafile_property n) refl refl refl)
   where
     by : (a b c : Bool) → bytes_eq n (codes "name") ≡ a → bytes_eq n (codes "test_suite") ≡ b → is_kyuafile_property n ≡ c
         → KeySays n (if a then key.Name else if b then key.TestSuite else if c then key.Property else key.Unknown)
