@@ -87,28 +87,32 @@ module _ {W : Type 0} (tells : W → Told → W → Type 0) (old new : W) where
       by told (inl s) = inl s
       by told (inr c) = inr (meant told c.meant c.means c.gives)
 
+  -- the definitions that were found, and what follows from them
+  pub with_definitions : {found : Result Values Stop} {config : Values} {path : Option (List ℕ)} {P : List Told → Type 0}
+      (Means : List Told → Result (List Definition) Stop → Type 0) → found ≡ Ok config
+      → Answered tells old new (λ told. OrShort found path told (Configured (Means told) found))
+      → ((told : List Told) (definitions : List Definition) → Means told (Ok definitions) → Gives (Ok config) (Ok definitions) → P told) → Answered tells old new P
+  with_definitions {config = config} {path = path} {P = P} Means e a f =
+      answered-as a (λ told h. by told (subst (λ (o : Result Values Stop). OrShort o path told (Configured (Means told) o)) e h))
+    where
+      meant : (told : List Told) (m : Result (List Definition) Stop) → Means told m → Gives (Ok config) m → P told
+      meant told (Ok definitions) m g = f told definitions m g
+      meant told (Err fault) m g = absurd g
+
+      by : (told : List Told) → OrShort {T = Values} (Ok config) path told (Configured (Means told) (Ok config)) → P told
+      by told (inl s) = absurd s.0
+      by told (inr c) = meant told c.meant c.means c.gives
+
   -- the words of `-v` follow the file
   pub configured_both : (options : CaseOptions) (found outcome : Result Values Stop) (config : Values) → found ≡ Ok config → GivesMore config outcome (words_meaning options.variables) → Reads options.config found
       → Configuration options outcome
-  configured_both options found outcome config e m a =
-      answered-as a (λ told h. by told (subst (λ (o : Result Values Stop). OrShort o options.config told (Configured (ReadsConfig options.config told) o)) e h))
-    where
-      meant : (told : List Told) (r : Result (List Definition) Stop) → ReadsConfig options.config told r → Gives (Ok config) r → Configured (Configures options told) outcome
-      meant told (Ok before) r g = record { meant = behind before (words_meaning options.variables); means = defined before r; gives = m before g }
-      meant told (Err f) r g = absurd g
-
-      by : (told : List Told) → OrShort {T = Values} (Ok config) options.config told (Configured (ReadsConfig options.config told) (Ok config)) → OrShort outcome options.config told (Configured (Configures options told) outcome)
-      by told (inl s) = absurd s.0
-      by told (inr c) = inr (meant told c.meant c.means c.gives)
+  configured_both options found outcome config e m a = with_definitions (ReadsConfig options.config) e a (λ told before r g.
+      inr (record { meant = behind before (words_meaning options.variables); means = defined before r; gives = m before g }))
 
   -- memory ran out after the file
   pub configured_short : (options : CaseOptions) (found outcome : Result Values Stop) (config : Values) → found ≡ Ok config → IsShort outcome → Reads options.config found → Configuration options outcome
   configured_short options found outcome config e short a =
-      answered-as a (λ told h. by told (subst (λ (o : Result Values Stop). OrShort o options.config told (Configured (ReadsConfig options.config told) o)) e h))
-    where
-      by : (told : List Told) → OrShort {T = Values} (Ok config) options.config told (Configured (ReadsConfig options.config told) (Ok config)) → OrShort outcome options.config told (Configured (Configures options told) outcome)
-      by told (inl s) = absurd s.0
-      by told (inr c) = inl (short, file_first options.config told c.meant c.means)
+      with_definitions (ReadsConfig options.config) e a (λ told before r g. inl (short, file_first options.config told (Ok before) r))
 
 -- ---- the words of `-v`
 

@@ -4,7 +4,7 @@ use Rattle.kt_plan.proofs.Common.{err_from_is_err_and, Definition, Values, Answe
 use Rattle.kt_base.specs.declared.no_memory.NoMemory.{NoMemory as OutOfMemory}
 use Rattle.kt_plan.specs.declared.stop.Stop.TheVariants as stop
 use Rattle.kt_plan.proofs.Chains.{answered-as}
-use Rattle.kt_plan.proofs.Configurations.{Configuration, configuration_first}
+use Rattle.kt_plan.proofs.Configurations.{Configuration, configuration_first, with_definitions}
 
 -- memory ran out
 pub stops_short : {T : Type 0} (result : Result T Stop) (refusal : OutOfMemory) → IsErrAnd result (λ e. e ≡ stop.NoMemory refusal) → IsShort result
@@ -32,26 +32,13 @@ module _ {W : Type 0} (tells : W → Told → W → Type 0) (old new : W) (needs
       by told (inr c) = inr (meant told c.meant c.means c.gives)
 
   module _ (found : Result Values Stop) (config : Values) (e : found ≡ Ok config) (a : Configuration tells old new options found) where
-    -- the definitions of the configuration, and what follows from them
-    with_definitions : (P : List Told → Type 0) → ((told : List Told) (definitions : List Definition) → Configures options told (Ok definitions) → Gives (Ok config) (Ok definitions) → P told) → Answered tells old new P
-    with_definitions P f =
-        answered-as a (λ told h. by told (subst (λ (o : Result Values Stop). OrShort o options.config told (Configured (Configures options told) o)) e h))
-      where
-        meant : (told : List Told) (m : Result (List Definition) Stop) → Configures options told m → Gives (Ok config) m → P told
-        meant told (Ok definitions) m g = f told definitions m g
-        meant told (Err fault) m g = absurd g
-
-        by : (told : List Told) → OrShort {T = Values} (Ok config) options.config told (Configured (Configures options told) (Ok config)) → P told
-        by told (inl s) = absurd s.0
-        by told (inr c) = meant told c.meant c.means c.gives
-
     -- the filters are wrong
     pub not_filtered : (read : Result (List Filter) Stop) (result : Result Settings Stop) (fault : Stop) → read ≡ Err fault → IsErrAnd result (λ x. x ≡ fault)
         → IsShort read ⊎ Filters needs_case options.filters read → Settled result
     not_filtered read result fault f r h =
         let p = err_from_is_err_and result r in
-        with_definitions (λ told. SettlesOrShort needs_case options told result)
-        (λ told definitions m g. subst (λ (o : Result Settings Stop). SettlesOrShort needs_case options told o) (sym (p.1 ∙ ap (λ (x : Stop). Err x) p.2))
+        with_definitions tells old new (Configures options) e a (λ told definitions m g.
+        subst (λ (o : Result Settings Stop). SettlesOrShort needs_case options told o) (sym (p.1 ∙ ap (λ (x : Stop). Err x) p.2))
         (by told definitions m (subst (λ (o : Result (List Filter) Stop). IsShort o ⊎ Filters needs_case options.filters o) f h)))
       where
         by : (told : List Told) (definitions : List Definition) → Configures options told (Ok definitions) → IsShort {T = List Filter} (Err fault) ⊎ Filters needs_case options.filters (Err fault)
@@ -63,8 +50,8 @@ module _ {W : Type 0} (tells : W → Told → W → Type 0) (old new : W) (needs
     pub all_settled : (read : Result (List Filter) Stop) (filters : List Filter) → read ≡ Ok filters → IsShort read ⊎ Filters needs_case options.filters read
         → Settled (Ok (record { config = config; filters = filters }))
     all_settled read filters f h =
-        with_definitions (λ told. SettlesOrShort needs_case options told (Ok (record { config = config; filters = filters })))
-        (λ told definitions m g. by told definitions m g (subst (λ (o : Result (List Filter) Stop). IsShort o ⊎ Filters needs_case options.filters o) f h))
+        with_definitions tells old new (Configures options) e a (λ told definitions m g.
+        by told definitions m g (subst (λ (o : Result (List Filter) Stop). IsShort o ⊎ Filters needs_case options.filters o) f h))
       where
         by : (told : List Told) (definitions : List Definition) → Configures options told (Ok definitions) → Gives (Ok config) (Ok definitions)
             → IsShort {T = List Filter} (Ok filters) ⊎ Filters needs_case options.filters (Ok filters)
