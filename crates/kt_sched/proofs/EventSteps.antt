@@ -91,10 +91,7 @@ module _ {plan : List Job} {n : ℕ} {fed : Fed} {b : SchedState} {e : Event} {c
   no_more v = omega (arith, s.active, cond_one (is_active_stage was) v, cond_le (is_active_stage now))
 
   most : a ≤ n
-  most = elim m.kind [
-    | inl f ↦ omega (arith, begun_now f.0, cond_le (is_active_stage now), (s.asked.turned f.1).2, h.cases.width_is)
-    | inr v ↦ omega (arith, no_more v.0, h.cases.most)
-  ]
+  most = grind (arith, m.kind, s.active, fresh_inactive was, s.asked.turned, h.cases.width_is, h.cases.most)
 
   lone : (k : ℕ) (j : Job) (c : Case) → slice_get plan k ≡ Some j → slice_get later k ≡ Some c → j.exclusive ≡ true → is_active_stage c.stage ≡ true → a ≡ 1
   lone k j c x g q z =
