@@ -2,7 +2,7 @@
 use Rattle.kt_base.specs.Kinds.{good as is_good}
 use Rattle.kt_sched.specs.declared.sink.Sink as sink
 use Rattle.kt_sched.specs.EntryOf as recorded
-use Rattle.kt_sched.proofs.Common.{slice_get, filter, Option, Some, None, map, Result, Ok, is_some, not, ◌≡◌, ◌≢◌, ℕ, ◌-◌, ◌≤◌, ◌⊎◌, false, List, [], ◌∷◌, ◌++◌, length, take, refl, sym, ◌∙◌, ap, subst, arith, length-append, inl, inr, length-map, map-append, take-append-le, cases_eq, slice_get_within, Entry, Job, SinkFault, Totals, Event, Trace, Then, position_of, event_count, mark_of, history, is_whole, turns, Due, dues, put_at, finished_by, recorded, IsEntry, Gains, IsEntryOf, AreEntries, IsPlan, Fed, has_failed, with_event, IsUpToDate, counted, FailedPut, Counts, if◌then◌else◌, true, cases_lt, of, Mark, BodyStarted, BodyRefused, BodyEnded, CleanupStarted, CleanupRefused, CleanupEnded, has_whole_history, AreWhole, WereOpen, NamesEachOnce, list_all, ◌==◌, Bool, ⊤, Start, End, NoEvent, Each, IsMoment, IsStorable, HasMoment, FitsAt}
+use Rattle.kt_sched.proofs.Common.{slice_get, filter, Option, Some, None, map, Result, Ok, is_some, not, ◌≡◌, ◌≢◌, ℕ, ◌≤◌, ◌⊎◌, false, List, [], ◌∷◌, ◌++◌, length, take, refl, sym, ◌∙◌, ap, subst, arith, length-append, inl, inr, length-map, map-append, take-append-le, cases_eq, slice_get_within, Entry, Job, SinkFault, Totals, Event, Trace, Then, position_of, event_count, mark_of, history, is_whole, turns, Due, dues, put_at, finished_by, recorded, IsEntry, Gains, IsEntryOf, AreEntries, IsPlan, Fed, has_failed, with_event, IsUpToDate, counted, FailedPut, Counts, if◌then◌else◌, true, cases_lt, of, Mark, BodyStarted, BodyRefused, BodyEnded, CleanupStarted, CleanupRefused, CleanupEnded, has_whole_history, AreWhole, WereOpen, NamesEachOnce, list_all, ◌==◌, Bool, ⊤, Start, End, NoEvent, Each, IsMoment, IsStorable, HasMoment, FitsAt}
 use Rattle.kt_sched.proofs.Lists.{in_append, append_left, count-cons, count_by-append, mapped_at, none_past, list_all_at, within_some}
 use Rattle.kt_sched.proofs.Turns.{of_other, opens_now}
 use Rattle.kt_sched.proofs.Once.{NotWhole, Recorded, recorded_event, is_done, names_once}
@@ -111,7 +111,7 @@ module _ {S : Type 0} {s : sink.Ghosts S} {plan : List Job} {n : ℕ} {fed : Fed
             w.1,
             λ j p l x. elim (in_append (dues plan n fed.trace) (added plan n fed.trace ev) j p x) [
               | inl u ↦ absurd (omega (arith, l, late, same, slice_get_within (dues plan n fed.trace) j p u))
-              | inr u ↦ let m = j - length (dues plan n fed.trace) in due_put k (xs ++ ys) m p (ap (λ (ps : List Due). slice_get ps m) (map-append (due_of k) xs ys) ∙ u.1)
+              | inr u ↦ due_put k (xs ++ ys) u.0 p (ap (λ (ps : List Due). slice_get ps u.0) (map-append (due_of k) xs ys) ∙ u.2)
             ],
           )
       by (Some fault) w =

@@ -1,5 +1,5 @@
 -- lemmas on lists by index, on options and on truth values
-use Rattle.kt_sched.proofs.Common.{◌-◌, slice_get, count_by, sum_by, filter, Some, None, map, if◌then◌else◌, ◌≡◌, ◌≢◌, ℕ, zero, suc, ◌+◌, ◌<◌, ◌≤◌, ◌⊎◌, Bool, true, false, cond, List, [], ◌∷◌, ◌++◌, length, take, drop, refl, sym, ◌∙◌, ap, arith, slice_set, inl, inr, false_from_ne_true, slice_get_cases, sum_by-append, filter-append, length-filter, sum_by-cons, list_all, list_any}
+use Rattle.kt_sched.proofs.Common.{slice_get, count_by, sum_by, filter, Some, None, map, if◌then◌else◌, ◌≡◌, ◌≢◌, ℕ, zero, suc, ◌+◌, ◌<◌, ◌≤◌, ◌⊎◌, Bool, true, false, cond, List, [], ◌∷◌, ◌++◌, length, take, drop, refl, sym, ◌∙◌, ap, arith, slice_set, inl, inr, false_from_ne_true, slice_get_cases, sum_by-append, filter-append, length-filter, sum_by-cons, list_all, list_any}
 use Rattle.std.proofs.lemmas.Grind.{common_steps}
 use Rattle.std.proofs.lemmas.List.{length-take}
 use Rattle.std.proofs.lemmas.List.Sums as sums
@@ -61,8 +61,10 @@ slice_get-set_other xs i j v h = grind (arith, common_steps, gets)
 
 -- an element of two lists in a row stands in one of them
 pub in_append : {X : Type 0} (xs ys : List X) (k : ℕ) (a : X) → slice_get (xs ++ ys) k ≡ Some a
-    → (slice_get xs k ≡ Some a) ⊎ ((length xs ≤ k) × (slice_get ys (k - length xs) ≡ Some a))
-in_append xs ys k a g = grind (arith, common_steps, gets)
+    → (slice_get xs k ≡ Some a) ⊎ ((m : ℕ) × (k ≡ length xs + m) × (slice_get ys m ≡ Some a))
+in_append [] ys k a g = inr (k, omega arith, g)
+in_append (x ∷ xs) ys zero a g = inl g
+in_append (x ∷ xs) ys (suc k) a g = elim (in_append xs ys k a g) [ inl h ↦ inl h | inr w ↦ inr (w.0, omega (arith, w.1), w.2) ]
 
 pub append_left : {X : Type 0} (xs ys : List X) (k : ℕ) (a : X) → slice_get xs k ≡ Some a → slice_get (xs ++ ys) k ≡ Some a
 append_left xs ys k a g = grind (arith, common_steps, gets)

@@ -1,5 +1,5 @@
 -- the turn order, which has every case once and exclusive ones last, and one event more
-use Rattle.kt_sched.proofs.Common.{◌-◌, ne_eqb, nat_tests, ◌⊎◌, slice_get, count_by, filter, Some, not, ◌==◌, ◌≡◌, ◌≢◌, ℕ, ◌+◌, ◌<◌, ◌≤◌, Bool, true, false, cond, List, length, refl, ◌∙◌, ap, arith, inl, inr, false_from_ne_true, sum_by-filter_both, cases_eq, slice_get_within, Job, turns, None, is_none, map, ◌&&◌, [], ◌∷◌, ◌++◌, sym, map-append, Event, Trace, Then, position_of, of, event_count, mark_of, history, is_whole, has_whole_history, Due, dues, put_at, finished_by, is_open, was_open, recorded, IsPlan, positions}
+use Rattle.kt_sched.proofs.Common.{ne_eqb, nat_tests, ◌⊎◌, slice_get, count_by, filter, Some, not, ◌==◌, ◌≡◌, ◌≢◌, ℕ, ◌+◌, ◌<◌, ◌≤◌, Bool, true, false, cond, List, length, refl, ◌∙◌, ap, arith, inl, inr, false_from_ne_true, sum_by-filter_both, cases_eq, slice_get_within, Job, turns, None, is_none, map, ◌&&◌, [], ◌∷◌, ◌++◌, sym, map-append, Event, Trace, Then, position_of, of, event_count, mark_of, history, is_whole, has_whole_history, Due, dues, put_at, finished_by, is_open, was_open, recorded, IsPlan, positions}
 use Rattle.kt_sched.proofs.Lists.{counted_one, counted_some, count_by-append, counted_only, counted_two, filter_in, in_append, pick, filter_only}
 use Rattle.kt_base.proofs.Lists.{same_number}
 
@@ -19,7 +19,7 @@ place_in : (plan : List Job) (k : ℕ) (job : Job) → slice_get (turns plan) k 
 place_in plan k job g = elim (in_append (ordinary plan) (lonely plan) k job g) [
   | inl x ↦ let w = filter_in (λ (job : Job). not job.exclusive) plan k job x in
       ((w.0, w.1), inl (slice_get_within (ordinary plan) k job x, false_from_ne_true job.exclusive (λ e. cc (ap not e, w.2))))
-  | inr x ↦ let w = filter_in (λ (job : Job). job.exclusive) plan (k - length (ordinary plan)) job x.1 in ((w.0, w.1), inr (x.0, w.2))
+  | inr x ↦ let w = filter_in (λ (job : Job). job.exclusive) plan x.0 job x.2 in ((w.0, w.1), inr (omega (arith, x.1), w.2))
 ]
 
 pub turn_inside : (plan : List Job) → Placed plan → (k : ℕ) (job : Job) → slice_get (turns plan) k ≡ Some job → slice_get plan job.position ≡ Some job
