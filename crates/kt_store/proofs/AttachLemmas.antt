@@ -1,11 +1,9 @@
 -- Taking the tables of a database, by what it was.
-use Rattle.std.proofs.Common.{◌≡◌, ◌≢◌, ◌⊎◌, inl, inr, ℤ, pos, List, [], IsTrue, refl, arith}
-use Rattle.kt_store.proofs.Common.{⊤, Trees, Ghosts, Held, state, State, HasCleanDisk, IsLive, IsUnchanged, Survives, survives_then, survives_weaker, Run, Rests, IsStoreFault, Keeps, Tables, OldTables, IsEmpty, StandsInOld, SaysSchema, HasTables, no_schema, StoreFault}
-use Rattle.kt_store.specs.Attaching.{Was, Blank, Current, Older, Numbered, IsOf, Takes, Refuses}
+use Rattle.kt_store.proofs.Common.{Blank, Current, Ghosts, HasCleanDisk, HasTables, Held, IsEmpty, IsLive, IsOf, IsStoreFault, IsTrue, IsUnchanged, Keeps, List, Numbered, OldTables, Older, Refuses, Rests, Run, SaysSchema, StandsInOld, State, StoreFault, Survives, Tables, Takes, Trees, Was, [], arith, inl, inr, no_schema, pos, refl, state, survives_then, survives_weaker, ℤ, ⊤, ◌≡◌, ◌≢◌, ◌⊎◌}
 use Rattle.kt_store.specs.Inner.Attaching.{HasNumber}
 use Rattle.kt_store.proofs.StepLemmas.{rests_hold, rests_then, outlives, either_left, leaves_held}
 use Rattle.kt_store.proofs.MetaLemmas.{says_one, says_two, says_filled, empty_blank, still_holds, still_says}
-use Rattle.kt_store.proofs.ProbeLemmas.{tables_before}
+use Rattle.kt_store.proofs.AskLemmas.{tables_before}
 
 one_is_not_two : pos 1 ≢ pos 2
 one_is_not_two e = cc

@@ -1,6 +1,5 @@
 -- What the INSERT of `begin` does.
-use Rattle.std.proofs.Common.{IsTrue, Less, List, None, Ok, Option, Some, [], ap, append-nil, arith, drop, fold, inl, inr, length, length-append, map, pos, refl, subst, suc, sym, unwrap_or, ℕ, ℤ, ◌++◌, ◌+ℤ◌, ◌+◌, ◌<◌, ◌∙◌, ◌∷◌, ◌≡◌}
-use Rattle.kt_store.proofs.Common.{ints, Int, Row, value_cmp, rowid, put_row, id_in, next_rowid, put_all, taken_by, map-append, all-append, edit_of, Chosen, Database, IsDatabase, value_rows, Does, Tally, last_id, begin_text, runs_1, schema_2, AreNumbered, IsRun, Keeps, Tables, entry_row, entry_rows, new_run, pair_rows, prop_rows, run_row, flat_map, Trees, Mode, Command, Insert, Values, Enforced, works, State, HasCleanDisk, IsStore, StandsFor, Leaves, MayTell, Told, Ghosts, Held, state, Run}
+use Rattle.kt_store.proofs.Common.{AreNumbered, Chosen, Command, Database, Does, Enforced, Ghosts, HasCleanDisk, Held, Insert, Int, IsDatabase, IsRun, IsStore, IsTrue, Keeps, Leaves, Less, List, MayTell, Mode, None, Ok, Option, Row, Run, Some, StandsFor, State, Tables, Tally, Told, Trees, Values, [], all-append, ap, append-nil, arith, begin_text, drop, edit_of, entry_row, entry_rows, flat_map, fold, id_in, inl, inr, ints, last_id, length, length-append, map, map-append, new_run, next_rowid, pair_rows, pos, prop_rows, put_all, put_row, refl, rowid, run_row, runs_1, schema_2, state, subst, suc, sym, taken_by, unwrap_or, value_cmp, value_rows, works, ℕ, ℤ, ◌++◌, ◌+ℤ◌, ◌+◌, ◌<◌, ◌∙◌, ◌∷◌, ◌≡◌}
 use Rattle.std.specs.List.Sorted.{IsPermutation}
 use Rattle.std.proofs.lemmas.Grind.{flat_map-append}
 use Rattle.kt_store.proofs.SqlFacts.{begin_is, begin_terms}

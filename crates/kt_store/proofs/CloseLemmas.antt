@@ -1,68 +1,30 @@
 -- A run is finished.
-use Rattle.std.proofs.Common.{◌≡◌, ◌==◌, nat_lt, ℕ, zero, suc, ◌+◌, ◌<◌, ◌≤◌, pos, List, [], ◌∷◌, ◌++◌, length, map, drop, Bool, true, false, cond, Some, None, Option, Ok, slice_get, refl, sym, ap, subst, ◌∙◌, arith, IsPermutation, IsTrue}
-use Rattle.kt_store.proofs.Common.{nat_tests, AllByRecursion, flat_map, Int, Trees, Applies, edit_of, ids_of, Given, runs_1, schema_2, IsAscending, Mode, Update, Enforced, Tally, Does, Database, IsDatabase, Ghosts, Held, state, HasCleanDisk, Run, Entry, RunClosed, Incomplete, finish_text, entries_of, IsComplete, Tables, Keeps, IsRun, AreRuns, AreNumbered, run_at, entry_row, entry_rows, pair_rows, prop_rows, finish, finish_refusal, finish_refusal_of, IsStore, StandsFor, MayTell, Told}
-use Rattle.kt_store.specs.Inner.Edits.{done_row}
+use Rattle.kt_store.proofs.Common.{AllByRecursion, Applies, AreRuns, Database, Does, Enforced, Entry, Ghosts, Given, HasCleanDisk, Held, Incomplete, Int, IsAscending, IsComplete, IsDatabase, IsPermutation, IsRun, IsStore, IsTrue, Keeps, List, MayTell, Mode, None, Ok, Option, Run, RunClosed, Some, StandsFor, Tables, Tally, Told, Trees, Update, [], ap, arith, done_row, drop, edit_of, entries_of, entry_row, entry_rows, false, finish, finish_refusal, finish_refusal_of, finish_text, flat_map, ids_of, length, map, nat_lt, nat_tests, pair_rows, pos, prop_rows, refl, run_at, runs_1, schema_2, state, subst, suc, sym, true, zero, ℕ, ◌++◌, ◌+◌, ◌<◌, ◌==◌, ◌∙◌, ◌∷◌, ◌≡◌, ◌≤◌}
+use Rattle.kt_store.proofs.RunsByNumber.{finish_each, finish_unseen, run_of}
 use Rattle.kt_store.proofs.SqlFacts.{finish_is}
 use Rattle.kt_store.proofs.FinishLemmas.{finish_program, finish_writes, finished_rows}
 use Rattle.kt_store.proofs.Numbered.{numbers_finish}
 use Rattle.kt_store.proofs.WriteLemmas.{told_update, crash_update}
-use Rattle.kt_store.proofs.RunsByNumber.{run_of}
-
-same_entries : (run : ℕ) (runs : List Run) → entry_rows (finish run runs) ≡ entry_rows runs
-same_entries run [] = refl
-same_entries run (r ∷ runs) = go (r.number == run) (same_entries run runs)
-  where
-    go : (b : Bool) → entry_rows (finish run runs) ≡ entry_rows runs → entry_rows (cond b (record r { finished = true } ∷ runs) (r ∷ finish run runs)) ≡ map (entry_row r.number) r.entries ++ entry_rows runs
-    go true more = refl
-    go false more = ap (λ l. map (entry_row r.number) r.entries ++ l) more
-
-same_props : (run : ℕ) (runs : List Run) → prop_rows (finish run runs) ≡ prop_rows runs
-same_props run [] = refl
-same_props run (r ∷ runs) = go (r.number == run) (same_props run runs)
-  where
-    go : (b : Bool) → prop_rows (finish run runs) ≡ prop_rows runs → prop_rows (cond b (record r { finished = true } ∷ runs) (r ∷ finish run runs)) ≡ flat_map (pair_rows r.number) r.entries ++ prop_rows runs
-    go true more = refl
-    go false more = ap (λ l. flat_map (pair_rows r.number) r.entries ++ l) more
-
-as_many : (run : ℕ) (runs : List Run) → length (finish run runs) ≡ length runs
-as_many run [] = refl
-as_many run (r ∷ runs) = go (r.number == run) (as_many run runs)
-  where
-    go : (b : Bool) → length (finish run runs) ≡ length runs → length (cond b (record r { finished = true } ∷ runs) (r ∷ finish run runs)) ≡ suc (length runs)
-    go true more = refl
-    go false more = ap suc more
 
 whole_run : (r : Run) → IsRun r → length r.entries ≡ r.total → IsRun (record r { finished = true })
 whole_run r is whole = record { small = is.small; ordered = is.ordered; below = is.below; sound = is.sound; whole = λ done. whole }
-
-each_from : (from k : ℕ) (runs : List Run) (r : Run) → AreNumbered from runs → AllByRecursion IsRun runs → slice_get runs k ≡ Some r → length r.entries ≡ r.total → AllByRecursion IsRun (finish (from + k) runs)
-each_from from k [] r h valid there whole = absurd cc
-each_from from zero (x ∷ runs) r h valid there whole =
-    let same : x ≡ r = cc in
-    let number : (x.number == from + 0) ≡ true = grind (arith, nat_tests, h.0) in
-    rw number (subst (λ (y : Run). IsRun (record y { finished = true })) (sym same) (whole_run r (subst IsRun same valid.0) whole), valid.1)
-each_from from (suc k) (x ∷ runs) r h valid there whole =
-    let place : suc from + k ≡ from + suc k = omega arith in
-    let apart : (x.number == from + suc k) ≡ false = grind (arith, nat_tests, h.0) in
-    rw apart (valid.0, subst (λ n. AllByRecursion IsRun (finish n runs)) place (each_from (suc from) k runs r h.1 valid.1 there whole))
 
 -- the tables of runs of which one is finished, as the rules of the schema do it
 pub finish_in : (runs : List Run) (k : ℕ) (r : Run) → run_at runs (suc k) ≡ Some r → length r.entries ≡ r.total → (db after : Database) → Tables db runs → after.schema ≡ schema_2
     → Applies schema_2 Enforced db.trees (edit_of db.trees runs_1 (ids_of (done_row r ∷ [])) Given 1 (done_row r ∷ [])) after.trees → Tables after (finish (suc k) runs)
 finish_in runs k r there whole db after has schema_is applies =
-    let place : 1 + k ≡ suc k = omega arith in
     record {
       schema = schema_is;
       marked = ap (map (drop 1)) (applies.tables.0 (λ e. cc)) ∙ has.marked;
       runs_are = finished_rows k db.trees after.trees runs r has.valid.numbered has.runs_are there applies;
-      entries_are = subst (λ l. IsPermutation l (map (drop 1) (after.trees 3))) (sym (same_entries (suc k) runs))
+      entries_are = subst (λ l. IsPermutation l (map (drop 1) (after.trees 3))) (sym (finish_unseen entry_rows (λ r more. map (entry_row r.number) r.entries ++ more) (λ r rs. refl) (suc k) (λ r more. refl) runs))
           (subst (λ l. IsPermutation (entry_rows runs) (map (drop 1) l)) (sym (applies.tables.1.1.0 (λ e. cc))) has.entries_are);
-      props_are = subst (λ l. IsPermutation l (map (drop 1) (after.trees 5))) (sym (same_props (suc k) runs))
+      props_are = subst (λ l. IsPermutation l (map (drop 1) (after.trees 5))) (sym (finish_unseen prop_rows (λ r more. flat_map (pair_rows r.number) r.entries ++ more) (λ r rs. refl) (suc k) (λ r more. refl) runs))
           (subst (λ l. IsPermutation (prop_rows runs) (map (drop 1) l)) (sym (applies.tables.1.1.1.0 (λ e. cc))) has.props_are);
       valid = record {
         numbered = numbers_finish (suc k) 1 runs has.valid.numbered;
-        each = subst (λ n. AllByRecursion IsRun (finish n runs)) place (each_from 1 k runs r has.valid.numbered has.valid.each there whole);
-        few = omega (arith, has.valid.few, as_many (suc k) runs);
+        each = finish_each IsRun k runs r has.valid.numbered has.valid.each there (whole_run r (run_of (suc k) runs r has.valid there) whole);
+        few = omega (arith, has.valid.few, finish_unseen length (λ r n. suc n) (λ r rs. refl) (suc k) (λ r n. refl) runs);
       };
     }
 

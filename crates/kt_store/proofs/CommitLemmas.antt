@@ -1,7 +1,45 @@
--- What statements leave that are run in one commit.
-use Rattle.std.proofs.Common.{◌≡◌, inl, inr, List, sym, ap, subst, ◌∙◌, IsTrue, arith}
-use Rattle.kt_store.proofs.Common.{both_ways, Trees, Ghosts, Held, state, Database, IsDatabase, FailsToCommit, State, HasCleanDisk, Survives, KeepsCommit, IsRolledBack, Fails, Error, survives_then, survives_weaker, survives_begin, Run, Keeps, Tables, IsSettled, Holds, StandsFor, Leaves, Statement, begun, RunInTurn, Commits, MayCommit, Undoes}
+-- Statements of a transaction, one after the other, and what their commit leaves.
+use Rattle.kt_store.proofs.Common.{Commits, CommitsLater, Database, Error, ExecutesInside, Fails, FailsToCommit, Ghosts, HasCleanDisk, Held, Holds, IsDatabase, IsRolledBack, IsSettled, IsTrue, Keeps, KeepsCommit, Leaves, List, MayCommit, Result, Row, Run, RunInTurn, RunsOne, StandsFor, State, Statement, Survives, Tables, Trees, Undoes, Variable, [], ap, arith, begun, both_ways, cases_Bool, drop, drop-cons, drop_more, false, get_or, inl, inr, inside_keeps, keeps_then, length, map, pair_statement, pair_statements, plain_statements, refl, state, subst, suc, survives_begin, survives_then, survives_weaker, sym, ℕ, ◌+◌, ◌<◌, ◌∙◌, ◌∷◌, ◌≡◌}
 use Rattle.kt_store.proofs.StepLemmas.{undone_settled}
+
+module _ {S : Type 0} (g : Ghosts S) where
+  -- what is done now, and what the rest does to the whole
+  pub record SoFar (statements rest : List Statement) (start now : Held S) : Type 0 where
+    pub survives : Survives (state g start) (state g now) (λ (db : Trees). ⊥)
+    pub keeps : HasCleanDisk (state g now) → KeepsCommit (state g start) (state g now)
+    pub inside : HasCleanDisk (state g now) → IsTrue (state g start).in_transaction → IsTrue (state g now).in_transaction
+    pub runs : HasCleanDisk (state g now) → IsTrue (state g start).in_transaction → (end : Held S) → RunInTurn g rest now end → RunInTurn g statements start end
+
+  -- one more is done
+  pub one_done : (statements rest : List Statement) (s : Statement) (start now next : Held S) → SoFar statements (s ∷ rest) start now → CommitsLater g now next → RunsOne g s now next → SoFar statements rest start next
+  one_done statements rest s start now next so_far later ran =
+      let early : HasCleanDisk (state g next) → HasCleanDisk (state g now) = λ clean. omega (arith, clean, later.survives.clean) in
+      record {
+        survives = survives_then (state g start) (state g now) (state g next) (λ _. ⊥) (λ _. ⊥) (λ _. ⊥) (λ _ db none. none) (λ _ db none. none) so_far.survives later.survives;
+        keeps = λ clean. keeps_then (state g start) (state g now) (state g next) (so_far.keeps (early clean)) (later.keeps clean);
+        inside = λ clean inside. (ran clean (so_far.inside (early clean) inside)).1.1.mode;
+        runs = λ clean inside end later. so_far.runs (early clean) inside end (next, ran clean (so_far.inside (early clean) inside), later);
+      }
+
+-- the pair at a place, and those after it
+pub pairs_at : (run position place i : ℕ) (vs : List Variable) (v : Variable) → i < length vs → v ≡ get_or vs i v → pair_statements run position place (drop i vs) ≡ pair_statement run position place v ∷ pair_statements run position (suc place) (drop (suc i) vs)
+pairs_at run position place i vs v low is = ap (pair_statements run position place) (drop-cons vs i v low ∙ ap (λ y. y ∷ drop (suc i) vs) (sym is))
+
+-- the text at a place, and those after it
+pub texts_at : {T : Type 0} (see : T → List ℕ) (i : ℕ) (vs : List T) (d : T) → i < length vs → plain_statements (map see (drop i vs)) ≡ (see (get_or vs i d), [], []) ∷ plain_statements (map see (drop (i + 1) vs))
+texts_at see i vs d low = ap (λ l. plain_statements (map see l)) (drop_more vs i d low)
+
+-- ---- what a statement of a transaction keeps
+
+-- a statement inside a transaction commits nothing
+pub step_keeps : {S : Type 0} (g : Ghosts S) (old new : Held S) (sql : List ℕ) (params : Row) (r : Result ℕ Error)
+    → (IsTrue (state g old).in_transaction → ExecutesInside 0 sql params (state g old) (state g new) r) → ((state g old).in_transaction ≡ false → new ≡ old) → KeepsCommit (state g old) (state g new)
+step_keeps g old new sql params r runs ended = elim (cases_Bool (state g old).in_transaction) [
+  | inl inside ↦ inside_keeps (state g old) (state g new) 0 false sql params r (runs inside)
+  | inr outside ↦ subst (λ h. KeepsCommit (state g old) (state g h)) (sym (ended outside)) (record { was_open = λ h. h; committed = λ h. refl })
+]
+
+-- ---- what statements leave that are run in one commit
 
 -- a commit inside a transaction fails only where the store does
 store_fails : (old new : State) (error : Error) → IsTrue old.in_transaction → FailsToCommit old new error → Fails old new ⊥ error

@@ -1,21 +1,26 @@
 -- The names that most proofs of this crate cite, passed on from one place. Declares nothing.
-pub use Rattle.std.proofs.lemmas.Bool.{both_ways, cases_Bool, cases_lt, eq-eqb}
+pub use Rattle.std.proofs.Common.{Bool, Equal, Err, Greater, IfErr, IfOk, IfSome, IsErrAnd, IsPermutation, IsSome, IsTrue, Less, List, MatchBool, None, Ok, OnErr, OnOk, Option, Ordering, Result, SFits, Some, [], ap, append-nil, ap₂, arith, codes, cond, drop, drop-cons, false, filter, fold, get_or, if◌then◌else◌, inl, inr, is_err, is_some, length, length-append, map, nat_le, nat_lt, ne_eqb, negsuc, not, of_z, option_map, pos, refl, reverse, rules, set, slice_get, subst, subst₂, suc, sym, take, to_z, true, true≢false, unsigned_abs, unwrap_or, w64, zero, ℕ, ℤ, ◌%◌, ◌&&◌, ◌++◌, ◌+ℤ◌, ◌+◌, ◌-◌, ◌/◌, ◌<◌, ◌==◌, ◌^◌, ◌||◌, ◌∙◌, ◌∷◌, ◌≡◌, ◌≢◌, ◌≤◌, ◌⊎◌}
+pub use Rattle.std.proofs.Math.Logic.{∥∥₁_elim, ∥∥₁_map}
+pub use Rattle.std.proofs.lemmas.Bool.{and_parts, both_ways, cases_Bool, cases_eq, cases_lt, cond-true, eq-eqb, not-true, or_parts}
 pub use Rattle.std.proofs.lemmas.Bool.Decides.{nat_tests}
-pub use Rattle.std.proofs.lemmas.Int.{ints, to_z-of_z}
-pub use Rattle.std.proofs.lemmas.List.{append_assoc, length-map, map-append, take_all}
-pub use Rattle.std.proofs.lemmas.List.Elements.{filter-append}
+pub use Rattle.std.proofs.lemmas.Int.{ints, to_z-of_z, to_z_pos}
+pub use Rattle.std.proofs.lemmas.List.{append_assoc, drop_more, length-map, map-append, map-id, reverse-append, reverse-reverse, take_all, take_more}
+pub use Rattle.std.proofs.lemmas.List.Elements.{filter-append, filter_passes, recursion_from_All}
 pub use Rattle.std.proofs.lemmas.List.Sorted.{IsPermutation-append_comm, IsPermutation-append_left, IsPermutation-append_right, IsPermutation-cons, IsPermutation-map, IsPermutation-middle, IsPermutation-refl, IsPermutation-sym, IsPermutation-trans, length_permutation}
-pub use Rattle.std.proofs.lemmas.Option.{slice_get_past}
+pub use Rattle.std.proofs.lemmas.Option.{none-some, same_Some, slice_get-map, slice_get_past, slice_get_read, slice_get_within}
+pub use Rattle.std.proofs.lemmas.Result.{IfErr-weaker, IfOk-weaker, on_err_weaker, on_ok_weaker}
 pub use Rattle.std.specs.List.{AllByRecursion, AllZip, find, flat_map, list_all}
 pub use Rattle.std.specs.Option.{option_copied, option_to_list}
-pub use Rattle.std.specs.Ordering.{int_cmp, is_lt, match_ordering}
+pub use Rattle.std.specs.Ordering.{int_cmp, is_eq, is_gt, is_lt, match_ordering, ordering_then}
 pub use Rattle.std.specs.Prelude.{⊤}
 pub use Rattle.kt_base.specs.Limits.{last_run}
 pub use Rattle.kt_base.specs.declared.entry.Entry.{Entry}
 pub use Rattle.kt_base.specs.declared.entry.Run.{Run}
 pub use Rattle.kt_base.specs.declared.variable.Variable.{Variable}
 pub use Rattle.sqlite.proofs.Callers.{IsPlain, command_of, never_commits, one_permutation, one_step, reads_as, runs_as, statement_of, survives_begin, unchanged_then}
+pub use Rattle.sqlite.proofs.FileLemmas.{probe_size, same_image}
 pub use Rattle.sqlite.proofs.InsideLemmas.{inside_keeps, keeps_then}
+pub use Rattle.sqlite.proofs.OpenLemmas.{meets, pool_files}
 pub use Rattle.sqlite.proofs.StateLemmas.{survives_then, survives_weaker}
 pub use Rattle.sqlite.specs.Cast.{cast}
 pub use Rattle.sqlite.specs.Collation.TheVariants.{Binary}
@@ -24,10 +29,12 @@ pub use Rattle.sqlite.specs.Command.TheVariants.{Commit, CreateTable, Insert, Re
 pub use Rattle.sqlite.specs.Does.{AtPlace, Concludes, Does, OnRows, Tally, lacks_sequence}
 pub use Rattle.sqlite.specs.Edit.{Edit, edit_of}
 pub use Rattle.sqlite.specs.Effect.{Answers, Database, IsDatabase, value_rows}
+pub use Rattle.sqlite.specs.Files.{HoldsDatabase, file_state, image_of, over_files}
 pub use Rattle.sqlite.specs.Held.{Held, state}
 pub use Rattle.sqlite.specs.Kind.TheVariants.{Integer}
 pub use Rattle.sqlite.specs.Listing.{reads_listing}
 unfoldable pub use Rattle.sqlite.specs.Listing.{understood}
+pub use Rattle.sqlite.specs.Opening.{HoldsAt, HoldsIn, layout_at, layout_of, unrooted}
 pub use Rattle.sqlite.specs.Ops.{from_truth, is_null, is_true}
 unfoldable pub use Rattle.sqlite.specs.Ops.{binary, unary}
 pub use Rattle.sqlite.specs.Order.{Row}
@@ -49,36 +56,85 @@ pub use Rattle.sqlite.specs.declared.error.Error.{Error}
 pub use Rattle.sqlite.specs.declared.run.Mode.{Mode}
 pub use Rattle.sqlite.specs.declared.types.Value.{Value}
 pub use Rattle.sqlite.specs.declared.types.Value.TheVariants.{Blob, Int, Null, Real, Text}
-pub use Rattle.sqlite_keyed.proofs.ListLemmas.{IsPermutation-filter, all-append, ascending-filter, ascending-map, filter-map, filter_same, map-map}
+pub use Rattle.sqlite_catalog.proofs.ReadLemmas.{lists_once}
+pub use Rattle.sqlite_catalog.specs.Listing.{IsSound, Lists}
+pub use Rattle.sqlite_exec.specs.Loops.{left_of}
+pub use Rattle.sqlite_keyed.proofs.ListLemmas.{IsPermutation-filter, all-append, all-filter, all-slice_get, all_map, all_weaker, ascending-filter, ascending-map, ascending_from_map, ascending_weaker, filter-map, filter_all, filter_none, filter_same, flat_map_same_on, map-map, slice_get-filter}
+pub use Rattle.sqlite_keyed.proofs.SortLemmas.{sorted_unique}
+pub use Rattle.sqlite_pages.specs.PageMap.{PageMap}
+pub use Rattle.sqlite_pool.proofs.ResealLemmas.{adopts_of, plain_adopts}
+pub use Rattle.sqlite_pool.proofs.StateLemmas.{clean_is, file_alone, may_leave_is, settled, size_is_allowed}
+pub use Rattle.sqlite_pool.specs.File.{in_use, version_in}
+pub use Rattle.sqlite_pool.specs.Stored.{Recovers, reserved, stored_size}
+pub use Rattle.sqlite_pool.specs.StoredLaws.{recovers_once}
 pub use Rattle.sqlite_resolve.specs.declared.compiled.Compiled.{Compiled}
+pub use Rattle.sqlite_rules.proofs.ListLemmas.{all_from, all_more}
+pub use Rattle.sqlite_rules.proofs.LogLemmas.{nothing_logged, still_set_up}
 pub use Rattle.sqlite_rules.specs.Action.{works}
 pub use Rattle.sqlite_rules.specs.Calls.{ids_of}
+pub use Rattle.sqlite_rules.specs.Cast.{cast_row}
 pub use Rattle.sqlite_rules.specs.Edit.{Applies, are_fresh, have_rowids, id_in, is_taken, next_rowid, numbered, put_all, taken_by}
+pub use Rattle.sqlite_schema.specs.Catalog.{IsCatalogOf}
+pub use Rattle.sqlite_schema.specs.Names.{column_named}
+pub use Rattle.sqlite_schema.specs.Rules.{Fits, Refers, agree, clashes, differ, index_reals, passes, table_reals}
 pub use Rattle.sqlite_schema.specs.declared.program.Program.{Program}
-pub use Rattle.sqlite_schema.specs.declared.schema.Constraint.TheVariants.{Unique}
+pub use Rattle.sqlite_schema.specs.declared.schema.Constraint.TheVariants.{ForeignKey, Unique}
 pub use Rattle.sqlite_schema.specs.declared.schema.Keys.TheVariants.{Enforced}
+pub use Rattle.sqlite_sql.specs.Catalog.{IsIndexOf, entry_of}
 pub use Rattle.sqlite_sql.specs.declared.aggregate.AggregateOp.TheVariants.{CountRows}
 pub use Rattle.sqlite_sql.specs.declared.ops.BinaryOp.TheVariants.{Compare}
 pub use Rattle.sqlite_sql.specs.declared.ops.CompareOp.TheVariants.{Eq}
+pub use Rattle.sqlite_store.specs.Db.{IsFile, rows_at}
+pub use Rattle.sqlite_store.specs.FileStore.{recovers, view}
+pub use Rattle.sqlite_store.specs.Joined.{joined}
+pub use Rattle.sqlite_store.specs.Laws.{settled_at, shut_if_dirty_at}
+pub use Rattle.sqlite_store.specs.Listing.{all_trees, file_trees, listed_from}
+pub use Rattle.sqlite_store.specs.Saved.{kept_schema}
+pub use Rattle.sqlite_store.specs.Unopened.{image, state_of, wanted_by}
+pub use Rattle.sqlite_store.specs.declared.store.FileStore.{FileStore}
 unfoldable pub use Rattle.sqlite_tied.specs.Compute.{everything}
-pub use Rattle.sqlite_trees.specs.Tree.{IsAscending, has_rowid, put_row, rowid, without_rowid}
-pub use Rattle.sqlite_value.proofs.OrderLemmas.{value_cmp-Int}
-pub use Rattle.sqlite_value.specs.Keys.{ascending, plain}
+pub use Rattle.sqlite_trees.proofs.Doubt.{clean_of, no_doubt}
+pub use Rattle.sqlite_trees.proofs.ListLemmas.{all-get_or, all-permutation, pull_back}
+pub use Rattle.sqlite_trees.specs.Objects.{IsListed, catalog_tree, number_in, with_version}
+pub use Rattle.sqlite_trees.specs.Props.{Trees-set}
+pub use Rattle.sqlite_trees.specs.Tree.{IsAscending, IsIndex, IsTable, from_key, has_rowid, no_trees, order_of, put_row, rowid, sought, up_to_key, without_rowid}
+pub use Rattle.sqlite_trees.specs.View.{IsClean, IsOrdered, IsShaped, View, is_int, with_cursor}
+pub use Rattle.sqlite_trees.specs.declared.store.Direction.TheVariants.{Backward}
+pub use Rattle.sqlite_trees.specs.declared.store.Shape.{Shape}
+pub use Rattle.sqlite_value.proofs.OrderLemmas.{value_cmp-Int, value_cmp_total}
+pub use Rattle.sqlite_value.specs.Keys.{ascending, entry_cmp, plain, prefix_cmp}
 unfoldable pub use Rattle.sqlite_value.specs.Keys.{first_key}
 pub use Rattle.sqlite_value.specs.Order.{column}
 unfoldable pub use Rattle.sqlite_value.specs.Order.{value_cmp}
+pub use Rattle.sqlite_wal.proofs.StateLemmas.{open_from}
+pub use Rattle.sqlite_wal.specs.Files.{outcomes, seen_image}
+pub use Rattle.sqlite_wal.specs.Reads.{AreClean, are_clean}
+pub use Rattle.sqlite_wal.specs.Recovery.{AreWhole, Image, IsIgnored, only_page}
 pub use Rattle.kt_store.specs.Ask.{IsNoMemory, IsStoreFault, Rests}
-pub use Rattle.kt_store.specs.Heads.{entry_at, head_of, outlined, with_pairs, without_outputs}
+pub use Rattle.kt_store.specs.Attaching.{Blank, Current, IsOf, Numbered, Older, Refuses, Takes, Was}
+pub use Rattle.kt_store.specs.Closing.{HasAlone}
+pub use Rattle.kt_store.specs.Files.{Ends, EndsIn}
+pub use Rattle.kt_store.specs.Heads.{entry_at, head_of, outlined, outputs_of, with_pairs, without_outputs}
 pub use Rattle.kt_store.specs.Inner.Ask.{AreWide, Asked, HasColumns, MayShow, MayTell, ShowsOf, Told}
 pub use Rattle.kt_store.specs.Inner.Calls.{IsOurs, Statement, entry_statements, make_statements, pair_statement, pair_statements, pair_text, plain_statements, raise_statements}
-pub use Rattle.kt_store.specs.Inner.Heads.{as_shown, entry_columns, head_columns, output_columns, pair_columns, pairs_shown, shown_columns, width_of}
+pub use Rattle.kt_store.specs.Inner.Cursors.{CountsUnder, HoldsCommit, IsAt, Looks, LooksThrough, Places, Shows, ShowsUnder, begins, in_columns}
+pub use Rattle.kt_store.specs.Inner.Edits.{Ended, Fills, IsSettledStore, Obeys, PutsRows, Wrote, begun_row, done_row, unnumbered}
+pub use Rattle.kt_store.specs.Inner.Heads.{as_shown, entry_columns, head_columns, output_columns, pair_columns, pair_count, pairs_shown, shown_columns, width_of}
 pub use Rattle.kt_store.specs.Inner.Kept.{AsksNumber, Changes, CommitsNothing, KeepsRuns, Looked, MayChange, OnlyReads}
+pub use Rattle.kt_store.specs.Inner.Known.{HasRuns, readings, runs_file}
+pub use Rattle.kt_store.specs.Inner.NewFiles.{HoldsEmpty, IsNewName}
+pub use Rattle.kt_store.specs.Inner.Opening.{ListsRuns, OpensOver}
+pub use Rattle.kt_store.specs.Inner.Places.{AreNamed, StandAt, places_2}
 pub use Rattle.kt_store.specs.Inner.Runs.{CanAdd, HasTexts, IsBareIfPassed, IsComplete, entries_of}
 pub use Rattle.kt_store.specs.Inner.Transactions.{Commits, CommitsLater, IsUndone, MayCommit, RunInTurn, RunsAll, RunsInside, RunsOne, Undoes, begun}
-pub use Rattle.kt_store.specs.Runs.{AreNumbered, AreOrdered, AreRuns, HaveNoPairs, IsEntry, IsPair, IsRun, IsText, Keeps, KeepsEither, KeepsOld, KeepsOne, OldTables, Tables, entry_row, entry_rows, finish, finish_refusal, finish_refusal_of, flag, has_position, insert_at, kind_code, new_run, pair_row, pair_rows, pair_rows_from, prop_rows, put_refusal, put_refusal_of, run_at, run_row, with_entry}
+pub use Rattle.kt_store.specs.Runs.{AreNumbered, AreOrdered, AreRuns, HaveNoPairs, IsEntry, IsPair, IsRun, IsText, Keeps, KeepsEither, KeepsOld, KeepsOne, OldTables, SaysIn, Tables, entry_row, entry_rows, finish, finish_refusal, finish_refusal_of, flag, has_position, insert_at, kind_code, new_run, pair_row, pair_rows, pair_rows_from, prop_rows, put_refusal, put_refusal_of, run_at, run_row, with_entry}
+pub use Rattle.kt_store.specs.Seeks.{HasCommitted, HoldsRuns, OpensRuns}
 pub use Rattle.kt_store.specs.Serving.{Agrees, Outlasts, Reads, Serves, changed_by, results}
 pub use Rattle.kt_store.specs.Stands.{HasTables, Holds, IsEmpty, IsSettled, IsStore, IsUnderstood, Leaves, SaysNumber, SaysSchema, StandsFor, StandsInOld}
 pub use Rattle.kt_store.specs.StoreCalls.{Began, Finished, Heads, Outline, Outputs, Put, StoreCall, seen_as}
+pub use Rattle.kt_store.specs.Supposed.{IsOfRuns, ListsTables, objects_2}
 pub use Rattle.kt_store.specs.Tables.{begin_text, beside_meta, create_entries, create_meta, create_props, create_runs, entries, entries_1, entries_text, finish_text, index_of, mark_text, meta, meta_1, meta_text, no_schema, pairs_text, props, props_1, put_text, raise_text, run_text, runs, runs_1, runs_text, schema_1, schema_2, there_text}
+pub use Rattle.kt_store.specs.declared.result_store.CaseOutputs.{CaseOutputs}
+pub use Rattle.kt_store.specs.declared.result_store.RunHead.{RunHead}
 pub use Rattle.kt_store.specs.declared.store_fault.StoreFault.{StoreFault}
-pub use Rattle.kt_store.specs.declared.store_fault.StoreFault.TheVariants.{BadPosition, Incomplete, NoMemory, RepeatedPosition, RunClosed, Store, StoreFull}
+pub use Rattle.kt_store.specs.declared.store_fault.StoreFault.TheVariants.{BadPosition, Incomplete, NoMemory, NoRun, RepeatedPosition, RunClosed, Store, StoreFull}

@@ -1,6 +1,5 @@
 -- What the statements that make the tables do.
-use Rattle.std.proofs.Common.{◌≡◌, ℕ, pos, List, [], ◌∷◌, map, drop, codes, false, None, Ok, refl, sym, ap, subst, ◌∙◌, IsPermutation, arith, IsTrue}
-use Rattle.kt_store.proofs.Common.{IsPermutation-refl, Int, Text, Row, Trees, Table, Schema, CreateTable, Insert, Values, Chosen, edit_of, taken_by, works, Enforced, Tally, lacks_sequence, understood, Database, IsDatabase, value_rows, State, mode_of, Writes, Executes, IsPlain, command_of, statement_of, runs_as, everything, no_schema, schema_1, schema_2, meta, runs, entries, props, meta_1, create_meta, create_runs, create_entries, create_props, mark_text, Tables, make_statements, begun, RunInTurn, Ghosts, Held, state}
+use Rattle.kt_store.proofs.Common.{Chosen, CreateTable, Database, Enforced, Executes, Ghosts, Held, Insert, Int, IsDatabase, IsPermutation, IsPermutation-refl, IsPlain, IsTrue, List, None, Ok, Row, RunInTurn, Schema, State, Table, Tables, Tally, Text, Trees, Values, Writes, [], ap, arith, begun, codes, command_of, create_entries, create_meta, create_props, create_runs, drop, edit_of, entries, everything, false, lacks_sequence, make_statements, map, mark_text, meta, meta_1, mode_of, no_schema, pos, props, refl, runs, runs_as, schema_1, schema_2, state, statement_of, subst, sym, taken_by, understood, value_rows, works, ℕ, ◌∙◌, ◌∷◌, ◌≡◌}
 use Rattle.sqlite.specs.Compile.{table_defined_by}
 use Rattle.sqlite.specs.Change.{created, next_tree, KeepsRows}
 use Rattle.kt_store.proofs.SqlFacts.{mark_is, mark_terms}

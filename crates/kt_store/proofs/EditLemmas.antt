@@ -1,12 +1,5 @@
 -- What rows that are written by the rules of the schema make of the tables of runs.
-use Rattle.std.proofs.Common.{◌≡◌, ◌==◌, ℕ, ℤ, zero, suc, ◌+◌, ◌<◌, List, [], ◌∷◌, ◌++◌, length, map, drop, take, get_or, pos, None, Some, false, refl, sym, ap, ap₂, subst, ◌∙◌, arith}
-use Rattle.kt_store.proofs.Common.{AllByRecursion, Trees, Row, Run, Entry, Variable, Database, Tally, Schema, Chosen, Given, Enforced, nat_tests, works, edit_of, last_id, one_step, ids_of, runs_1, entries_1, props_1, schema_2, Tables, Keeps, IsPair, IsRun, CanAdd, AreNumbered, run_at, new_run, with_entry, finish, entry_row, entry_rows, pair_row, pair_rows, pair_rows_from, prop_rows, IsComplete}
-use Rattle.sqlite_trees.specs.Objects.{catalog_tree}
-use Rattle.sqlite_catalog.specs.Listing.{IsSound}
-use Rattle.sqlite_catalog.proofs.ReadLemmas.{lists_once}
-use Rattle.sqlite_rules.specs.Cast.{cast_row}
-use Rattle.kt_store.specs.Inner.Edits.{Fills, PutsRows, begun_row, done_row, unnumbered}
-use Rattle.kt_store.specs.Inner.Places.{places_2}
+use Rattle.kt_store.proofs.Common.{AllByRecursion, AreNumbered, CanAdd, Chosen, Database, Enforced, Entry, Fills, Given, IsComplete, IsRun, IsSound, Keeps, List, None, PutsRows, Row, Run, Schema, Some, Tables, Tally, Trees, Variable, [], ap, ap₂, arith, begun_row, cast_row, catalog_tree, done_row, drop, edit_of, entries_1, entry_row, entry_rows, false, finish, get_or, ids_of, last_id, length, lists_once, map, nat_tests, new_run, one_step, pair_row, pair_rows, pair_rows_from, places_2, pos, prop_rows, props_1, refl, run_at, runs_1, schema_2, subst, suc, sym, take, unnumbered, with_entry, works, zero, ℕ, ℤ, ◌++◌, ◌+◌, ◌<◌, ◌==◌, ◌∙◌, ◌∷◌, ◌≡◌}
 use Rattle.kt_store.proofs.BeginLemmas.{begin_params, begin_works, begun}
 use Rattle.kt_store.proofs.CloseLemmas.{finish_in}
 use Rattle.kt_store.proofs.EntryLemmas.{back}
@@ -99,8 +92,3 @@ pairs_taken n p j i [] v low is = absurd (omega (arith, low))
 pairs_taken n p j zero (w ∷ vs) v low is = ap₂ (λ (x : Variable) (k : ℕ). unnumbered (pair_row n p k x) ∷ []) (sym is) (omega arith)
 pairs_taken n p j (suc i) (w ∷ vs) v low is =
     ap (λ l. unnumbered (pair_row n p j w) ∷ l) (pairs_taken n p (suc j) i vs v (omega (arith, low)) is ∙ ap (λ (k : ℕ). map unnumbered (pair_rows_from n p (suc j) (take i vs)) ++ unnumbered (pair_row n p k v) ∷ []) (omega arith))
-
-pub all_taken : (i : ℕ) (vs : List Variable) (v : Variable) → i < length vs → v ≡ get_or vs i v → IsPair v → AllByRecursion IsPair (take i vs) → AllByRecursion IsPair (take (suc i) vs)
-all_taken i [] v low is has all = absurd (omega (arith, low))
-all_taken zero (w ∷ vs) v low is has all = (subst IsPair is has, tt)
-all_taken (suc i) (w ∷ vs) v low is has all = (all.0, all_taken i vs v (omega (arith, low)) is has all.1)

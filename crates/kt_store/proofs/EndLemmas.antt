@@ -1,15 +1,8 @@
 -- How calls end that write the trees of a store: committed, or gone back to the last commit.
-use Rattle.std.proofs.Common.{◌≡◌, ◌⊎◌, inl, inr, Bool, true, false, true≢false, is_err, Result, Ok, Err, OnOk, OnErr, IfOk, IfErr, List, [], ◌∷◌, IsTrue, refl, sym, ap, subst, ◌∙◌}
-use Rattle.kt_store.proofs.Common.{Trees, Ghosts, Schema, Run, StoreFault, IsStoreFault, Keeps, KeepsOne, StoreCall, schema_2, Heads, Outline, Outputs, Serves, Agrees, Outlasts, changed_by}
+use Rattle.kt_store.proofs.Common.{Agrees, Bool, Database, Ended, Err, Ghosts, HasCleanDisk, HasCommitted, HasRuns, Held, HoldsCommit, IsLive, IsSettledStore, IsSound, IsTrue, Keeps, KeepsOne, List, Lists, Looks, Ok, Outlasts, Result, Run, Schema, Serves, StandAt, StandsFor, StoreCall, StoreFault, Trees, Wrote, [], ap, catalog_tree, changed_by, false, inl, inr, is_err, lists_once, no_doubt, places_2, readings, refl, runs_file, schema_2, state, subst, sym, true, true≢false, ◌∙◌, ◌∷◌, ◌≡◌, ◌⊎◌}
 use Rattle.sqlite_trees.specs.View.{View, IsClean, IsRolledBack, doubt}
-use Rattle.sqlite_trees.proofs.Doubt.{no_doubt}
-use Rattle.sqlite_catalog.specs.Listing.{IsSound}
-use Rattle.kt_store.specs.Inner.Cursors.{Looks, HoldsCommit}
-use Rattle.kt_store.specs.Inner.Edits.{IsSettledStore, Wrote}
-use Rattle.kt_store.specs.Inner.Places.{StandAt, places_2}
-use Rattle.kt_store.specs.Inner.Known.{HasRuns, readings, runs_file}
-use Rattle.kt_store.specs.Seeks.{HasCommitted}
 use Rattle.kt_store.specs.declared.places.Places.{Places}
+use Rattle.kt_store.proofs.ServeLemmas.{IsWrite}
 use Rattle.kt_store.proofs.EditLemmas.{schema_is}
 use Rattle.kt_store.proofs.Numbered.{numbers_changed, ordered_changed}
 
@@ -66,95 +59,108 @@ module _ {S : Type 0} (g : Ghosts S) (dirty : (s : S) → (g.view s).is_clean �
     shown : (runs : List Run) → (runs_file g).stands old runs → (readings g).stands old runs
     shown runs h = (has_runs (g.view old) schema (shut old) is runs h.0, h.1, h.2)
 
-    pub heads_served : (answer : _) → Serves (readings g) (Heads answer) old new → Serves (runs_file g) (Heads answer) old new
-    heads_served answer s = record { asked = tt; stands = still; earlier = λ runs h clean. looks.clean clean; agrees = λ runs h clean. s.agrees runs (shown runs h) clean; crash = λ runs may h. leaves may }
-
-    pub outline_served : (number pairs answer : _) → Serves (readings g) (Outline number pairs answer) old new → Serves (runs_file g) (Outline number pairs answer) old new
-    outline_served number pairs answer s = record { asked = tt; stands = still; earlier = λ runs h clean. looks.clean clean; agrees = λ runs h clean. s.agrees runs (shown runs h) clean; crash = λ runs may h. leaves may }
-
-    pub outputs_served : (number position answer : _) → Serves (readings g) (Outputs number position answer) old new → Serves (runs_file g) (Outputs number position answer) old new
-    outputs_served number position answer s = record { asked = tt; stands = still; earlier = λ runs h clean. looks.clean clean; agrees = λ runs h clean. s.agrees runs (shown runs h) clean; crash = λ runs may h. leaves may }
+    pub read_served : (call : StoreCall) → ((runs : List Run) → changed_by call runs ≡ runs)
+        → ((runs : List Run) (may : List (List Run)) → ((runs_file g).leaves old may → (runs_file g).leaves new may) → Outlasts (runs_file g).leaves call runs may old new)
+        → Serves (readings g) call old new → Serves (runs_file g) call old new
+    read_served call same lasts s = record {
+      asked = tt;
+      stands = λ runs h. subst ((runs_file g).stands new) (sym (same runs)) (still runs h);
+      earlier = λ runs h clean. looks.clean clean;
+      agrees = λ runs h clean. s.agrees runs (shown runs h) clean;
+      crash = λ runs may h. lasts runs may (leaves may);
+    }
 
   -- ---- a call that writes
 
-  module _ {T : Type 0} (call : Result T StoreFault → StoreCall) (change : List Run → List Run) (done_is : (x : T) (runs : List Run) → changed_by (call (Ok x)) runs ≡ change runs) (refused_is : (e : StoreFault) (runs : List Run) → changed_by (call (Err e)) runs ≡ runs)
-      (fails : (e : StoreFault) (runs : List Run) → IsStoreFault e → Agrees runs (call (Err e)))
-      (lasts : (x : T) (runs : List Run) (may : List (List Run)) (old new : S) → (runs_file g).leaves new (change runs ∷ []) → Outlasts (runs_file g).leaves (call (Ok x)) runs may old new)
-      (survives : (e : StoreFault) (runs : List Run) (may : List (List Run)) (old new : S) → ((runs_file g).leaves old (runs ∷ may) → (runs_file g).leaves new (runs ∷ change runs ∷ may)) → Outlasts (runs_file g).leaves (call (Err e)) runs may old new)
+  module _ {T : Type 0} (call : Result T StoreFault → StoreCall) (change : List Run → List Run) (writes : IsWrite (runs_file g).leaves call change)
       (old mid new : S) (is : IsSettledStore (g.view old) schema) where
     wider : (runs : List Run) (may : List (List Run)) (trees : Trees) → KeepsOne (runs ∷ may) trees → KeepsOne (runs ∷ change runs ∷ may) trees
     wider runs may trees (inl one) = inl one
     wider runs may trees (inr more) = inr (inr more)
 
-    module _ (clean : IsClean (g.view new) → IsClean (g.view mid)) where
-      has : (runs : List Run) → (runs_file g).stands old runs → HasRuns (g.view old) runs
-      has runs h = has_runs (g.view old) schema (shut old) is runs h.0
+    has : (runs : List Run) → (runs_file g).stands old runs → HasRuns (g.view old) runs
+    has runs h = has_runs (g.view old) schema (shut old) is runs h.0
 
-      made : (call' : StoreCall) → (runs : List Run) → (runs_file g).stands old runs → ((runs : List Run) → HasRuns (g.view old) runs → IsClean (g.view mid) → Agrees runs call') → (IsClean (g.view mid) → IsClean (g.view old)) → HasCommitted (g.view new) (changed_by call' runs) → (runs_file g).stands new (changed_by call' runs)
-      made call' runs h agrees earlier kept = (kept, numbers_changed call' runs h.1, λ late. ordered_changed call' runs h.1 (h.2 (earlier (clean late))) (agrees runs (has runs h) (clean late)))
+    made : (call' : StoreCall) (runs : List Run) → (runs_file g).stands old runs → (IsClean (g.view new) → Agrees runs call') → (IsClean (g.view new) → IsClean (g.view old)) → HasCommitted (g.view new) (changed_by call' runs)
+        → (runs_file g).stands new (changed_by call' runs)
+    made call' runs h agrees earlier kept = (kept, numbers_changed call' runs h.1, λ late. ordered_changed call' runs h.1 (h.2 (earlier late)) (agrees late))
 
-      pub done_served : (x : T) → Wrote g schema call old mid (Ok x) → (IsClean (g.view new) → ((g.view new).is_broken ≡ false) × ((g.view new).committed ≡ (g.view mid).trees)) → Serves (runs_file g) (call (Ok x)) old new
-      done_served x wrote ends = record {
-        asked = tt;
-        stands = λ runs h. made (call (Ok x)) runs h wrote.agrees wrote.clean (λ opened.
-            let late = clean_of_open (g.view new) (dirty new) opened in
-            subst (Keeps (changed_by (call (Ok x)) runs)) (sym (ends late).1) (wrote.rows runs (has runs h) (clean late)));
-        earlier = λ runs h late. wrote.clean (clean late);
-        agrees = λ runs h late. wrote.agrees runs (has runs h) (clean late);
-        crash = λ runs may h. lasts x runs may old new (λ late trees found.
-            let opened = open_of (g.view new).is_open (g.view new).is_broken (shut new) (ends late).0 in
-            inl (subst (Keeps (change runs)) (sym (settles new trees opened found ∙ (ends late).1)) (subst (λ l. Keeps l (g.view mid).trees) (done_is x runs) (wrote.rows runs (has runs h) (clean late)))));
-      }
+    -- the trees of what was written are those of the changed runs
+    rows : (written : Result T StoreFault) → Wrote g schema call old mid written → is_err written ≡ false → (runs : List Run) → (runs_file g).stands old runs → IsClean (g.view mid) → Keeps (change runs) (g.view mid).trees
+    rows (Ok x) wrote none runs h clean = subst (λ l. Keeps l (g.view mid).trees) (writes.done x runs) (wrote.rows runs (has runs h) clean)
+    rows (Err f) wrote none runs h clean = absurd (true≢false none)
 
-      module _ (e : StoreFault) (written : Result T StoreFault) (wrote : Wrote g schema call old mid written) (kept : IsClean (g.view new) → HoldsCommit (g.view mid) (g.view new)) where
-        pub refused_served : (written ≡ Err e) ⊎ IsStoreFault e → ((db : Trees) → g.recovers new db → ((is_err written ≡ false) × (db ≡ (g.view mid).trees)) ⊎ g.recovers mid db) → Serves (runs_file g) (call (Err e)) old new
-        refused_served why crash = record {
+    -- by how it ended
+    pub ended_served : (written result : Result T StoreFault) → Wrote g schema call old mid written → Ended g mid new written result → Serves (runs_file g) (call result) old new
+    ended_served written (Ok x) wrote ended =
+        let done = subst (λ r. Wrote g schema call old mid r) ended.value wrote in
+        record {
           asked = tt;
-          stands = λ runs h. made (call (Err e)) runs h agrees wrote.clean (λ opened.
+          stands = λ runs h. made (call (Ok x)) runs h (λ late. done.agrees runs (has runs h) (ended.clean late)) (λ late. wrote.clean (ended.clean late)) (λ opened.
               let late = clean_of_open (g.view new) (dirty new) opened in
-              let second = kept late opened in
-              let first = wrote.held (clean late) second.0 in
-              subst (λ l. Keeps l (g.view new).committed) (sym (refused_is e runs)) (subst (Keeps runs) (sym (second.1 ∙ first.1)) (h.0 first.0)));
-          earlier = λ runs h late. wrote.clean (clean late);
-          agrees = λ runs h late. agrees runs (has runs h) (clean late);
-          crash = λ runs may h. survives e runs may old new (λ left late trees found. elim (crash trees found) [
-            | inl it ↦ inr (inl (subst (Keeps (change runs)) (sym it.1) (rows written wrote it.0 runs h late)))
-            | inr before ↦ wider runs may trees (left (wrote.clean (clean late)) trees (wrote.outcomes trees before))
-          ]);
+              subst (Keeps (changed_by (call (Ok x)) runs)) (sym (ended.done late).1) (done.rows runs (has runs h) (ended.clean late)));
+          earlier = λ runs h late. wrote.clean (ended.clean late);
+          agrees = λ runs h late. done.agrees runs (has runs h) (ended.clean late);
+          crash = λ runs may h. writes.lasts x runs may old new (λ late trees found.
+              let opened = open_of (g.view new).is_open (g.view new).is_broken (shut new) (ended.done late).0 in
+              inl (subst (Keeps (change runs)) (sym (settles new trees opened found ∙ (ended.done late).1)) (rows (Ok x) done refl runs h (ended.clean late))));
         }
-          where
-            agrees : (runs : List Run) → HasRuns (g.view old) runs → IsClean (g.view mid) → Agrees runs (call (Err e))
-            agrees runs h late = elim why [
-              | inl same ↦ subst (λ r. Agrees runs (call r)) same (wrote.agrees runs h late)
-              | inr failed ↦ fails e runs failed
-            ]
+    ended_served written (Err e) wrote ended = record {
+      asked = tt;
+      stands = λ runs h. made (call (Err e)) runs h (agrees runs h) (λ late. wrote.clean (ended.clean late)) (λ opened.
+          let late = clean_of_open (g.view new) (dirty new) opened in
+          let second = ended.kept late opened in
+          let first = wrote.held (ended.clean late) second.0 in
+          subst (λ l. Keeps l (g.view new).committed) (sym (writes.refused e runs)) (subst (Keeps runs) (sym (second.1 ∙ first.1)) (h.0 first.0)));
+      earlier = λ runs h late. wrote.clean (ended.clean late);
+      agrees = agrees;
+      crash = λ runs may h. writes.survives e runs may old new (λ left late trees found. elim (ended.crash trees found) [
+        | inl it ↦ inr (inl (subst (Keeps (change runs)) (sym it.1) (rows written wrote it.0 runs h (ended.clean late))))
+        | inr before ↦ wider runs may trees (left (wrote.clean (ended.clean late)) trees (wrote.outcomes trees before))
+      ]);
+    }
+      where
+        agrees : (runs : List Run) → (runs_file g).stands old runs → IsClean (g.view new) → Agrees runs (call (Err e))
+        agrees runs h late = elim ended.fault [
+          | inl same ↦ subst (λ r. Agrees runs (call r)) same (wrote.agrees runs (has runs h) (ended.clean late))
+          | inr failed ↦ writes.fails e runs failed
+        ]
 
-            rows : (written : Result T StoreFault) → Wrote g schema call old mid written → is_err written ≡ false → (runs : List Run) → (runs_file g).stands old runs → IsClean (g.view new) → Keeps (change runs) (g.view mid).trees
-            rows (Ok x) wrote none runs h late = subst (λ l. Keeps l (g.view mid).trees) (done_is x runs) (wrote.rows runs (has runs h) (clean late))
-            rows (Err f) wrote none runs h late = absurd (true≢false none)
+    pub ended_settled : (written result : Result T StoreFault) → Wrote g schema call old mid written → Ended g mid new written result → IsSettledStore (g.view new) schema
+    ended_settled written (Ok x) wrote ended = record {
+      settled = ended.settled;
+      sound = λ opened.
+          let late = clean_of_open (g.view new) (dirty new) opened in
+          subst (IsSound schema) (sym (ended.done late).1) ((subst (λ r. Wrote g schema call old mid r) ended.value wrote).obeys (ended.clean late)).sound;
+    }
+    ended_settled written (Err e) wrote ended = record {
+      settled = ended.settled;
+      sound = λ opened.
+          let late = clean_of_open (g.view new) (dirty new) opened in
+          let second = ended.kept late opened in
+          let first = wrote.held (ended.clean late) second.0 in
+          subst (IsSound schema) (sym (second.1 ∙ first.1)) (is.sound first.0);
+    }
 
-      -- by how it ended
-      pub ended_served : (written result : Result T StoreFault) → Wrote g schema call old mid written → IfOk result (λ x. written ≡ Ok x) → IfErr result (λ e. (written ≡ Err e) ⊎ IsStoreFault e)
-          → (IsClean (g.view new) → OnOk result (((g.view new).is_broken ≡ false) × ((g.view new).committed ≡ (g.view mid).trees))) → (IsClean (g.view new) → OnErr result (HoldsCommit (g.view mid) (g.view new)))
-          → ((db : Trees) → g.recovers new db → ((is_err written ≡ false) × (db ≡ (g.view mid).trees)) ⊎ g.recovers mid db) → Serves (runs_file g) (call result) old new
-      ended_served written (Ok x) wrote same why done kept crash = done_served x (subst (λ r. Wrote g schema call old mid r) same wrote) done
-      ended_served written (Err e) wrote same why done kept crash = refused_served e written wrote kept why crash
+-- ---- the results of a connection, by the trees of its store
 
-      pub ended_settled : (written result : Result T StoreFault) → Wrote g schema call old mid written → IfOk result (λ x. written ≡ Ok x)
-          → (IsClean (g.view new) → (g.view new).is_broken ≡ false → (g.view new).trees ≡ (g.view new).committed)
-          → (IsClean (g.view new) → OnOk result (((g.view new).is_broken ≡ false) × ((g.view new).committed ≡ (g.view mid).trees))) → (IsClean (g.view new) → OnErr result (HoldsCommit (g.view mid) (g.view new)))
-          → IsSettledStore (g.view new) schema
-      ended_settled written (Ok x) wrote same settled done kept = record {
-        settled = settled;
-        sound = λ opened.
-            let late = clean_of_open (g.view new) (dirty new) opened in
-            subst (IsSound schema) (sym (done late).1) ((subst (λ r. Wrote g schema call old mid r) same wrote).obeys (clean late)).sound;
-      }
-      ended_settled written (Err e) wrote same settled done kept = record {
-        settled = settled;
-        sound = λ opened.
-            let late = clean_of_open (g.view new) (dirty new) opened in
-            let second = kept late opened in
-            let first = wrote.held (clean late) second.0 in
-            subst (IsSound schema) (sym (second.1 ∙ first.1)) (is.sound first.0);
-      }
+-- a schema that is listed is the one that is obeyed
+pub settled_by : (v : View) (listed : Schema) → (v.trees ≡ v.committed) → Lists (v.trees catalog_tree) listed → (IsTrue v.is_open → (schema : Schema) × IsSound schema v.committed) → IsTrue v.is_open → IsSound listed v.committed
+settled_by v listed same lists has opened =
+    let it = has opened in
+    let one : it.0 ≡ listed = lists_once (v.committed catalog_tree) it.0 listed it.1.lists (subst (λ (t : Trees). Lists (t catalog_tree) listed) same lists) in
+    subst (λ s. IsSound s v.committed) one it.1
+
+module _ {S : Type 0} (g : Ghosts S) (held : Held S) (new : S) (dirty : (g.view new).is_clean ≡ false → (g.view new).is_open ≡ false) (lives : IsLive (state g held)) (undone : IsRolledBack (g.view held.store) (g.view new)) where
+  pub still_sound : IsTrue (g.view new).is_open → (schema : Schema) × IsSound schema (g.view new).committed
+  still_sound opened =
+      let was = rolled_held (g.view held.store) (g.view new) undone (clean_of_open (g.view new) dirty opened) opened in
+      ((state g held).committed.schema, subst (IsSound (state g held).committed.schema) (sym was.1) (lives was.0).1)
+
+  pub still_stands : (IsClean (g.view new) → HasCleanDisk (state g held)) → (runs : List Run) → StandsFor (state g held) runs → HasCommitted (g.view new) runs
+  still_stands earlier runs has opened =
+      let clean = clean_of_open (g.view new) dirty opened in
+      let was = rolled_held (g.view held.store) (g.view new) undone clean opened in
+      let is = has (earlier clean) was.0 in
+      let trees : (g.view new).committed ≡ (state g held).now.trees = was.1 ∙ ap (λ (d : Database). d.trees) is.settled in
+      ((state g held).now, (lives was.0).0, trees, is.tables)

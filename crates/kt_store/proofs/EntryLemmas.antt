@@ -1,6 +1,5 @@
 -- What queries of the entries answer.
-use Rattle.std.proofs.Common.{◌≡◌, ◌≢◌, ◌==◌, ◌&&◌, ℕ, zero, suc, ◌+◌, ◌<◌, pos, List, [], ◌∷◌, ◌++◌, map, drop, filter, Bool, true, false, cond, Some, None, Option, slice_get, refl, sym, ap, ap₂, subst, ◌∙◌, arith, IsPermutation, append-nil}
-use Rattle.kt_store.proofs.Common.{nat_tests, IsPermutation-map, filter-append, flat_map, list_all, option_to_list, Term, col, holds, IsPermutation-filter, Null, Int, Row, is_true, from_truth, binary, Run, Entry, entries_of, entry_row, entry_rows, run_at, AreNumbered}
+use Rattle.kt_store.proofs.Common.{AreNumbered, Bool, Entry, Int, IsPermutation, IsPermutation-filter, IsPermutation-map, List, None, Null, Option, Row, Run, Some, Term, [], ap, append-nil, ap₂, arith, binary, col, cond, drop, entries_of, entry_row, entry_rows, false, filter, filter-append, flat_map, from_truth, holds, is_true, list_all, map, nat_tests, option_to_list, pos, refl, run_at, slice_get, subst, suc, sym, true, zero, ℕ, ◌&&◌, ◌++◌, ◌+◌, ◌<◌, ◌==◌, ◌∙◌, ◌∷◌, ◌≡◌, ◌≢◌}
 use Rattle.kt_store.proofs.SqlFacts.{is}
 use Rattle.kt_store.proofs.Values.{same_test}
 
@@ -72,15 +71,13 @@ of_run test keep n runs each h =
     found None = refl
     found (Some r) = append-nil (map (entry_row n) (filter keep r.entries))
 
-pub one_truth : (a : Bool) → is_true (from_truth (Some a)) && true ≡ a && true
-one_truth true = refl
-one_truth false = refl
+pub truth : (a : Bool) → is_true (from_truth (Some a)) ≡ a
+truth true = refl
+truth false = refl
 
-pub two_truths : (a b : Bool) → is_true (from_truth (Some a)) && (is_true (from_truth (Some b)) && true) ≡ a && b
-two_truths true true = refl
-two_truths true false = refl
-two_truths false true = refl
-two_truths false false = refl
+pub and_true : (b : Bool) → b && true ≡ b
+and_true true = refl
+and_true false = refl
 
 -- a WHERE on the run
 abbrev pub tests : List Term
@@ -95,8 +92,9 @@ same_passes params (x ∷ r) = refl
 
 pub each : (n m : ℕ) (e : Entry) → passes (Int (pos n) ∷ []) (back (entry_row m e)) ≡ (m == n) && true
 unfolding binary
-each n m e = ap (λ a. is_true (from_truth (Some a)) && true) (same_test m n) ∙ one_truth (m == n)
+each n m e = ap (λ a. is_true (from_truth (Some a)) && true) (same_test m n) ∙ ap (λ b. b && true) (truth (m == n))
 
-pub all_pass : (es : List Entry) → filter (λ (e : Entry). true) es ≡ es
+-- a filter that keeps all
+pub all_pass : {X : Type 0} (xs : List X) → filter (λ (x : X). true) xs ≡ xs
 all_pass [] = refl
-all_pass (e ∷ es) = ap (λ l. e ∷ l) (all_pass es)
+all_pass (x ∷ xs) = ap (λ l. x ∷ l) (all_pass xs)

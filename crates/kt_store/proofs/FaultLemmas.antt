@@ -1,9 +1,8 @@
 -- What a refusal is reported as.
-use Rattle.std.proofs.Common.{◌≡◌, sym, subst, Result, Ok, Err, IsErrAnd, IfErr, IfOk, OnErr, OnOk}
+use Rattle.kt_store.proofs.Common.{Err, IfErr, IfOk, IsErrAnd, IsNoMemory, IsStoreFault, NoMemory, Ok, OnErr, OnOk, Result, Store, StoreFault, subst, sym, ◌≡◌}
 use Rattle.kt_store.specs.Inner.Fault.{IsFailure, IsShort}
 use Rattle.kt_store.specs.declared.store_fault.Trouble.{Trouble}
 use Rattle.kt_store.specs.declared.store_fault.Trouble.TheVariants.{NoMemory as Short, Failed}
-use Rattle.kt_store.proofs.Common.{StoreFault, NoMemory, Store, IsNoMemory, IsStoreFault}
 
 -- what is known of a fault is known of the answer that hands it on
 pub if_same : {T : Type 0} (Q : StoreFault → Type 0) (r : Result T StoreFault) (e : StoreFault) → IsErrAnd r (λ x. x ≡ e) → Q e → IfErr r Q

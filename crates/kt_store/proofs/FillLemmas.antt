@@ -1,11 +1,9 @@
 -- What the statements do that put an entry and its pairs, one after the other.
-use Rattle.std.proofs.Common.{◌≡◌, ◌&&◌, Bool, not, ℕ, suc, ◌+◌, ◌<◌, pos, List, [], ◌∷◌, ◌++◌, length, map, drop, codes, None, Ok, refl, sym, ap, subst, ◌∙◌, arith, IsPermutation, IsTrue, true, false}
-use Rattle.kt_store.proofs.Common.{AllByRecursion, IsPair, HasTexts, IsPermutation-cons, IsPermutation-trans, IsPermutation-map, IsPermutation-sym, IsPermutation-middle, Int, Text, Row, is_taken, put_all, are_fresh, next_rowid, numbered, put_row, Values, Insert, Chosen, edit_of, Enforced, understood, Ghosts, Held, state, Database, IsDatabase, value_rows, State, HasCleanDisk, mode_of, Executes, Writes, statement_of, runs_as, Entry, Run, Variable, schema_2, entries_1, props_1, put_text, CanAdd, Tables, IsRun, kind_code, run_row, entry_row, entry_rows, pair_row, pair_rows_from, prop_rows, with_entry, AreRuns, Applies, Statement, pair_statements, entry_statements, pair_text, begun, RunInTurn, StandsFor}
-use Rattle.sqlite_rules.specs.Cast.{cast_row}
+use Rattle.kt_store.proofs.Common.{AllByRecursion, Applies, AreRuns, CanAdd, Chosen, Database, Enforced, Entry, Executes, Ghosts, HasCleanDisk, HasTexts, Held, Insert, Int, IsDatabase, IsPair, IsPermutation, IsPermutation-cons, IsPermutation-map, IsPermutation-middle, IsPermutation-sym, IsPermutation-trans, IsRun, IsTrue, List, None, Ok, Row, Run, RunInTurn, StandsFor, State, Statement, Tables, Text, Values, Variable, Writes, [], and_parts, ap, are_fresh, arith, begun, cast_row, codes, drop, edit_of, entries_1, entry_row, entry_rows, entry_statements, false, is_taken, kind_code, length, map, mode_of, next_rowid, not, not-true, numbered, pair_row, pair_rows_from, pair_statements, pair_text, pos, prop_rows, props_1, put_all, put_row, put_text, refl, run_row, runs_as, schema_2, state, statement_of, subst, suc, sym, true, understood, value_rows, with_entry, ℕ, ◌&&◌, ◌++◌, ◌+◌, ◌<◌, ◌∙◌, ◌∷◌, ◌≡◌}
 use Rattle.kt_store.proofs.SqlFacts.{put_is, put_terms, pair_is, pair_terms}
 use Rattle.kt_store.proofs.InsertLemmas.{changed}
-use Rattle.kt_store.proofs.PutLemmas.{put_beside, same_runs, as_many, more_rows, put_rows, put_works}
-use Rattle.kt_store.proofs.PairLemmas.{more_pairs}
+use Rattle.kt_store.proofs.RunsByNumber.{entry_unseen}
+use Rattle.kt_store.proofs.PutLemmas.{put_beside, more_rows, put_rows, put_works, more_pairs}
 use Rattle.kt_store.proofs.EntryLemmas.{back}
 use Rattle.kt_store.proofs.Numbered.{numbers_entry}
 use Rattle.kt_store.proofs.Values.{cast_int, cast_null}
@@ -24,18 +22,14 @@ one_more stored rows new row bare free have =
     let beside = IsPermutation-map (drop 1) (new ∷ stored) (put_row new stored) (put_beside new stored free) in
     IsPermutation-trans _ _ _ (IsPermutation-cons row rows (map (drop 1) stored) have) (subst (λ x. IsPermutation (x ∷ map (drop 1) stored) (map (drop 1) (put_row new stored))) bare beside)
 
-both_fresh : (taken rest : Bool) → (not taken && rest) ≡ true → (taken ≡ false) × (rest ≡ true)
-both_fresh true rest h = absurd (let e : false ≡ true = h in cc)
-both_fresh false rest h = (refl, h)
-
 -- new rows, each numbered above those before it
 rows_more : (stored new rows : List Row) → are_fresh stored (numbered Chosen stored (map back new)) ≡ true → IsPermutation rows (map (drop 1) stored)
     → IsPermutation (new ++ rows) (map (drop 1) (put_all stored (numbered Chosen stored (map back new))))
 rows_more stored [] rows fresh have = have
 rows_more stored (r ∷ new) rows fresh have =
     let row : Row = Int (next_rowid stored) ∷ r in
-    let both = both_fresh (is_taken stored row) (are_fresh (put_row row stored) (numbered Chosen (put_row row stored) (map back new))) fresh in
-    IsPermutation-trans _ _ _ (IsPermutation-sym _ _ (IsPermutation-middle new r rows)) (rows_more (put_row row stored) new (r ∷ rows) both.1 (one_more stored rows row r refl both.0 have))
+    let both = and_parts (not (is_taken stored row)) (are_fresh (put_row row stored) (numbered Chosen (put_row row stored) (map back new))) fresh in
+    IsPermutation-trans _ _ _ (IsPermutation-sym _ _ (IsPermutation-middle new r rows)) (rows_more (put_row row stored) new (r ∷ rows) both.1 (one_more stored rows row r refl (not-true (is_taken stored row) both.0) have))
 
 -- the same pairs in another order
 moved : (runs : List Run) (entries props more : List Row) (db : Database) → IsPermutation more props → Holds runs entries props db → Holds runs entries more db
@@ -120,10 +114,10 @@ tables_of runs k e low valid were db has =
     record {
       schema = has.schema;
       marked = has.marked;
-      runs_are = has.runs_are ∙ sym (same_runs (suc k) e runs);
+      runs_are = has.runs_are ∙ sym (entry_unseen (map run_row) (λ r more. run_row r ∷ more) (λ r rs. refl) (suc k) e (λ r more. refl) runs);
       entries_are = IsPermutation-trans _ _ _ (IsPermutation-sym _ _ rows) has.entries_are;
       props_are = IsPermutation-trans _ _ _ (IsPermutation-sym _ _ pairs) has.props_are;
-      valid = record { numbered = numbers_entry (suc k) e 1 runs were.numbered; each = valid; few = omega (arith, were.few, as_many (suc k) e runs) };
+      valid = record { numbered = numbers_entry (suc k) e 1 runs were.numbered; each = valid; few = omega (arith, were.few, entry_unseen length (λ r n. suc n) (λ r rs. refl) (suc k) e (λ r n. refl) runs) };
     }
 
 module _ {S : Type 0} (g : Ghosts S) where

@@ -1,11 +1,9 @@
 -- What the UPDATE of `finish` does.
-use Rattle.std.proofs.Common.{◌≡◌, ◌==◌, ℕ, zero, suc, ◌+◌, ◌<◌, pos, List, [], ◌∷◌, map, filter, Bool, true, false, not, Some, None, Option, slice_get, Ok, refl, sym, ap, subst, ◌∙◌, arith, IsPermutation, Less, is_eq}
-use Rattle.kt_store.proofs.Common.{nat_tests, option_to_list, Null, Int, Row, Trees, value_cmp, rowid, put_row, without_rowid, lit, col, Mode, Update, Given, edit_of, taken_by, put_all, Applies, works, ids_of, Enforced, Program, Tally, AtPlace, OnRows, Does, Task, Written, Updates, Database, Answers, one_step, one_permutation, Run, schema_2, runs_1, Tables, AreNumbered, run_row, run_at, finish}
+use Rattle.kt_store.proofs.Common.{Answers, Applies, AreNumbered, AtPlace, Bool, Database, Does, Enforced, Given, Int, IsPermutation, Less, List, Mode, None, Null, Ok, OnRows, Option, Program, Row, Run, Some, Tables, Tally, Task, Trees, Update, Updates, Written, [], ap, arith, col, done_row, edit_of, false, filter, finish, ids_of, is_eq, lit, map, nat_tests, not, one_permutation, one_step, option_to_list, pos, put_all, put_row, refl, rowid, run_at, run_row, runs_1, schema_2, slice_get, subst, suc, sym, taken_by, true, value_cmp, without_rowid, works, zero, ℕ, ◌+◌, ◌<◌, ◌==◌, ◌∙◌, ◌∷◌, ◌≡◌}
 use Rattle.sqlite_rules.specs.Action.{Writes}
-use Rattle.kt_store.specs.Inner.Edits.{done_row}
 use Rattle.kt_store.proofs.SqlFacts.{finish_query, is}
 use Rattle.kt_store.proofs.InsertLemmas.{concluded}
-use Rattle.kt_store.proofs.FindLemmas.{picked_run}
+use Rattle.kt_store.proofs.RunLemmas.{picked_run}
 use Rattle.kt_store.proofs.QueryLemmas.{answered, picked, show}
 use Rattle.kt_store.proofs.RunsByNumber.{number_at}
 use Rattle.kt_store.proofs.Values.{above, below, cast_int, cast_null, equal, same_value, went}

@@ -1,7 +1,7 @@
 -- What the query for all runs answers.
-use Rattle.std.proofs.Common.{◌≡◌, ℕ, zero, suc, ◌<◌, List, [], ◌∷◌, ◌++◌, length, map, filter, take, true, Less, refl, sym, ap, subst, ◌∙◌, arith, get_or}
-use Rattle.kt_store.proofs.Common.{AllByRecursion, map-map, Row, IsAscending, column, ascending, col, output, output_cmp, Binary, State, Shown, reads_as, Run, runs_text, schema_2, run_row, AreNumbered, head_columns, IsStore}
+use Rattle.kt_store.proofs.Common.{AllByRecursion, AreNumbered, Binary, IsAscending, IsStore, Less, List, Row, Run, Shown, State, [], ap, arith, ascending, col, column, filter, get_or, head_columns, length, map, map-map, output, output_cmp, reads_as, refl, run_row, runs_text, schema_2, subst, suc, sym, take, true, zero, ℕ, ◌++◌, ◌<◌, ◌∙◌, ◌∷◌, ◌≡◌}
 use Rattle.kt_store.proofs.SqlFacts.{runs_select_is, runs_query}
+use Rattle.kt_store.proofs.EntryLemmas.{all_pass}
 use Rattle.kt_store.proofs.QueryLemmas.{answered_in_order}
 use Rattle.kt_store.proofs.Values.{below}
 
@@ -21,10 +21,6 @@ all_lower r from (s ∷ runs) h low = (lower_runs r s (omega (arith, low, h.0)),
 rises : (from : ℕ) (runs : List Run) → AreNumbered from runs → IsAscending lower (map run_row runs)
 rises from [] h = tt
 rises from (r ∷ runs) h = (all_lower r (suc from) runs h.1 (omega (arith, h.0)), rises (suc from) runs h.1)
-
-all_pass : (rows : List Row) → filter (λ (r : Row). true) rows ≡ rows
-all_pass [] = refl
-all_pass (r ∷ rows) = ap (λ l. r ∷ l) (all_pass rows)
 
 pub tells_heads : (old new : State) (runs : List Run) (rows : List Row) → IsStore old runs → Shown runs_text [] old new rows → rows ≡ map head_columns runs
 tells_heads old new runs rows has h =

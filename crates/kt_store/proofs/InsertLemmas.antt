@@ -1,6 +1,5 @@
 -- An INSERT of rows that are written out, into a table that SQL does not number, where no foreign key acts.
-use Rattle.std.proofs.Common.{◌≡◌, ℕ, ◌/◌, ℤ, List, [], length, false, cond, slice_get, Some, None, Option, Ok, refl, sym, ap, subst, ◌∙◌, append-nil, MatchBool}
-use Rattle.kt_store.proofs.Common.{Row, Trees, Term, Table, Schema, Enforced, Values, Insert, Chosen, Above, Edit, edit_of, Applies, taken_by, works, Tally, AtPlace, OnRows, Concludes, Does, Mode, Written, Task, Counts, CountsIn, Inserts, Gives, sequence, stamped, last_id, rowids_for, count_of, is_lt, int_cmp, Database, value_rows, one_step}
+use Rattle.kt_store.proofs.Common.{Above, Applies, AtPlace, Chosen, Concludes, Counts, CountsIn, Database, Does, Edit, Enforced, Gives, Insert, Inserts, List, MatchBool, Mode, None, Ok, OnRows, Option, Row, Schema, Some, Table, Tally, Task, Term, Trees, Values, Written, [], ap, append-nil, cond, count_of, edit_of, false, int_cmp, is_lt, last_id, length, one_step, refl, rowids_for, sequence, slice_get, stamped, subst, sym, taken_by, value_rows, works, ℕ, ℤ, ◌/◌, ◌∙◌, ◌≡◌}
 use Rattle.sqlite_rules.specs.Action.{Writes}
 use Rattle.kt_store.proofs.Values.{same_value, went}
 

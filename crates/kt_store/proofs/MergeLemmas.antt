@@ -1,8 +1,5 @@
--- The rows of pairs beside those of their entries.
-use Rattle.std.proofs.Common.{◌≡◌, ◌≢◌, ◌⊎◌, inl, inr, Bool, true, false, ℕ, zero, suc, ◌<◌, ◌≤◌, pos, List, [], ◌∷◌, ◌++◌, length, map, take, drop, refl, sym, ap, subst, ◌∙◌, arith, get_or}
-use Rattle.kt_store.proofs.Common.{AllByRecursion, Int, Row, column, IsAscending, Entry, Variable, IsEntry, IsPair, as_shown, entry_columns, output_columns, pair_columns, pairs_shown, shown_columns, width_of}
-use Rattle.kt_store.specs.Heads.{outputs_of}
-use Rattle.kt_store.specs.declared.result_store.CaseOutputs.{CaseOutputs}
+-- Entries with their pairs, by the rows of both.
+use Rattle.kt_store.proofs.Common.{AllByRecursion, Bool, CaseOutputs, Entry, Int, IsAscending, IsEntry, IsPair, List, Row, Variable, [], all_map, ap, append-nil, append_assoc, arith, as_shown, ascending-map, column, drop, entry_columns, false, get_or, inl, inr, length, map, map-id, map-map, output_columns, outputs_of, pair_columns, pairs_shown, pos, refl, shown_columns, subst, suc, sym, take, true, width_of, with_pairs, zero, ℕ, ◌++◌, ◌<◌, ◌∙◌, ◌∷◌, ◌≡◌, ◌≢◌, ◌≤◌, ◌⊎◌}
 
 abbrev pub Later : ℕ → List Entry → Type 0
 Later p others = AllByRecursion (λ (e : Entry). p < e.position) others
@@ -43,10 +40,6 @@ SoFar p rows meta rest =
     (vs : List Variable) (others : List Entry) → AllByRecursion IsPair vs → Later p others → rows ≡ map (pair_columns p) vs ++ pairs_shown others
     → (more : List Variable) × (vs ≡ meta ++ more) × (rest ≡ map (pair_columns p) more ++ pairs_shown others) × AllByRecursion IsPair more
 
-append_one : {X : Type 0} (xs : List X) (x : X) (ys : List X) → xs ++ x ∷ ys ≡ xs ++ x ∷ [] ++ ys
-append_one [] x ys = refl
-append_one (z ∷ xs) x ys = ap (λ l. z ∷ l) (append_one xs x ys)
-
 pub one_read : (p : ℕ) (rows : List Row) (meta new : List Variable) (v : Variable) (n : ℕ) (shown : Row) (rest after : List Row) → rest ≡ shown ∷ after → column shown 0 ≡ Int (pos n) → n ≡ p
     → ((m : ℕ) (w : Variable) → IsPair w → shown ≡ pair_columns m w → v ≡ w) → new ≡ meta ++ v ∷ [] → SoFar p rows meta rest → SoFar p rows new after
 one_read p rows meta new v n shown rest after parts read same pair pushed so_far vs others sound later are =
@@ -55,18 +48,14 @@ one_read p rows meta new v n shown rest after parts read same pair pushed so_far
       | inl next ↦
           let pairs : AllByRecursion IsPair (next.0 ∷ next.1) = subst (AllByRecursion IsPair) next.2 it.3 in
           let is : v ≡ next.0 = pair p next.0 pairs.0 next.3 in
-          (next.1, it.1 ∙ ap (λ l. meta ++ l) next.2 ∙ append_one meta next.0 next.1 ∙ ap (λ x. meta ++ x ∷ [] ++ next.1) (sym is) ∙ ap (λ l. l ++ next.1) (sym pushed), next.4, pairs.1)
+          (next.1, it.1 ∙ ap (λ l. meta ++ l) next.2 ∙ sym (append_assoc meta (next.0 ∷ []) next.1) ∙ ap (λ x. meta ++ x ∷ [] ++ next.1) (sym is) ∙ ap (λ l. l ++ next.1) (sym pushed), next.4, pairs.1)
       | inr past ↦ absurd (omega (arith, past.3, same, read_position past.1 n past.2 shown past.4 read))
     ]
-
-nothing_more : (xs : List Variable) → xs ++ [] ≡ xs
-nothing_more [] = refl
-nothing_more (x ∷ xs) = ap (λ l. x ∷ l) (nothing_more xs)
 
 -- no row is left, or the next one is of another position
 pub all_read : (p : ℕ) (meta : List Variable) (vs more : List Variable) (others : List Entry) (rest : List Row) → vs ≡ meta ++ more → more ≡ [] → rest ≡ map (pair_columns p) more ++ pairs_shown others
     → (meta ≡ vs) × (rest ≡ pairs_shown others)
-all_read p meta vs more others rest is none left = (sym (is ∙ ap (λ l. meta ++ l) none ∙ nothing_more meta), left ∙ ap (λ l. map (pair_columns p) l ++ pairs_shown others) none)
+all_read p meta vs more others rest is none left = (sym (is ∙ ap (λ l. meta ++ l) none ∙ append-nil meta), left ∙ ap (λ l. map (pair_columns p) l ++ pairs_shown others) none)
 
 pub no_more : (p n : ℕ) (more : List Variable) (others : List Entry) (shown : Row) (rest after : List Row) → rest ≡ shown ∷ after → column shown 0 ≡ Int (pos n) → n ≢ p → Later p others
     → rest ≡ map (pair_columns p) more ++ pairs_shown others → more ≡ []
@@ -107,3 +96,30 @@ at whole (e ∷ es) (suc i) y sound up low is =
 pub outputs_shown : (whole : Bool) (e : Entry) (o : CaseOutputs) → o ≡ outputs_of (as_shown whole e) → record e { body = o.body; cleanup = o.cleanup } ≡ as_shown whole e
 outputs_shown true e o is = rw is refl
 outputs_shown false e o is = rw is refl
+
+-- ---- the entries of a run, of which the pairs are asked for or not
+
+-- no pair is shown of entries without pairs
+pub none_shown : (es : List Entry) → [] ≡ pairs_shown (map (with_pairs false) es)
+none_shown [] = refl
+none_shown (e ∷ es) = none_shown es
+
+pub all_shown : (es : List Entry) → pairs_shown es ≡ pairs_shown (map (with_pairs true) es)
+all_shown es = ap pairs_shown (sym (map-id es))
+
+bare_sound : (es : List Entry) → AllByRecursion IsEntry es → AllByRecursion (λ e. IsEntry (with_pairs false e)) es
+bare_sound [] sound = tt
+bare_sound (e ∷ es) sound = (record { program = sound.0.program; case_name = sound.0.case_name; reason = sound.0.reason; passed = sound.0.passed; meta = tt }, bare_sound es sound.1)
+
+pub still_sound : (pairs : Bool) (es : List Entry) → AllByRecursion IsEntry es → AllByRecursion IsEntry (map (with_pairs pairs) es)
+still_sound true es sound = all_map IsEntry (with_pairs true) es sound
+still_sound false es sound = all_map IsEntry (with_pairs false) es (bare_sound es sound)
+
+pub still_up : (pairs : Bool) (es : List Entry) → IsAscending (λ (a b : Entry). a.position < b.position) es → IsAscending (λ (a b : Entry). a.position < b.position) (map (with_pairs pairs) es)
+still_up true es up = ascending-map (λ (a b : Entry). a.position < b.position) (with_pairs true) es up
+still_up false es up = ascending-map (λ (a b : Entry). a.position < b.position) (with_pairs false) es up
+
+-- the rows of entries don't have their pairs
+pub same_columns : (pairs : Bool) (es : List Entry) → map entry_columns es ≡ map entry_columns (map (with_pairs pairs) es)
+same_columns true es = sym (map-map entry_columns (with_pairs true) es)
+same_columns false es = sym (map-map entry_columns (with_pairs false) es)

@@ -1,11 +1,9 @@
 -- The number of the schema, as its query tells.
-use Rattle.std.proofs.Common.{◌≡◌, ◌≢◌, ℤ, pos, List, IsTrue, inl, arith, [], ◌∷◌, map, filter, drop, codes, Bool, true, Some, None, slice_get, refl, sym, ap, subst, ◌∙◌, IsPermutation}
-use Rattle.kt_store.proofs.Common.{list_all, Int, Text, Value, Database, Schema, Row, column, value_cmp, Term, lit, col, holds, binary, Ghosts, Held, state, State, Shown, HasCleanDisk, IsUnchanged, Survives, reads_as, one_permutation, Run, meta_text, meta_1, runs_1, entries_1, props_1, index_of, beside_meta, Holds, StandsFor, StandsInOld, SaysSchema, SaysNumber, IsEmpty, Asked, MayShow, Rests, AsksNumber, understood}
+use Rattle.kt_store.proofs.Common.{Asked, AsksNumber, Bool, Database, Ghosts, HasCleanDisk, Held, Holds, Int, IsEmpty, IsPermutation, IsTrue, IsUnchanged, List, MayShow, None, Rests, Row, Run, SaysNumber, SaysSchema, Schema, Shown, Some, StandsFor, StandsInOld, State, Survives, Term, Text, Value, [], ap, arith, beside_meta, binary, codes, col, column, drop, entries_1, filter, holds, index_of, inl, list_all, lit, map, meta_1, meta_text, one_permutation, pos, props_1, reads_as, refl, runs_1, slice_get, state, subst, sym, true, understood, value_cmp, ℤ, ◌∙◌, ◌∷◌, ◌≡◌, ◌≢◌}
 use Rattle.sqlite.specs.Given.{IsPlain}
 use Rattle.kt_store.proofs.AskLemmas.{asked_unchanged, asked_leaves}
 use Rattle.kt_store.proofs.StepLemmas.{same_settled}
-use Rattle.kt_store.proofs.SqlFacts.{is}
-use Rattle.kt_store.proofs.MetaFacts.{meta_any}
+use Rattle.kt_store.proofs.SqlFacts.{is, meta_any}
 use Rattle.kt_store.proofs.QueryLemmas.{answered}
 
 abbrev pub tests : List Term
@@ -101,9 +99,9 @@ row_is n rows row are first =
     cc
 
 -- what was read is the number
-pub read_it : (n m : ℤ) (rows : List Row) (first : Row) → rows ≡ (Int n ∷ []) ∷ [] → slice_get rows 0 ≡ Some first → column first 0 ≡ Int m → m ≡ n
-read_it n m rows row are first read =
-    let got : Int n ≡ Int m = sym (ap (λ r. column r 0) (row_is n rows row are first)) ∙ read in
+pub read_it : (n m : ℤ) (first : Row) → first ≡ Int n ∷ [] → column first 0 ≡ Int m → m ≡ n
+read_it n m first is read =
+    let got : Int n ≡ Int m = sym (ap (λ (r : Row). column r 0) is) ∙ read in
     cc
 
 pub some_row : (n : ℤ) (rows : List Row) → rows ≡ (Int n ∷ []) ∷ [] → slice_get rows 0 ≢ None

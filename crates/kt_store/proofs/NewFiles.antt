@@ -1,26 +1,19 @@
 -- The first page of a new file alone is an empty database.
-use Rattle.std.proofs.Common.{◌≡◌, ◌∙◌, ℕ, true, List, [], Some, None, length, take, inl, inr, refl, ap, sym, arith, ne_eqb}
-use Rattle.std.proofs.lemmas.Bool.{cases_eq}
+use Rattle.kt_store.proofs.Common.{AreWhole, HoldsEmpty, Image, IsIgnored, List, None, PageMap, Some, [], adopts_of, all_trees, ap, arith, cases_eq, file_trees, in_use, inl, inr, length, ne_eqb, only_page, refl, sym, take, true, version_in, ℕ, ◌∙◌, ◌≡◌}
 use Rattle.sqlite_format.specs.declared.kind.Tree.TheVariants.{Table}
 use Rattle.sqlite_format.specs.Page.{cell_count, content_start}
 use Rattle.sqlite_format.proofs.PageLemmas.{empty_page}
-use Rattle.sqlite_pages.specs.PageMap.{PageMap}
-use Rattle.sqlite_pool.specs.File.{in_use, version_in}
 use Rattle.sqlite_pool.specs.Header.{first_page}
 use Rattle.sqlite_pool.specs.Opening.{IsFirstPage}
 use Rattle.sqlite_pool.specs.Stored.{Recovers, sealed, trimmed}
 use Rattle.sqlite_pool.proofs.OpenLemmas.{first_new}
-use Rattle.sqlite_pool.proofs.ResealLemmas.{adopts_of}
 use Rattle.sqlite_store.specs.Db.{trees_in}
-use Rattle.sqlite_store.specs.Listing.{all_trees, file_trees}
 use Rattle.sqlite_store.specs.Listed.{catalog_rows}
 use Rattle.sqlite_store.proofs.BuildLemmas.{new_is_empty}
 use Rattle.sqlite_store.proofs.ListingLemmas.{named_tree, past_version}
 use Rattle.sqlite.proofs.ListingLemmas.{empty_is_sound}
-use Rattle.sqlite_wal.specs.Recovery.{AreWhole, Image, IsIgnored, only_page}
 use Rattle.sqlite_wal.proofs.CreateLemmas.{pages_of_one}
 use mathlib.Core.Path.{fun_ext}
-use Rattle.kt_store.specs.Inner.NewFiles.{HoldsEmpty}
 
 abbrev page : List ℕ
 page = first_page 1024

@@ -1,6 +1,6 @@
 -- Runs stay numbered by place, and their entries ordered.
-use Rattle.std.proofs.Common.{Ok, Err, Bool, true, false, if◌then◌else◌, ◌≡◌, ◌==◌, nat_le, ℕ, zero, suc, ◌+◌, List, [], ◌∷◌, ◌++◌, length, Some, None, slice_get, subst, refl, arith, ◌∙◌}
-use Rattle.kt_store.proofs.Common.{nat_tests, all-append, Entry, Run, AreNumbered, AreOrdered, Agrees, new_run, insert_at, with_entry, put_refusal_of, has_position, finish, changed_by, StoreCall, Began, Put, Finished, Heads, Outline, Outputs, RunClosed, BadPosition, RepeatedPosition}
+use Rattle.kt_store.proofs.Common.{Agrees, AreNumbered, AreOrdered, BadPosition, Began, Bool, Entry, Err, Finished, Heads, IsAscending, List, None, Ok, Option, Outline, Outputs, Put, RepeatedPosition, Run, RunClosed, Some, StoreCall, [], all-append, all-slice_get, arith, changed_by, false, finish, has_position, if◌then◌else◌, insert_at, length, nat_le, new_run, put_refusal_of, refl, slice_get, suc, true, with_entry, zero, ℕ, ◌++◌, ◌+◌, ◌<◌, ◌==◌, ◌∙◌, ◌∷◌, ◌≡◌}
+use Rattle.kt_store.proofs.RunsByNumber.{entry_each}
 use Rattle.kt_store.proofs.TakesLemmas.{ascends}
 
 numbers_more : (n : ℕ) (runs : List Run) (r : Run) → AreNumbered n runs → r.number ≡ n + length runs → AreNumbered n (runs ++ r ∷ [])
@@ -44,15 +44,15 @@ free_of r e = by r.finished (nat_le r.total e.position) (has_position e.position
     by false false true h = absurd cc
     by false false false h = refl
 
-ordered_entry : (n k : ℕ) (e : Entry) (runs : List Run) → AreNumbered n runs → AreOrdered runs → put_refusal_of (slice_get runs k) e ≡ None → AreOrdered (with_entry (n + k) e runs)
-ordered_entry n k e [] h o free = tt
-ordered_entry n zero e (r ∷ runs) h o free =
-    let number : (r.number == n + 0) ≡ true = grind (arith, nat_tests, h.0) in
-    rw number (ascends e r.entries o.0 (free_of r e free), o.1)
-ordered_entry n (suc k) e (r ∷ runs) h o free =
-    let place : suc n + k ≡ n + suc k = omega arith in
-    let apart : (r.number == n + suc k) ≡ false = grind (arith, nat_tests, h.0) in
-    rw apart (o.0, subst (λ m. AreOrdered (with_entry m e runs)) place (ordered_entry (suc n) k e runs h.1 o.1 free))
+abbrev IsOrdered : Run → Type 0
+IsOrdered r = IsAscending (λ (a b : Entry). a.position < b.position) r.entries
+
+ordered_entry : (k : ℕ) (e : Entry) (runs : List Run) → AreNumbered 1 runs → AreOrdered runs → put_refusal_of (slice_get runs k) e ≡ None → AreOrdered (with_entry (suc k) e runs)
+ordered_entry k e runs h o = go (slice_get runs k) refl
+  where
+    go : (there : Option Run) → slice_get runs k ≡ there → put_refusal_of there e ≡ None → AreOrdered (with_entry (suc k) e runs)
+    go None is free = absurd cc
+    go (Some r) is free = entry_each IsOrdered k runs r h o is e (ascends e r.entries (all-slice_get IsOrdered runs k r is o) (free_of r e free))
 
 ordered_finish : (k : ℕ) (runs : List Run) → AreOrdered runs → AreOrdered (finish k runs)
 ordered_finish k [] o = tt
@@ -67,7 +67,7 @@ pub ordered_changed : (call : StoreCall) (runs : List Run) → AreNumbered 1 run
 ordered_changed (Began total moment (Ok number)) runs h o a = all-append _ runs (new_run runs total moment ∷ []) o (tt, tt)
 ordered_changed (Began total moment (Err fault)) runs h o a = o
 ordered_changed (Put zero e (Ok done)) runs h o a = absurd cc
-ordered_changed (Put (suc k) e (Ok done)) runs h o a = subst (λ m. AreOrdered (with_entry m e runs)) (omega arith) (ordered_entry 1 k e runs h o a)
+ordered_changed (Put (suc k) e (Ok done)) runs h o a = ordered_entry k e runs h o a
 ordered_changed (Put number e (Err fault)) runs h o a = o
 ordered_changed (Finished number (Ok done)) runs h o a = ordered_finish number runs o
 ordered_changed (Finished number (Err fault)) runs h o a = o

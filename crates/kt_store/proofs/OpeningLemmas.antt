@@ -1,38 +1,15 @@
--- A file that holds runs lists the schema of their tables.
-use Rattle.std.proofs.Common.{◌≡◌, ◌≢◌, ◌%◌, ◌-◌, ◌<◌, ◌≤◌, ◌&&◌, Bool, false, true≢false, arith, get_or, length, ℕ, pos, true, List, [], ◌∷◌, map, Option, Some, Result, Ok, Err, IfSome, IsTrue, refl, sym, ap, ap₂, subst, ◌∙◌}
-use Rattle.std.proofs.lemmas.Option.{none-some, same_Some}
+-- A file that holds runs lists the schema of their tables, and what was taken of it has these runs.
+use Rattle.kt_store.proofs.Common.{AllByRecursion, AreOrdered, Bool, Current, Database, Err, FileStore, HasCleanDisk, HasCommitted, Held, HoldsAt, HoldsIn, HoldsRuns, IfOk, IfSome, Image, Int, IsClean, IsRun, Keeps, List, Lists, Looks, Ok, OpensOver, OpensRuns, Option, PageMap, Recovers, Result, Row, Run, Schema, Shape, Some, StandsFor, StoreFault, Table, Tables, Trees, Trees-set, Value, View, [], ap, ap₂, arith, catalog_tree, cond, entries_1, false, file_state, get_or, in_use, index_reals, inr, joined, layout_at, layout_of, length, lists_once, map, map-map, meets, meta_1, none-some, number_in, over_files, plain, plain_adopts, pos, props_1, recovers, recovers_once, refl, rowid, rows_at, same_Some, schema_2, shut_if_dirty_at, subst, sym, table_reals, true, unrooted, version_in, view, with_version, ℕ, ∥∥₁_elim, ◌%◌, ◌&&◌, ◌-◌, ◌<◌, ◌∙◌, ◌∷◌, ◌≡◌, ◌≢◌, ◌≤◌}
 use Rattle.std.specs.Result.{result_ok}
-use Rattle.kt_store.proofs.Common.{AllByRecursion, AreOrdered, IsRun, map-map, Int, Row, Trees, Run, Keeps, rowid, schema_2, meta_1, entries_1, props_1, plain, Value, Table}
-use Rattle.sqlite_wal.specs.Recovery.{Image}
-use Rattle.sqlite_pages.specs.PageMap.{PageMap}
-use Rattle.sqlite_schema.specs.Rules.{table_reals, index_reals}
-use Rattle.sqlite_pool.specs.File.{in_use, version_in}
-use Rattle.sqlite_pool.specs.Stored.{Recovers}
-use Rattle.sqlite_pool.specs.StoredLaws.{recovers_once}
-use Rattle.sqlite_pool.proofs.ResealLemmas.{plain_adopts}
-use Rattle.sqlite_trees.specs.View.{View, IsClean}
-use Rattle.sqlite_trees.specs.Objects.{catalog_tree, number_in, with_version}
-use Rattle.sqlite_trees.specs.declared.store.Shape.{Shape}
 use Rattle.sqlite_trees.specs.declared.store.Shape.TheVariants as kind
 use Rattle.sqlite_store.specs.declared.catalog.Wanted.{Wanted}
-use Rattle.sqlite_store.specs.Db.{rows_at}
-use Rattle.sqlite_store.specs.Joined.{joined}
 use Rattle.sqlite_store.specs.Listing.{listed_from, file_trees, IsOurs}
 use Rattle.sqlite_store.proofs.AlikeLemmas.{same_file}
-use Rattle.sqlite_catalog.specs.Listing.{Lists}
 use Rattle.sqlite_catalog.specs.Reading.{AreShaped}
-use Rattle.sqlite_catalog.proofs.ReadLemmas.{lists_once}
-use Rattle.sqlite.specs.Opening.{HoldsAt, HoldsIn, layout_at, layout_of, unrooted}
-use Rattle.sqlite.proofs.OpenLemmas.{meets}
 use Rattle.sqlite_disk.specs.declared.Disk.{Ghosts}
-use Rattle.sqlite_store.specs.declared.store.FileStore.{FileStore}
-use Rattle.sqlite_store.specs.FileStore.{view}
-use Rattle.sqlite.specs.Files.{over_files}
-use Rattle.kt_store.specs.Inner.Cursors.{Looks}
-use Rattle.kt_store.specs.Inner.Opening.{OpensOver}
-use Rattle.kt_store.specs.Seeks.{OpensRuns}
+use Rattle.sqlite_disk.specs.Events.{Event, replay}
 use Rattle.kt_store.proofs.EndLemmas.{clean_of_open}
-use Rattle.sqlite_store.specs.Laws.{shut_if_dirty_at}
+use Rattle.kt_store.specs.Files.{AreOver, Finds, Follows, IsOver}
 
 -- a result that was taken as an option
 pub ok_is : {T E : Type 0} (r : Result T E) (o : Option T) (x : T) → o ≡ result_ok r → o ≡ Some x → r ≡ Ok x
@@ -43,9 +20,13 @@ pub if_some : {T E : Type 0} (P : T → Type 0) (r : Result T E) (o : Option T) 
 if_some P (Ok y) o is each = subst (λ p. IfSome p P) (sym is) (each y refl)
 if_some P (Err e) o is each = subst (λ p. IfSome p P) (sym is) tt
 
-pub both_true : (a b : Bool) → IsTrue (a && b) → IsTrue a × IsTrue b
-both_true true b h = (refl, h)
-both_true false b h = absurd (true≢false (sym h))
+-- files that nothing was done with hold what they held
+abbrev seen : List ℕ → List ℕ → Bool → List Event → List ℕ
+seen log db is_log history = (replay (cond is_log log db) history).seen
+
+pub as_found : (log db : List ℕ) {a b : Bool} {x y u v : List Event} → ((a ≡ true) × (x ≡ u)) × ((b ≡ false) × (y ≡ v))
+    → ◌≡◌ {A = Image} (record { log = seen log db a x; db = seen log db b y }) (record { log = seen log db true u; db = seen log db false v })
+as_found log db (p, q) = ap₂ (λ (l d : List ℕ). let r : Image = record { log = l; db = d } in r) (ap₂ (seen log db) p.0 p.1) (ap₂ (seen log db) q.0 q.1)
 
 -- the items of a list of seven
 pub seven : {X : Type 0} (xs : List X) (a b c d e f g : X) → 7 ≤ length xs → length xs < 8 → a ≡ get_or xs 0 a → b ≡ get_or xs 1 b → c ≡ get_or xs 2 c → d ≡ get_or xs 3 d → e ≡ get_or xs 4 e → f ≡ get_or xs 5 f → g ≡ get_or xs 6 g
@@ -131,3 +112,39 @@ opens_runs image old new looks settled unbroken opens = record {
   );
   leaves = λ runs h clean trees found. (opens (looks.clean clean)).leaves runs h trees (looks.outcomes trees found);
 }
+
+-- ---- what was taken of a file has the runs that the file held
+
+same_tables : (s t : Schema) (a b : Trees) (runs : List Run) → s ≡ t → a ≡ b → Tables (record { schema = s; trees = a }) runs → Tables (record { schema = t; trees = b }) runs
+same_tables s t a b runs same equal has = subst (λ x. Tables (record { schema = t; trees = x }) runs) equal (subst (λ x. Tables (record { schema = x; trees = a }) runs) same has)
+
+module _ {D : Type 0} {g : Ghosts D} (image : Image) where
+  -- a connection over the file stands for them
+  pub held_stands : (conn : Held (FileStore D g)) → IsOver image conn → (runs : List Run) → HoldsRuns image runs → StandsFor (file_state conn) runs
+  held_stands conn over runs (db, found, (held, sound, trees, tables)) clean opened =
+      let it = over clean in
+      let s = file_state conn in
+      let same : held.trees ≡ s.committed.trees = sym trees ∙ ∥∥₁_elim found (Trees-set _ _) (λ it_is. sym (it.1.holds db it_is)) in
+      let lists : Lists (s.committed.trees catalog_tree) held.schema = subst (λ (t : Trees). Lists (t catalog_tree) held.schema) same sound.lists in
+      let schema : held.schema ≡ s.committed.schema = lists_once (s.committed.trees catalog_tree) held.schema s.committed.schema lists (it.0.1 opened).1.lists in
+      record {
+        autocommit = it.0.0.autocommit;
+        settled = sym it.0.0.clean;
+        tables = subst (λ (d : Database). Tables d runs) (sym it.0.0.clean) (same_tables held.schema s.committed.schema held.trees s.committed.trees runs schema same tables);
+      }
+
+  -- and so does the store behind the results that were taken of it
+  pub opens_of : (results : Held (FileStore D g)) (store : FileStore D g) → AreOver image results → Follows results store → OpensRuns image store
+  opens_of results store over follows =
+      let taken = λ (runs : List Run) (h : HoldsRuns image runs). over.2 (Current runs) (held_stands over.0 over.1 runs h) in
+      record {
+        stands = λ runs h. (follows.stands runs (taken runs h).0, h.2.3.valid.numbered, λ clean. ordered_of runs h.2.3.valid.each);
+        leaves = λ runs h clean trees found. (taken runs h).1 (follows.earlier clean) trees (follows.crash trees found);
+      }
+
+  pub found_of : (results : Held (FileStore D g)) (made : Result (FileStore D g) StoreFault) → AreOver image results → IfOk made (λ s. (runs : List Run) → StandsFor (file_state results) runs → HasCommitted (view s) runs) → IfOk made (λ s. IsClean (view s) → HasCleanDisk (file_state results))
+      → IfOk made (λ s. (trees : Trees) → recovers s trees → (file_state results).may_leave trees) → IfOk made (Finds image)
+  found_of results (Ok store) over stands earlier crash =
+      let follows : Follows results store = record { stands = stands; earlier = earlier; crash = crash } in
+      record { held = opens_of results store over follows; whose = inr (results, over, follows) }
+  found_of results (Err fault) over stands earlier crash = tt

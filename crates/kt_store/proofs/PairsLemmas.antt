@@ -1,9 +1,8 @@
 -- What the query for the pairs of a run answers.
-use Rattle.std.proofs.Common.{◌≡◌, ◌≢◌, ◌==◌, ◌&&◌, ℕ, suc, ◌<◌, pos, List, [], ◌∷◌, ◌++◌, map, filter, drop, Bool, true, false, Some, None, Option, Less, refl, sym, ap, ap₂, subst, ◌∙◌, arith, IsPermutation, append-nil}
-use Rattle.kt_store.proofs.Common.{AllByRecursion, flat_map, option_to_list, nat_tests, map-append, filter-append, map-map, all-append, Int, Row, IsAscending, ascending, col, is_true, from_truth, binary, Output, output, output_cmp, Binary, State, Shown, reads_as, Run, Entry, Variable, pairs_text, schema_2, entries_of, pair_row, pair_rows, pair_rows_from, prop_rows, run_at, AreNumbered, pair_columns, pairs_shown, IsStore}
+use Rattle.kt_store.proofs.Common.{AllByRecursion, AreNumbered, Binary, Bool, Entry, Int, IsAscending, IsPermutation, IsStore, Less, List, None, Option, Output, Row, Run, Shown, Some, State, Variable, [], all-append, ap, append-nil, ap₂, arith, ascending, ascending-map, binary, col, drop, entries_of, false, filter, filter-append, flat_map, from_truth, is_true, map, map-append, map-map, nat_tests, option_to_list, output, output_cmp, pair_columns, pair_row, pair_rows, pair_rows_from, pairs_shown, pairs_text, pos, prop_rows, reads_as, refl, run_at, schema_2, subst, suc, true, ℕ, ◌&&◌, ◌++◌, ◌<◌, ◌==◌, ◌∙◌, ◌∷◌, ◌≡◌, ◌≢◌}
 use Rattle.kt_store.proofs.SqlFacts.{pairs_select_is, pairs_query}
 use Rattle.kt_store.proofs.QueryLemmas.{answered_sorted}
-use Rattle.kt_store.proofs.EntryLemmas.{back, of_stored, of_one, one_truth, tests, passes, same_passes}
+use Rattle.kt_store.proofs.EntryLemmas.{back, of_stored, of_one, and_true, truth, tests, passes, same_passes}
 use Rattle.kt_store.proofs.EntriesLemmas.{up_of}
 use Rattle.kt_store.proofs.Values.{below, equal, same_test}
 
@@ -39,13 +38,32 @@ of_pairs test n runs each h =
     found None = refl
     found (Some r) = append-nil (flat_map (pair_rows n) r.entries)
 
-and_true : (b : Bool) → b && true ≡ b
-and_true true = refl
-and_true false = refl
+-- the rows of pairs of entries by position rise in a relation that goes by their positions, and then by their places
+module _ (n : ℕ) (Rel : Row → Row → Type 0) (by_position : (p q k j : ℕ) (v w : Variable) → p < q → Rel (pair_row n p k v) (pair_row n q j w))
+    (by_place : (p k j : ℕ) (v w : Variable) → k < j → Rel (pair_row n p k v) (pair_row n p j w)) where
+  later_places : (p k j : ℕ) (v : Variable) (vs : List Variable) → k < j → AllByRecursion (Rel (pair_row n p k v)) (pair_rows_from n p j vs)
+  later_places p k j v [] h = tt
+  later_places p k j v (w ∷ vs) h = (by_place p k j v w h, later_places p k (suc j) v vs (omega (arith, h)))
+
+  later_rows : (p q k j : ℕ) (v : Variable) (vs : List Variable) → p < q → AllByRecursion (Rel (pair_row n p k v)) (pair_rows_from n q j vs)
+  later_rows p q k j v [] h = tt
+  later_rows p q k j v (w ∷ vs) h = (by_position p q k j v w h, later_rows p q k (suc j) v vs h)
+
+  later_entries : (p k : ℕ) (v : Variable) (es : List Entry) → AllByRecursion (λ (e : Entry). p < e.position) es → AllByRecursion (Rel (pair_row n p k v)) (flat_map (pair_rows n) es)
+  later_entries p k v [] h = tt
+  later_entries p k v (e ∷ es) h = all-append (Rel (pair_row n p k v)) (pair_rows n e) (flat_map (pair_rows n) es) (later_rows p e.position k 0 v e.meta h.0) (later_entries p k v es h.1)
+
+  rise_from : (p k : ℕ) (vs : List Variable) (rest : List Row) → ((j : ℕ) (v : Variable) → AllByRecursion (Rel (pair_row n p j v)) rest) → IsAscending Rel rest → IsAscending Rel (pair_rows_from n p k vs ++ rest)
+  rise_from p k [] rest all up = up
+  rise_from p k (v ∷ vs) rest all up = (all-append (Rel (pair_row n p k v)) (pair_rows_from n p (suc k) vs) rest (later_places p k (suc k) v vs (omega arith)) (all k v), rise_from p (suc k) vs rest all up)
+
+  pub pairs_rise : (es : List Entry) → IsAscending (λ (a b : Entry). a.position < b.position) es → IsAscending Rel (flat_map (pair_rows n) es)
+  pairs_rise [] up = tt
+  pairs_rise (e ∷ es) up = rise_from e.position 0 e.meta (flat_map (pair_rows n) es) (λ j v. later_entries e.position j v es up.0) (pairs_rise es up.1)
 
 each_pair : (n m p k : ℕ) (v : Variable) → passes (Int (pos n) ∷ []) (back (pair_row m p k v)) ≡ (m == n)
 unfolding binary
-each_pair n m p k v = ap (λ a. is_true (from_truth (Some a)) && true) (same_test m n) ∙ one_truth (m == n) ∙ and_true (m == n)
+each_pair n m p k v = ap (λ a. is_true (from_truth (Some a)) && true) (same_test m n) ∙ ap (λ b. b && true) (truth (m == n)) ∙ and_true (m == n)
 
 abbrev out : Row → Row → Output
 out params r = output pairs_query (params ∷ r ∷ [])
@@ -67,29 +85,8 @@ module _ (n : ℕ) where
   lower_places : (p k j : ℕ) (v w : Variable) → k < j → lower (shows (pair_row n p k v)) (shows (pair_row n p j w))
   lower_places p k j v w h = rw (equal p) (rw (below k j h) refl)
 
-  lower_later : (p k j : ℕ) (v : Variable) (vs : List Variable) → k < j → AllByRecursion (lower (shows (pair_row n p k v))) (map shows (pair_rows_from n p j vs))
-  lower_later p k j v [] h = tt
-  lower_later p k j v (w ∷ vs) h = (lower_places p k j v w h, lower_later p k (suc j) v vs (omega (arith, h)))
-
-  lower_rows : (p q k j : ℕ) (v : Variable) (vs : List Variable) → p < q → AllByRecursion (lower (shows (pair_row n p k v))) (map shows (pair_rows_from n q j vs))
-  lower_rows p q k j v [] h = tt
-  lower_rows p q k j v (w ∷ vs) h = (lower_positions p q k j v w h, lower_rows p q k (suc j) v vs h)
-
-  lower_entries : (p k : ℕ) (v : Variable) (es : List Entry) → AllByRecursion (λ (e : Entry). p < e.position) es → AllByRecursion (lower (shows (pair_row n p k v))) (map shows (flat_map (pair_rows n) es))
-  lower_entries p k v [] h = tt
-  lower_entries p k v (e ∷ es) h = subst (AllByRecursion (lower (shows (pair_row n p k v)))) (sym (map-append shows (pair_rows n e) (flat_map (pair_rows n) es)))
-      (all-append (lower (shows (pair_row n p k v))) (map shows (pair_rows n e)) (map shows (flat_map (pair_rows n) es)) (lower_rows p e.position k 0 v e.meta h.0) (lower_entries p k v es h.1))
-
-  rises_from : (p k : ℕ) (vs : List Variable) (rest : List Output) → ((j : ℕ) (v : Variable) → AllByRecursion (lower (shows (pair_row n p j v))) rest) → IsAscending lower rest
-      → IsAscending lower (map shows (pair_rows_from n p k vs) ++ rest)
-  rises_from p k [] rest all up = up
-  rises_from p k (v ∷ vs) rest all up =
-      (all-append (lower (shows (pair_row n p k v))) (map shows (pair_rows_from n p (suc k) vs)) rest (lower_later p k (suc k) v vs (omega arith)) (all k v), rises_from p (suc k) vs rest all up)
-
   rises : (es : List Entry) → IsAscending (λ (a b : Entry). a.position < b.position) es → IsAscending lower (map shows (flat_map (pair_rows n) es))
-  rises [] h = tt
-  rises (e ∷ es) h = subst (IsAscending lower) (sym (map-append shows (pair_rows n e) (flat_map (pair_rows n) es)))
-      (rises_from e.position 0 e.meta (map shows (flat_map (pair_rows n) es)) (λ j v. lower_entries e.position j v es h.0) (rises es h.1))
+  rises es h = ascending-map lower shows (flat_map (pair_rows n) es) (pairs_rise n (λ a b. lower (shows a) (shows b)) lower_positions lower_places es h)
 
   columns_from : (p k : ℕ) (vs : List Variable) → map (λ r. (shows r).1) (pair_rows_from n p k vs) ≡ map (pair_columns p) vs
   columns_from p k [] = refl

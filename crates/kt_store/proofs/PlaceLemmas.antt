@@ -1,14 +1,74 @@
--- How many places of an index begin with a key, and what the last row of the runs is.
-use Rattle.std.proofs.Common.{◌≡◌, ℕ, zero, suc, ◌+◌, ◌<◌, pos, List, [], ◌∷◌, ◌++◌, length, map, drop, take, reverse, get_or, slice_get, Some, unwrap_or, true, false, true≢false, refl, sym, ap, subst, ◌∙◌, arith, length-append, append_assoc}
-use Rattle.std.proofs.lemmas.List.{reverse-append, reverse-reverse}
-use Rattle.kt_store.proofs.Common.{AllByRecursion, length-map, Int, Row, plain, rowid, Run, run_row, AreNumbered}
-use Rattle.sqlite_exec.specs.Loops.{left_of}
-use Rattle.sqlite_trees.specs.Tree.{from_key, sought, up_to_key}
+-- What a cursor finds that goes over the places of a key, or to the last row.
+use Rattle.kt_store.proofs.Common.{AllByRecursion, AreNumbered, Backward, Int, IsAt, List, None, Places, Row, Run, Shows, Some, [], all-append, ap, append-nil, append_assoc, arith, begins, column, drop, entry_of, false, filter, from_key, has_rowid, in_columns, left_of, length, length-append, length-map, map, map-append, plain, pos, refl, reverse, reverse-append, reverse-reverse, rowid, run_row, slice_get, sought, subst, suc, sym, take, true, true≢false, unwrap_or, up_to_key, ℕ, ℤ, ◌++◌, ◌+◌, ◌<◌, ◌∙◌, ◌∷◌, ◌≡◌}
 use Rattle.sqlite_trees.specs.View.{View, Advances, with_cursor}
-use Rattle.sqlite_trees.specs.declared.store.Direction.TheVariants.{Backward}
 use Rattle.sqlite_value.specs.declared.keys.Order.{Order}
-use Rattle.sqlite_sql.specs.Catalog.{entry_of}
-use Rattle.kt_store.specs.Inner.Cursors.{begins, Places}
+
+module _ (columns cs : List ℕ) (key : Row) (mine table index : List Row) (p : Places cs key mine table index) where
+  -- a cursor that has these places left, once these rows were shown
+  pub record Halfway (now shown : List Row) : Type 0 where
+    pub done : List Row
+    pub left : List Row
+    pub split : p.rows ≡ done ++ left
+    pub each : AllByRecursion (IsAt table) left
+    pub hits : AllByRecursion (λ e. begins key e ≡ true) (map (entry_of cs) left)
+    pub now_is : now ≡ map (entry_of cs) left ++ p.rest
+    pub shown_is : shown ≡ map (in_columns columns) done
+
+  none_past : (rest : List Row) (place : Row) (new : List Row) → AllByRecursion (λ e. begins key e ≡ false) rest → rest ≡ place ∷ new → begins key place ≡ true → ⊥
+  none_past rest place new past is hit = true≢false (sym hit ∙ (subst (AllByRecursion (λ e. begins key e ≡ false)) is past).0)
+
+  module _ (place row : Row) (new : List Row) (hit : begins key place ≡ true) (reads : (front : Row) (id : ℤ) → place ≡ front ++ Int id ∷ [] → filter (has_rowid id) table ≡ row ∷ []) where
+    the_row : (r : Row) → IsAt table r → place ≡ entry_of cs r → r ≡ row
+    the_row r at is =
+        let found = reads (map (column r) cs) at.0 (is ∙ ap (λ v. map (column r) cs ++ v ∷ []) at.1) in
+        let same : r ∷ [] ≡ row ∷ [] = sym at.2 ∙ found in
+        cc
+
+    pub halfway_step : (now shown : List Row) → Halfway now shown → now ≡ place ∷ new → Halfway new (shown ++ in_columns columns row ∷ [])
+    halfway_step now shown h is = go h.left h.split h.each h.hits (sym is ∙ h.now_is)
+      where
+        go : (left : List Row) → p.rows ≡ h.done ++ left → AllByRecursion (IsAt table) left → AllByRecursion (λ e. begins key e ≡ true) (map (entry_of cs) left) → place ∷ new ≡ map (entry_of cs) left ++ p.rest
+            → Halfway new (shown ++ in_columns columns row ∷ [])
+        go [] split each hits at = absurd (none_past p.rest place new p.past (sym at) hit)
+        go (r ∷ left) split each hits at =
+            let first : place ≡ entry_of cs r = cc in
+            let others : new ≡ map (entry_of cs) left ++ p.rest = cc in
+            let same = the_row r each.0 first in
+            record {
+              done = h.done ++ r ∷ [];
+              left = left;
+              split = split ∙ sym (append_assoc h.done (r ∷ []) left);
+              each = each.1;
+              hits = hits.1;
+              now_is = others;
+              shown_is = ap (λ l. l ++ in_columns columns row ∷ []) h.shown_is ∙ ap (λ x. map (in_columns columns) h.done ++ in_columns columns x ∷ []) (sym same) ∙ sym (map-append (in_columns columns) h.done (r ∷ []));
+            }
+
+    -- the row behind the first place
+    pub first_row : from_key plain key index ≡ place ∷ new → Some (drop 1 row) ≡ slice_get mine 0
+    first_row is = go p.rows p.are p.each (sym is ∙ p.found)
+      where
+        go : (rows : List Row) → map (drop 1) rows ≡ mine → AllByRecursion (IsAt table) rows → place ∷ new ≡ map (entry_of cs) rows ++ p.rest → Some (drop 1 row) ≡ slice_get mine 0
+        go [] are each at = absurd (none_past p.rest place new p.past (sym at) hit)
+        go (r ∷ rows) are each at =
+            let first : place ≡ entry_of cs r = cc in
+            ap (λ (x : Row). Some (drop 1 x)) (sym (the_row r each.0 first)) ∙ ap (λ l. slice_get l 0) are
+
+  pub first_none : (now : List Row) → now ≡ from_key plain key index → AllByRecursion (λ e. begins key e ≡ false) (take 1 now) → None ≡ slice_get mine 0
+  first_none now is none = go p.rows p.are p.hits (is ∙ p.found)
+    where
+      go : (rows : List Row) → map (drop 1) rows ≡ mine → AllByRecursion (λ e. begins key e ≡ true) (map (entry_of cs) rows) → now ≡ map (entry_of cs) rows ++ p.rest → None ≡ slice_get mine 0
+      go [] are hits at = ap (λ l. slice_get l 0) are
+      go (r ∷ rows) are hits at = absurd (true≢false (sym hits.0 ∙ (subst (λ l. AllByRecursion (λ e. begins key e ≡ false) (take 1 l)) at none).0))
+
+  pub halfway_end : (now shown : List Row) → Halfway now shown → AllByRecursion (λ e. begins key e ≡ false) (take 1 now) → Shows columns mine shown
+  halfway_end now shown h none = go h.left h.split h.hits h.now_is
+    where
+      go : (left : List Row) → p.rows ≡ h.done ++ left → AllByRecursion (λ e. begins key e ≡ true) (map (entry_of cs) left) → now ≡ map (entry_of cs) left ++ p.rest → Shows columns mine shown
+      go [] split hits at = (p.rows, p.are, h.shown_is ∙ ap (map (in_columns columns)) (sym (split ∙ append-nil h.done)))
+      go (r ∷ left) split hits at = absurd (true≢false (sym hits.0 ∙ (subst (λ l. AllByRecursion (λ e. begins key e ≡ false) (take 1 l)) at none).0))
+
+-- ---- how many places of an index begin with a key, and what the last row of the runs is
 
 -- a cursor went over so many places that begin with the key, and has these left
 pub record Passed (key : Row) (index now : List Row) (n : ℕ) : Type 0 where
@@ -17,15 +77,11 @@ pub record Passed (key : Row) (index now : List Row) (n : ℕ) : Type 0 where
   pub hits : AllByRecursion (λ e. begins key e ≡ true) done
   pub many : n ≡ length done
 
-more_hits : (key place : Row) (done : List Row) → AllByRecursion (λ e. begins key e ≡ true) done → begins key place ≡ true → AllByRecursion (λ e. begins key e ≡ true) (done ++ place ∷ [])
-more_hits key place [] all hit = (hit, tt)
-more_hits key place (d ∷ done) all hit = (all.0, more_hits key place done all.1 hit)
-
 pub passed_one : (key place : Row) (index now new : List Row) (n : ℕ) → now ≡ place ∷ new → begins key place ≡ true → Passed key index now n → Passed key index new (n + 1)
 passed_one key place index now new n is hit p = record {
   done = p.done ++ place ∷ [];
   split = p.split ∙ ap (λ l. p.done ++ l) is ∙ sym (append_assoc p.done (place ∷ []) new);
-  hits = more_hits key place p.done p.hits hit;
+  hits = all-append (λ e. begins key e ≡ true) p.done (place ∷ []) p.hits (hit, tt);
   many = ap (λ k. k + 1) p.many ∙ sym (length-append p.done (place ∷ []));
 }
 
@@ -78,12 +134,6 @@ sought_none old mid new o rows row is end = let e : Some (reverse (up_to_key o [
 
 pub sought_one : (old mid new : View) (o : Order) (rows : List Row) (row : Row) → mid ≡ with_cursor old 0 (sought o Backward [] rows) → Advances mid new 0 row true → (left : List Row) × (reverse (up_to_key o [] rows) ≡ row ∷ left)
 sought_one old mid new o rows row is one = (one.0, let e : Some (reverse (up_to_key o [] rows)) ≡ Some (row ∷ one.0) = sym (ap (λ (v : View). v.cursors 0) is) ∙ one.1 in cc)
-
--- an item in range, as a table is found at its place in a schema
-pub slice_at : {X : Type 0} (xs : List X) (i : ℕ) (x : X) → i < length xs → x ≡ get_or xs i x → slice_get xs i ≡ Some x
-slice_at [] i x low is = absurd (omega (arith, low))
-slice_at (y ∷ xs) zero x low is = ap Some (sym is)
-slice_at (y ∷ xs) (suc i) x low is = slice_at xs i x (omega (arith, low)) is
 
 -- what a cursor had left before it gave its next place, or was at its end
 pub left_none : (mid new : View) (row : Row) → Advances mid new 0 row false → left_of mid 0 ≡ []

@@ -1,9 +1,7 @@
 -- What a query of one table answers.
-use Rattle.std.proofs.Common.{◌≡◌, ℕ, pos, negsuc, ◌^◌, nat_le, List, [], ◌∷◌, ◌++◌, map, filter, Bool, true, false, cond, None, refl, sym, ap, subst, ◌∙◌, IsPermutation, Less, unwrap_or}
-use Rattle.kt_store.proofs.Common.{list_all, flat_map, IsPermutation-map, IsPermutation-trans, Null, Int, Row, Trees, IsAscending, Term, lit, eval_all, holds, Query, inner, end, matches_as, IsAnswerAs, IsSureAnswer, Output, output, output_cmp, overlay, map-map, ascending-map}
+use Rattle.kt_store.proofs.Common.{Bool, Int, IsAnswerAs, IsAscending, IsPermutation, IsPermutation-map, IsPermutation-trans, IsSureAnswer, Less, List, None, Null, Output, Query, Row, Term, Trees, [], ap, ascending-map, cond, end, eval_all, false, filter, flat_map, holds, inner, list_all, lit, map, map-map, matches_as, nat_le, negsuc, output, output_cmp, overlay, pos, refl, sorted_unique, subst, sym, true, unwrap_or, ℕ, ◌++◌, ◌^◌, ◌∙◌, ◌∷◌, ◌≡◌}
 use Rattle.sqlite_value.specs.declared.keys.Key.{Key}
 use Rattle.sqlite_sql.proofs.QueryLemmas.{output_cmp_total}
-use Rattle.sqlite_keyed.proofs.SortLemmas.{sorted_unique}
 
 abbrev pub selects : ℕ → List Term → List Term → List (Term × Key) → Query
 selects t tests project order = record { from = inner t end; filter = tests; group = None; project = project; distinct = false; collations = []; order = order; limit = lit (Int (negsuc 0)); offset = lit (Int (pos 0)) }

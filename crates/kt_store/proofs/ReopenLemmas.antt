@@ -1,20 +1,25 @@
 -- What a close leaves is what an opening asks of a file.
-use Rattle.std.proofs.Common.{List, [], subst}
-use Rattle.std.proofs.Math.Logic.{∥∥₁_elim, ∥∥₁_map}
+use Rattle.kt_store.proofs.Common.{EndsIn, FileStore, HasAlone, HoldsDatabase, HoldsRuns, Image, IsOfRuns, IsTrue, Keeps, List, Recovers, Run, [], adopts_of, file_alone, kept_schema, schema_2, settled, size_is_allowed, subst, ∥∥₁_elim, ∥∥₁_map, ◌≡◌}
 use Rattle.sqlite_disk.specs.declared.Disk.{Ghosts}
-use Rattle.sqlite_wal.specs.Recovery.{Image}
-use Rattle.sqlite_pool.specs.Stored.{Recovers}
-use Rattle.sqlite_pool.proofs.ResealLemmas.{adopts_of}
-use Rattle.sqlite_store.specs.declared.store.FileStore.{FileStore}
-use Rattle.sqlite_store.specs.FileStore.{view}
+use Rattle.sqlite_wal.proofs.LogLemmas.{SeenMayStay}
+use Rattle.sqlite_wal.proofs.StateLemmas.{clean_of}
+use Rattle.sqlite_store.specs.FileStore.{state, view, log_frames}
 use Rattle.sqlite_store.specs.Listing.{IsOurs}
-use Rattle.sqlite.specs.Files.{HoldsDatabase}
-use Rattle.kt_store.proofs.Common.{Keeps, Run, schema_2}
 use Rattle.kt_store.proofs.EditLemmas.{sound_in}
-use Rattle.kt_store.specs.Closing.{HasAlone}
-use Rattle.kt_store.specs.Files.{EndsIn}
-use Rattle.kt_store.specs.Seeks.{HoldsRuns}
-use Rattle.kt_store.specs.Supposed.{IsOfRuns}
+
+pub alone_of : {D : Type 0} {g : Ghosts D} (it : FileStore D g) → SeenMayStay g → IsTrue (view it).is_open → log_frames it ≡ 0 → (image : Image) → (state it).may_leave image → HasAlone (view it).is_numbered (view it).committed image
+alone_of it stays is_open empty image may = record {
+  size = (state it).page_size;
+  pages = (state it).committed;
+  wanted = kept_schema it.saved it.schema.items;
+  allowed = size_is_allowed it.pool;
+  both = (settled it.pool stays is_open).durable image may;
+  alone = file_alone it.pool stays is_open empty image may;
+  file = ∥∥₁_map (it.stored is_open) (λ stored. stored.ours);
+  reads = rw (clean_of (state it) is_open);
+}
+
+-- ---- what a close leaves is what an opening asks of a file
 
 -- what is supposed of files is true of those that hold runs
 pub supposed : (image : Image) (runs : List Run) → HoldsRuns image runs → ∥ IsOfRuns image ∥₁

@@ -1,24 +1,15 @@
 -- What a write asks of a store that obeys its schema, and what it leaves.
-use Rattle.std.proofs.Common.{◌≡◌, ◌≤◌, ℕ, true, List, [], sym, ap, subst, ◌∙◌, arith, refl}
-use Rattle.sqlite_trees.specs.View.{View, IsOrdered}
-use Rattle.sqlite_trees.specs.Objects.{catalog_tree, IsListed}
+use Rattle.kt_store.proofs.Common.{Fits, ForeignKey, IsCatalogOf, IsListed, IsOrdered, List, Lists, Obeys, Refers, View, [], all_from, ap, arith, catalog_tree, nothing_logged, refl, subst, sym, true, ℕ, ◌∙◌, ◌≡◌, ◌≤◌}
 use Rattle.sqlite_sql.specs.declared.query.Index.{Index}
 use Rattle.sqlite_exec.specs.Calls.{OnlyReads}
-use Rattle.sqlite_schema.specs.Catalog.{IsCatalogOf}
-use Rattle.sqlite_schema.specs.Rules.{Fits, Refers}
 use Rattle.sqlite_schema.specs.declared.schema.Schema.{Schema}
 use Rattle.sqlite_schema.specs.declared.schema.Among.TheVariants.{All}
-use Rattle.sqlite_schema.specs.declared.schema.Constraint.TheVariants.{ForeignKey}
 use Rattle.sqlite_rules.specs.Calls.{IsSetUp, HasReals, Advances}
 use Rattle.sqlite_rules.specs.Log.{Accounts}
 use Rattle.sqlite_rules.specs.declared.edit.Touched.{Touched}
-use Rattle.sqlite_rules.proofs.ListLemmas.{all_from}
 use Rattle.sqlite_rules.proofs.RuleLemmas.{obeyed, fits_obeyed}
-use Rattle.sqlite_rules.proofs.LogLemmas.{nothing_logged}
 use Rattle.sqlite_catalog.specs.Calls.{Serves}
-use Rattle.sqlite_catalog.specs.Listing.{Lists}
 use Rattle.sqlite_catalog.proofs.LayoutLemmas.{set_up, table_reals_are, index_reals_are, objects_rise, table_shape, index_shape}
-use Rattle.kt_store.specs.Inner.Edits.{Obeys}
 
 -- the same, as if its trees were numbered, which no clause of a write asks for
 abbrev numbered : View → View

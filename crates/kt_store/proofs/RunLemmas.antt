@@ -1,9 +1,39 @@
 -- What the query for one run answers.
-use Rattle.std.proofs.Common.{Bool, true, false, nat_lt, ◌≡◌, ℕ, pos, List, [], ◌∷◌, length, map, filter, slice_get, Some, None, Option, option_map, ap₂, arith, refl, sym, ap, subst, ◌∙◌, IsPermutation, unsigned_abs}
-use Rattle.kt_store.proofs.Common.{length_permutation, list_all, option_to_list, Int, Row, column, Trees, col, holds, Ghosts, Held, state, reads_as, one_permutation, Run, run_text, schema_2, run_row, run_at, flag, ShowsOf}
-use Rattle.kt_store.proofs.SqlFacts.{run_is, is}
+use Rattle.kt_store.proofs.Common.{AreNumbered, Binary, Bool, Compare, Eq, Ghosts, Held, Int, IsPermutation, List, None, Option, Row, Run, ShowsOf, Some, Term, Trees, [], ap, ap₂, arith, binary, cases_lt, col, column, eval, false, filter, filter-map, filter_same, flag, flat_map, holds, inl, inr, is_eq, is_some, is_true, last_run, length, length_permutation, list_all, map, nat_lt, nat_tests, one_permutation, option_map, option_to_list, pos, reads_as, refl, rowid, run_at, run_row, run_text, schema_2, slice_get, slice_get_past, state, subst, suc, sym, true, unsigned_abs, value_cmp, zero, ℕ, ◌&&◌, ◌<◌, ◌∙◌, ◌∷◌, ◌≡◌, ◌≢◌, ◌≤◌}
+use Rattle.kt_store.proofs.EntryLemmas.{and_true, of_one, truth}
+use Rattle.kt_store.proofs.SqlFacts.{is, run_is}
+use Rattle.kt_store.proofs.Values.{same_test, some_mapped}
 use Rattle.kt_store.proofs.QueryLemmas.{answered, show, picked}
-use Rattle.kt_store.proofs.FindLemmas.{picked_run}
+
+abbrev has_number : ℕ → Row → Bool
+has_number n row = is_eq (value_cmp (rowid row) (Int (pos n)))
+
+pub found_run : (n : ℕ) (runs : List Run) → AreNumbered 1 runs → filter (has_number n) (map run_row runs) ≡ map run_row (option_to_list (run_at runs n))
+found_run n runs h = ap (filter (has_number n)) (sym (alone runs)) ∙ of_one (has_number n) (λ r. run_row r ∷ []) (λ r. run_row r ∷ []) n here apart runs h ∙ alone (option_to_list (run_at runs n))
+  where
+    alone : (rs : List Run) → flat_map (λ (r : Run). run_row r ∷ []) rs ≡ map run_row rs
+    alone [] = refl
+    alone (r ∷ rs) = ap (λ l. run_row r ∷ l) (alone rs)
+
+    here : (r : Run) → r.number ≡ n → filter (has_number n) (run_row r ∷ []) ≡ run_row r ∷ []
+    here r is = let same : has_number n (run_row r) ≡ true = same_test r.number n ∙ grind (arith, nat_tests, is) in rw same refl
+
+    apart : (r : Run) → r.number ≢ n → filter (has_number n) (run_row r ∷ []) ≡ []
+    apart r other = let differs : has_number n (run_row r) ≡ false = same_test r.number n ∙ grind (arith, nat_tests, other) in rw differs refl
+
+-- the rows of runs that a WHERE on the number picks
+pub picked_run : (n : ℕ) (key : Term) (params : Row) → ((r : Row) → eval key (params ∷ r ∷ []) ≡ Int (pos n)) → (runs : List Run) → AreNumbered 1 runs
+    → filter (λ r. list_all (holds (params ∷ r ∷ [])) (is (col 1 0) key ∷ [])) (map run_row runs) ≡ map run_row (option_to_list (run_at runs n))
+unfolding binary
+picked_run n key params key_is runs h =
+    filter-map _ run_row runs
+    ∙ ap (map run_row) (filter_same (λ r. list_all (holds (params ∷ run_row r ∷ [])) (is (col 1 0) key ∷ [])) (λ r. has_number n (run_row r)) each runs)
+    ∙ sym (filter-map (has_number n) run_row runs) ∙ found_run n runs h
+  where
+    each : (r : Run) → list_all (holds (params ∷ run_row r ∷ [])) (is (col 1 0) key ∷ []) ≡ has_number n (run_row r)
+    each r = ap (λ v. is_true (binary (Compare Eq Binary) (Int (pos r.number)) v) && true) (key_is (run_row r)) ∙ ap (λ b. b && true) (truth (has_number n (run_row r))) ∙ and_true (has_number n (run_row r))
+
+-- ---- what the query for one run answers
 
 abbrev pub head_row : Run → Row
 head_row r = Int (pos r.total) ∷ Int (flag r.finished) ∷ []
@@ -59,11 +89,23 @@ set true = refl
 set false = refl
 
 pub one_found : (o : Option Run) (total finished : ℕ) → Some (total, finished) ≡ option_map head o → (r : Run) × (o ≡ Some r) × (total ≡ r.total) × (nat_lt 0 finished ≡ r.finished)
-one_found None total finished h = absurd cc
-one_found (Some r) total finished h =
-    let both : (total, finished) ≡ head r = cc in
-    (r, refl, ap (λ (p : ℕ × ℕ). p.0) both, ap (λ (p : ℕ × ℕ). nat_lt 0 p.1) both ∙ set r.finished)
+one_found o total finished h =
+    let it = some_mapped head o (total, finished) h in
+    (it.0, it.1, ap (λ (p : ℕ × ℕ). p.0) it.2, ap (λ (p : ℕ × ℕ). nat_lt 0 p.1) it.2 ∙ set it.0.finished)
 
-pub none_found : (o : Option Run) → None ≡ option_map head o → o ≡ None
-none_found None h = refl
-none_found (Some r) h = absurd cc
+-- ---- whether the store is full, by its last run
+
+none_past : (runs : List Run) (k : ℕ) → is_some (option_map head (slice_get runs k)) ≡ false → length runs ≤ k
+none_past [] k h = omega arith
+none_past (r ∷ runs) zero h = absurd (let e : true ≡ false = h in cc)
+none_past (r ∷ runs) (suc k) h = omega (arith, none_past runs k h)
+
+module _ (runs : List Run) (found : Option (ℕ × ℕ)) (told : found ≡ option_map head (run_at runs last_run)) where
+  pub has_room : is_some found ≡ false → length runs < last_run
+  has_room none = omega (arith, none_past runs 999999 (ap is_some (sym told) ∙ none))
+
+  pub has_none : is_some found ≡ true → last_run ≤ length runs
+  has_none some = elim (cases_lt 999999 (length runs)) [
+    | inl past ↦ omega (arith, past)
+    | inr room ↦ absurd (let e : false ≡ true = ap (λ o. is_some (option_map head o)) (sym (slice_get_past runs 999999 room)) ∙ ap is_some (sym told) ∙ some in cc)
+  ]

@@ -1,12 +1,8 @@
--- What is shown of the rows that a cursor finds.
-use Rattle.std.proofs.Common.{arith, length, ◌≡◌, ℕ, suc, pos, List, [], ◌∷◌, ◌++◌, map, drop, filter, true, false, Some, None, Option, refl, sym, ap, ap₂, subst, ◌∙◌}
-use Rattle.kt_store.proofs.Common.{AreWide, column, length-map, map-append, Ghosts, map-map, flat_map, option_to_list, Row, Entry, Variable, Run, Keeps, entry_row, entry_columns, pair_rows, pair_rows_from, pair_columns, pairs_shown, head_columns, run_row, run_at, has_rowid, AreNumbered, Trees}
-use Rattle.sqlite_trees.specs.View.{View, Finds}
+-- What is shown of the rows that a cursor finds, and how a store that is only read serves.
+use Rattle.kt_store.proofs.Common.{Agrees, AreNumbered, AreWide, CaseOutputs, Entry, Err, Ghosts, HasRuns, HoldsCommit, IfErr, IfOk, IsStoreFault, Keeps, List, Looks, NoRun, None, Ok, Option, Outlasts, Outputs, Result, Row, Run, Serves, Shows, Some, StandAt, StoreCall, StoreFault, Trees, Variable, [], all-get_or, ap, ap₂, arith, changed_by, column, drop, entry_at, entry_columns, entry_row, false, filter, flat_map, get_or, has_rowid, head_columns, in_columns, length, length-map, map, map-append, map-map, option_to_list, outputs_of, pair_columns, pair_rows, pair_rows_from, pairs_shown, places_2, pos, readings, refl, run_at, run_row, subst, suc, sym, true, ℕ, ◌++◌, ◌<◌, ◌∙◌, ◌∷◌, ◌≡◌, ◌≤◌, ◌⊎◌}
+use Rattle.sqlite_trees.specs.View.{View, Finds, IsClean, KeepsSchema}
 use Rattle.kt_store.proofs.EntryLemmas.{back}
-use Rattle.kt_store.proofs.FindLemmas.{found_run}
-use Rattle.kt_store.specs.Inner.Cursors.{Looks, Shows, in_columns}
-use Rattle.kt_store.specs.Inner.Places.{StandAt, places_2}
-use Rattle.kt_store.specs.Inner.Known.{HasRuns}
+use Rattle.kt_store.proofs.RunLemmas.{found_run}
 use Rattle.kt_store.specs.declared.places.Places.{Places}
 
 -- columns that leave the rowid out
@@ -85,7 +81,62 @@ still_at g old new places looks stands clean sound runs keeps =
     let same = looks.same clean sound in
     stands (looks.clean clean) (ap (λ (v : View). v.is_broken) (sym same) ∙ sound) runs (subst (Keeps runs) (ap (λ (v : View). v.trees) same) keeps)
 
+-- one of the rows has as many columns as all have
+pub one_wide : (n : ℕ) (rows : List Row) (i : ℕ) (y : Row) → AreWide n rows → i < length rows → y ≡ get_or rows i y → n ≤ length y
+one_wide n rows i y wide low is = subst (λ (l : Row). n ≤ length l) (sym is) (all-get_or (λ (l : Row). n ≤ length l) rows i y wide low)
+
 -- each has as many columns as were asked for
 pub all_wide : (columns : List ℕ) (rows : List Row) → AreWide (length columns) (map (in_columns columns) rows)
 all_wide columns [] = tt
 all_wide columns (r ∷ rows) = (omega (arith, length-map columns (column r)), all_wide columns rows)
+
+-- ---- how a store that is only read serves the calls of a store of runs
+
+pub outputs_agree : (r : Result CaseOutputs StoreFault) (runs : List Run) (number position : ℕ) → IfOk r (λ o. (e : Entry) × (entry_at (run_at runs number) position ≡ Some e) × (o ≡ outputs_of e))
+    → IfErr r (λ e. IsStoreFault e ⊎ ((e ≡ NoRun) × (entry_at (run_at runs number) position ≡ None))) → Agrees runs (Outputs number position r)
+outputs_agree (Ok o) runs number position ok err = ok
+outputs_agree (Err fault) runs number position ok err = err
+
+-- a commit that stood over two calls stood over both
+pub held_then : (a b c : View) → HoldsCommit a b → HoldsCommit b c → HoldsCommit a c
+held_then a b c first second opened = let late = second opened in let early = first late.0 in (early.0, late.1 ∙ early.1)
+
+module _ {S : Type 0} (g : Ghosts S) where
+  schema_then : (u v w : View) → KeepsSchema u v → KeepsSchema v w → KeepsSchema u w
+  schema_then u v w first second = record {
+    shape = second.shape ∙ first.shape;
+    reals = second.reals ∙ first.reals;
+    committed_shape = second.committed_shape ∙ first.committed_shape;
+    committed_reals = second.committed_reals ∙ first.committed_reals;
+    numbered = second.numbered ∙ first.numbered;
+  }
+
+  pub looks_then : (old mid new : S) → Looks g old mid → Looks g mid new → Looks g old new
+  looks_then old mid new first second = record {
+    clean = λ clean. first.clean (second.clean clean);
+    schema = schema_then (g.view old) (g.view mid) (g.view new) first.schema second.schema;
+    same = λ clean sound.
+        let late = second.same clean sound in
+        late ∙ ap (λ (v : View). record v { cursors = (g.view new).cursors }) (first.same (second.clean clean) (ap (λ (v : View). v.is_broken) (sym late) ∙ sound));
+    held = λ clean. held_then (g.view old) (g.view mid) (g.view new) (first.held (second.clean clean)) (second.held clean);
+    outcomes = λ db found. first.outcomes db (second.outcomes db found);
+  }
+
+  -- a call that only reads
+  module _ (old new : S) (looks : Looks g old new) where
+    stays : (runs : List Run) → (readings g).stands old runs → (readings g).stands new runs
+    stays runs h = (still_has g old new looks runs h.0, h.1, λ clean. h.2 (looks.clean clean))
+
+    leaves : (may : List (List Run)) → (readings g).leaves old may → (readings g).leaves new may
+    leaves may h clean trees found = h (looks.clean clean) trees (looks.outcomes trees found)
+
+    pub looked_serves : (call : StoreCall) → ((runs : List Run) → changed_by call runs ≡ runs)
+        → ((runs : List Run) (may : List (List Run)) → ((readings g).leaves old may → (readings g).leaves new may) → Outlasts (readings g).leaves call runs may old new)
+        → ((runs : List Run) → HasRuns (g.view old) runs → IsClean (g.view new) → Agrees runs call) → Serves (readings g) call old new
+    looked_serves call same lasts why = record {
+      asked = tt;
+      stands = λ runs h. subst ((readings g).stands new) (sym (same runs)) (stays runs h);
+      earlier = λ runs h clean. looks.clean clean;
+      agrees = λ runs h clean. why runs h.0 clean;
+      crash = λ runs may h. lasts runs may (leaves may);
+    }

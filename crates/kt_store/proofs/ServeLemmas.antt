@@ -1,10 +1,38 @@
--- How the tables of a database serve the calls of a store.
-use Rattle.std.proofs.Common.{Result, Ok, Err, IfOk, IfErr, OnOk, OnErr, ◌≡◌, inl, ℕ, suc, List, [], ◌∷◌, ◌++◌, ◌<◌, None, length, IsErrAnd, refl, subst, sym, arith}
-use Rattle.kt_store.proofs.Common.{Trees, Ghosts, Held, state, State, HasCleanDisk, Survives, survives_then, survives_weaker, last_run, Entry, Run, IsStoreFault, KeepsRuns, Looked, Changes, MayChange, Keeps, KeepsOne, new_run, with_entry, put_refusal, finish, finish_refusal, Reads, Serves, Agrees, Outlasts, changed_by, results, StandsFor, Leaves, StoreCall, Began, Put, Finished, Heads, Outline, Outputs, StoreFault}
-use Rattle.kt_store.specs.declared.result_store.RunHead.{RunHead}
+-- How the tables of a database serve the calls of a store, and what a crash leaves.
+use Rattle.kt_store.proofs.Common.{Agrees, Began, Changes, Entry, Err, Finished, Ghosts, HasCleanDisk, Heads, Held, IfErr, IfOk, IsErrAnd, IsStoreFault, Keeps, KeepsOne, KeepsRuns, Leaves, List, Looked, MayChange, Ok, OnErr, OnOk, Outlasts, Outline, Outputs, Put, Reads, Result, Run, RunHead, Serves, StandsFor, State, StoreCall, StoreFault, Survives, Trees, [], arith, changed_by, finish, inl, inr, new_run, refl, results, state, subst, survives_then, survives_weaker, sym, with_entry, ℕ, ◌++◌, ◌<◌, ◌∷◌, ◌≡◌, ◌⊎◌}
 use Rattle.kt_store.proofs.AskLemmas.{was_clean}
-use Rattle.kt_store.proofs.Crashing.{survived, untouched}
 use Rattle.kt_store.proofs.Numbered.{numbers_changed, ordered_changed}
+
+-- what was left is left, or the change
+pub survived : (old new : State) (change runs : List Run) (may : List (List Run)) → Survives old new (Keeps change) → Leaves old (KeepsOne (runs ∷ may)) → Leaves new (KeepsOne (runs ∷ change ∷ may))
+survived old new change runs may s l clean trees h = elim (s.crash clean trees h) [
+  | inl m ↦ elim (l (omega (arith, clean, s.clean)) trees m) [ inl k ↦ inl k | inr k ↦ inr (inr k) ]
+  | inr k ↦ inr (inl k)
+]
+
+-- where nothing is changed, nothing is left beside
+pub untouched : (old new : State) (may : List (List Run)) → Survives old new (λ trees. ⊥) → Leaves old (KeepsOne may) → Leaves new (KeepsOne may)
+untouched old new may s l clean trees h = elim (s.crash clean trees h) [ inl m ↦ l (omega (arith, clean, s.clean)) trees m | inr k ↦ absurd k ]
+
+-- the runs after a call that writes, by its answers, and what a crash leaves
+pub record IsWrite {R : Type 0} (LeavesOne : R → List (List Run) → Type 0) {T : Type 0} (call : Result T StoreFault → StoreCall) (change : List Run → List Run) : Type 0 where
+  pub done : (x : T) (runs : List Run) → changed_by (call (Ok x)) runs ≡ change runs
+  pub refused : (e : StoreFault) (runs : List Run) → changed_by (call (Err e)) runs ≡ runs
+  pub fails : (e : StoreFault) (runs : List Run) → IsStoreFault e → Agrees runs (call (Err e))
+  pub lasts : (x : T) (runs : List Run) (may : List (List Run)) (old new : R) → LeavesOne new (change runs ∷ []) → Outlasts LeavesOne (call (Ok x)) runs may old new
+  pub survives : (e : StoreFault) (runs : List Run) (may : List (List Run)) (old new : R) → (LeavesOne old (runs ∷ may) → LeavesOne new (runs ∷ change runs ∷ may)) → Outlasts LeavesOne (call (Err e)) runs may old new
+
+module _ {R : Type 0} (LeavesOne : R → List (List Run) → Type 0) where
+  pub begin_writes : (total moment : ℕ) → IsWrite LeavesOne (λ r. Began total moment r) (λ runs. runs ++ new_run runs total moment ∷ [])
+  begin_writes total moment = record { done = λ x runs. refl; refused = λ e runs. refl; fails = λ e runs failed. inl failed; lasts = λ x runs may old new h. h; survives = λ e runs may old new h. h }
+
+  pub put_writes : (number : ℕ) (e : Entry) → IsWrite LeavesOne (λ r. Put number e r) (with_entry number e)
+  put_writes number e = record { done = λ x runs. refl; refused = λ e runs. refl; fails = λ e runs failed. inl failed; lasts = λ x runs may old new h. h; survives = λ e runs may old new h. h }
+
+  pub finish_writes : (number : ℕ) → IsWrite LeavesOne (λ r. Finished number r) (finish number)
+  finish_writes number = record { done = λ x runs. refl; refused = λ e runs. refl; fails = λ e runs failed. inl failed; lasts = λ x runs may old new h. h; survives = λ e runs may old new h. h }
+
+-- ---- how the tables of a database serve the calls of a store
 
 -- what is known of each crash is known after each call
 pub always_outlasts : {R : Type 0} (Leaves : R → List (List Run) → Type 0) → ((s : R) (may : List (List Run)) → Leaves s may) → (call : StoreCall) (runs : List Run) (may : List (List Run)) (old new : R) → Outlasts Leaves call runs may old new
@@ -59,20 +87,6 @@ module _ {S : Type 0} (g : Ghosts S) (old new : Held S) (looked : Looked g old n
   unwritten change runs may has left =
       survived (state g old) (state g new) change runs may (survives_weaker (state g old) (state g new) (λ _. ⊥) (Keeps change) (λ _ db none. absurd none) (looked.crash runs has)) left
 
-  module _ (fault : StoreFault) where
-    -- one that is refused before it writes
-    pub begin_refused : (total moment : ℕ) → ((runs : List Run) → StandsFor (state g old) runs → HasCleanDisk (state g new) → Agrees runs (Began total moment (Err fault))) → Serves (results g) (Began total moment (Err fault)) old new
-    begin_refused total moment why =
-        serves g (Began total moment (Err fault)) old new looked.stands early why (λ runs may has l. unwritten (runs ++ new_run runs total moment ∷ []) runs may has l)
-
-    pub put_refused : (number : ℕ) (e : Entry) → ((runs : List Run) → StandsFor (state g old) runs → HasCleanDisk (state g new) → Agrees runs (Put number e (Err fault))) → Serves (results g) (Put number e (Err fault)) old new
-    put_refused number e why =
-        serves g (Put number e (Err fault)) old new looked.stands early why (λ runs may has l. unwritten (with_entry number e runs) runs may has l)
-
-    pub finish_refused : (number : ℕ) → ((runs : List Run) → StandsFor (state g old) runs → HasCleanDisk (state g new) → Agrees runs (Finished number (Err fault))) → Serves (results g) (Finished number (Err fault)) old new
-    finish_refused number why =
-        serves g (Finished number (Err fault)) old new looked.stands early why (λ runs may has l. unwritten (finish number runs) runs may has l)
-
   -- one that reads
   pub heads_read : (answer : Result (List RunHead) StoreFault) → ((runs : List Run) → StandsFor (state g old) runs → HasCleanDisk (state g new) → Agrees runs (Heads answer)) → Serves (results g) (Heads answer) old new
   heads_read answer why =
@@ -85,13 +99,19 @@ module _ {S : Type 0} (g : Ghosts S) (old new : Held S) (looked : Looked g old n
     crash = λ runs may h l. untouched (state g old) (state g new) may (looked.crash runs h.0) l;
   }
 
--- a part that reads, and one that writes
-module _ {S : Type 0} (g : Ghosts S) (old mid new : Held S) (looked : Looked g old mid) where
-  module _ (Allowed : List Run → Type 0) (change : List Run → List Run) (allowed : (runs : List Run) → StandsFor (state g old) runs → HasCleanDisk (state g mid) → Allowed runs) (may_change : MayChange g mid new Allowed change) where
+module _ {S : Type 0} (g : Ghosts S) {T : Type 0} (call : Result T StoreFault → StoreCall) (change : List Run → List Run) (is : IsWrite (results g).leaves call change) where
+  -- a call that is refused before it writes
+  pub write_refused : (old new : Held S) (looked : Looked g old new) (e : StoreFault) → ((runs : List Run) → StandsFor (state g old) runs → HasCleanDisk (state g new) → Agrees runs (call (Err e))) → Serves (results g) (call (Err e)) old new
+  write_refused old new looked e why =
+      serves g (call (Err e)) old new (λ runs has. subst (StandsFor (state g new)) (sym (is.refused e runs)) (looked.stands runs has)) (was_clean looked) why
+      (λ runs may has. is.survives e runs may old new (unwritten g old new looked (change runs) runs may has))
+
+  -- one whose first part reads, and whose second part writes
+  module _ (old mid new : Held S) (looked : Looked g old mid) (Allowed : List Run → Type 0) (allowed : (runs : List Run) → StandsFor (state g old) runs → HasCleanDisk (state g mid) → Allowed runs) (may_change : MayChange g mid new Allowed change) where
     second : (runs : List Run) → StandsFor (state g old) runs → Survives (state g mid) (state g new) (Keeps (change runs))
     second runs has = may_change runs (looked.stands runs has) (allowed runs has)
 
-    pub mid_clean : (runs : List Run) → StandsFor (state g old) runs → HasCleanDisk (state g new) → HasCleanDisk (state g mid)
+    mid_clean : (runs : List Run) → StandsFor (state g old) runs → HasCleanDisk (state g new) → HasCleanDisk (state g mid)
     mid_clean runs has clean = omega (arith, clean, (second runs has).clean)
 
     old_clean : (runs : List Run) → StandsFor (state g old) runs → HasCleanDisk (state g new) → HasCleanDisk (state g old)
@@ -102,42 +122,12 @@ module _ {S : Type 0} (g : Ghosts S) (old mid new : Held S) (looked : Looked g o
         survived (state g old) (state g new) (change runs) runs may
         (survives_then (state g old) (state g mid) (state g new) (λ _. ⊥) (Keeps (change runs)) (Keeps (change runs)) (λ _ db none. absurd none) (λ _ db it. it) (looked.crash runs has) (second runs has)) left
 
-    lasting : Changes g mid new Allowed change → (runs : List Run) → StandsFor (state g old) runs → Leaves (state g new) (KeepsOne (change runs ∷ []))
-    lasting changes runs has clean trees may = inl (changes.lasts runs (looked.stands runs has) (allowed runs has) clean trees may)
-
-    done : Changes g mid new Allowed change → (runs : List Run) → StandsFor (state g old) runs → StandsFor (state g new) (change runs)
-    done changes runs has = changes.stands runs (looked.stands runs has) (allowed runs has)
-
--- a run is begun after a look
-module _ {S : Type 0} (g : Ghosts S) (old mid new : Held S) (looked : Looked g old mid) (total moment : ℕ)
-    (room : (runs : List Run) → StandsFor (state g old) runs → HasCleanDisk (state g mid) → length runs < last_run) (may_change : MayChange g mid new (λ runs. length runs < last_run) (λ runs. runs ++ new_run runs total moment ∷ [])) where
-  pub begin_called : (r : Result ℕ StoreFault) → OnOk r (Changes g mid new (λ runs. length runs < last_run) (λ runs. runs ++ new_run runs total moment ∷ []))
-      → ((runs : List Run) → StandsFor (state g old) runs → HasCleanDisk (state g new) → IfOk r (λ n. n ≡ suc (length runs))) → IfErr r IsStoreFault → OnErr r (KeepsRuns g mid new) → Serves (results g) (Began total moment r) old new
-  begin_called (Ok number) changes is failed more =
-      serves g (Began total moment (Ok number)) old new (done g old mid new looked _ _ room may_change changes) (old_clean g old mid new looked _ _ room may_change) (λ runs has clean. (is runs has clean, room runs has (mid_clean g old mid new looked _ _ room may_change runs has clean))) (λ runs may has. lasting g old mid new looked _ _ room may_change changes runs has)
-  begin_called (Err fault) changes is failed more =
-      serves g (Began total moment (Err fault)) old new (λ runs has. more runs (looked.stands runs has)) (old_clean g old mid new looked _ _ room may_change) (λ runs has clean. inl failed) (written g old mid new looked _ _ room may_change)
-
--- an entry is put after a look
-module _ {S : Type 0} (g : Ghosts S) (old mid new : Held S) (looked : Looked g old mid) (number : ℕ) (e : Entry) (Fits : List Run → Type 0)
-    (fits : (runs : List Run) → StandsFor (state g old) runs → HasCleanDisk (state g mid) → (put_refusal runs number e ≡ None) × Fits runs) (may_change : MayChange g mid new Fits (with_entry number e)) where
-  may : (runs : List Run) → StandsFor (state g old) runs → HasCleanDisk (state g mid) → Fits runs
-  may runs has clean = (fits runs has clean).1
-
-  pub put_called : (r : Result (Unit {0}) StoreFault) → OnOk r (Changes g mid new Fits (with_entry number e)) → IfErr r IsStoreFault → OnErr r (KeepsRuns g mid new) → Serves (results g) (Put number e r) old new
-  put_called (Ok unit) ok failed more =
-      serves g (Put number e (Ok unit)) old new (done g old mid new looked _ _ may may_change ok) (old_clean g old mid new looked _ _ may may_change) (λ runs has clean. (fits runs has (mid_clean g old mid new looked _ _ may may_change runs has clean)).0) (λ runs others has. lasting g old mid new looked _ _ may may_change ok runs has)
-  put_called (Err fault) ok failed more =
-      serves g (Put number e (Err fault)) old new (λ runs has. more runs (looked.stands runs has)) (old_clean g old mid new looked _ _ may may_change) (λ runs has clean. inl failed) (written g old mid new looked _ _ may may_change)
-
--- a run is finished after a look
-module _ {S : Type 0} (g : Ghosts S) (old mid new : Held S) (looked : Looked g old mid) (number : ℕ) (Fits : List Run → Type 0)
-    (fits : (runs : List Run) → StandsFor (state g old) runs → HasCleanDisk (state g mid) → (finish_refusal runs number ≡ None) × Fits runs) (may_change : MayChange g mid new Fits (finish number)) where
-  can : (runs : List Run) → StandsFor (state g old) runs → HasCleanDisk (state g mid) → Fits runs
-  can runs has clean = (fits runs has clean).1
-
-  pub finish_called : (r : Result (Unit {0}) StoreFault) → OnOk r (Changes g mid new Fits (finish number)) → IfErr r IsStoreFault → OnErr r (KeepsRuns g mid new) → Serves (results g) (Finished number r) old new
-  finish_called (Ok unit) ok failed more =
-      serves g (Finished number (Ok unit)) old new (done g old mid new looked _ _ can may_change ok) (old_clean g old mid new looked _ _ can may_change) (λ runs has clean. (fits runs has (mid_clean g old mid new looked _ _ can may_change runs has clean)).0) (λ runs others has. lasting g old mid new looked _ _ can may_change ok runs has)
-  finish_called (Err fault) ok failed more =
-      serves g (Finished number (Err fault)) old new (λ runs has. more runs (looked.stands runs has)) (old_clean g old mid new looked _ _ can may_change) (λ runs has clean. inl failed) (written g old mid new looked _ _ can may_change)
+    pub write_called : (r : Result T StoreFault) → OnOk r (Changes g mid new Allowed change)
+        → ((runs : List Run) → StandsFor (state g old) runs → HasCleanDisk (state g mid) → HasCleanDisk (state g new) → IfOk r (λ x. Agrees runs (call (Ok x)))) → IfErr r IsStoreFault → OnErr r (KeepsRuns g mid new) → Serves (results g) (call r) old new
+    write_called (Ok x) changes agrees failed kept =
+        serves g (call (Ok x)) old new (λ runs has. subst (StandsFor (state g new)) (sym (is.done x runs)) (changes.stands runs (looked.stands runs has) (allowed runs has))) old_clean
+        (λ runs has clean. agrees runs has (mid_clean runs has clean) clean)
+        (λ runs may has. is.lasts x runs may old new (λ clean trees left. inl (changes.lasts runs (looked.stands runs has) (allowed runs has) clean trees left)))
+    write_called (Err e) changes agrees failed kept =
+        serves g (call (Err e)) old new (λ runs has. subst (StandsFor (state g new)) (sym (is.refused e runs)) (kept runs (looked.stands runs has))) old_clean
+        (λ runs has clean. is.fails e runs failed) (λ runs may has. is.survives e runs may old new (written runs may has))

@@ -1,6 +1,7 @@
 -- What the texts mean.
-use Rattle.std.proofs.Common.{◌≡◌, ℕ, pos, negsuc, List, [], ◌∷◌, codes, false, None, refl, arith}
-use Rattle.kt_store.proofs.Common.{Null, Int, Text, Binary, Term, lit, col, op2, Query, inner, end, ascending, Values, Command, Insert, Select, Update, understood, reads_listing, HasColumns, IsPlain, command_of, Compare, Eq, everything, schema_2, begin_text, run_text, finish_text, runs_text, there_text, put_text, entries_text, meta_text, pairs_text, mark_text, raise_text, pair_text}
+use Rattle.kt_store.proofs.Common.{Binary, Command, Compare, Eq, HasColumns, Insert, Int, IsPlain, List, None, Null, Query, Select, Table, Term, Text, Update, Values, [], arith, ascending, begin_text, beside_meta, codes, col, command_of, end, entries_text, everything, false, finish_text, inner, lit, mark_text, meta_text, negsuc, op2, pair_text, pairs_text, pos, put_text, raise_text, reads_listing, refl, run_text, runs_text, schema_2, there_text, understood, ℕ, ◌∷◌, ◌≡◌}
+use Rattle.sqlite_schema.specs.declared.schema.Index.{Index}
+use Rattle.sqlite_schema.specs.declared.schema.View.{View}
 
 abbrev pub query : Query
 query = record { from = end; filter = []; group = None; project = []; distinct = false; collations = []; order = []; limit = lit (Int (negsuc 0)); offset = lit (Int (pos 0)) }
@@ -116,3 +117,10 @@ raise_query = record query { from = inner 0 end; filter = is (col 1 1) (lit (Tex
 pub raise_is : (command_of (understood schema_2 raise_text) ≡ Update 0 (record { lets = []; body = raise_query })) × IsPlain (understood schema_2 raise_text)
 unfolding understood everything
 raise_is = (refl, (refl, refl))
+
+-- ---- what the text for the schema's number means where other tables stand behind the first
+
+pub meta_any : (others : List Table) (indexes : List Index) (views : List View)
+    → (command_of (understood (beside_meta others indexes views) meta_text) ≡ select meta_query (codes "value" ∷ [])) × (reads_listing (beside_meta others indexes views) meta_text ≡ false) × IsPlain (understood (beside_meta others indexes views) meta_text)
+unfolding understood everything
+meta_any others indexes views = (refl, refl, (refl, refl))

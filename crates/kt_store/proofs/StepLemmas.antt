@@ -1,6 +1,5 @@
 -- What a statement leaves of a connection that stands for runs.
-use Rattle.std.proofs.Common.{◌≡◌, inl, inr, ℕ, List, false, IsTrue, Some, None, Option, Err, sym, ap, subst, subst₂, ◌∙◌, append-nil, arith}
-use Rattle.kt_store.proofs.Common.{Row, Trees, Schema, Command, Error, understood, cases_Bool, Compiled, Database, IsDatabase, Ghosts, Held, state, State, HasCleanDisk, IsLive, IsUnchanged, IsRolledBack, IsNotRun, Executes, ExecutesIn, RunsCommand, shows_rows, FailsToQuery, FailsToShow, CommitsBy, Survives, IsPlain, command_of, statement_of, unchanged_then, survives_then, Run, Tables, Keeps, KeepsOld, KeepsEither, Rests, IsSettled, Holds, IsStore, Leaves, IsUndone}
+use Rattle.kt_store.proofs.Common.{Command, CommitsBy, Compiled, Database, Err, Error, Executes, ExecutesIn, FailsToQuery, FailsToShow, Ghosts, HasCleanDisk, Held, Holds, IsDatabase, IsLive, IsNotRun, IsPlain, IsRolledBack, IsSettled, IsStore, IsTrue, IsUnchanged, IsUndone, Keeps, KeepsEither, KeepsOld, Leaves, List, None, Option, Rests, Row, Run, RunsCommand, Schema, Some, State, Survives, Tables, Trees, ap, append-nil, arith, cases_Bool, command_of, false, inl, inr, shows_rows, state, statement_of, subst, subst₂, survives_then, sym, unchanged_then, understood, ℕ, ◌∙◌, ◌≡◌}
 use Rattle.sqlite_schema.specs.declared.command.Returning.{Returning}
 use Rattle.sqlite.specs.State.{MayCommit}
 

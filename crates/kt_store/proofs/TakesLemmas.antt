@@ -1,6 +1,6 @@
 -- When a run takes an entry.
-use Rattle.std.proofs.Common.{◌≡◌, ◌==◌, ◌||◌, inl, inr, nat_lt, nat_le, ℕ, zero, suc, ◌+◌, ◌<◌, ◌≤◌, List, [], ◌∷◌, length, Bool, true, false, cond, Some, None, slice_get, refl, sym, ap, subst, ◌∙◌, arith}
-use Rattle.kt_store.proofs.Common.{cases_Bool, nat_tests, AllByRecursion, IsAscending, Run, Entry, RunClosed, BadPosition, RepeatedPosition, entries_of, CanAdd, IsBareIfPassed, AreRuns, put_refusal, put_refusal_of, IsRun, IsEntry, insert_at, with_entry, has_position, run_at, AreNumbered}
+use Rattle.kt_store.proofs.Common.{AllByRecursion, AreRuns, BadPosition, Bool, CanAdd, Entry, IsAscending, IsBareIfPassed, IsEntry, IsRun, List, None, RepeatedPosition, Run, RunClosed, Some, [], ap, arith, cases_Bool, cond, entries_of, false, has_position, inl, inr, insert_at, nat_le, nat_lt, nat_tests, or_parts, put_refusal, put_refusal_of, refl, run_at, slice_get_within, suc, sym, true, zero, ℕ, ◌+◌, ◌<◌, ◌==◌, ◌||◌, ◌∙◌, ◌∷◌, ◌≡◌, ◌≤◌}
+use Rattle.kt_store.proofs.RunsByNumber.{entry_each, run_of}
 
 abbrev pub lower : Entry → Entry → Type 0
 lower a b = a.position < b.position
@@ -17,25 +17,17 @@ all_lower : (a b : Entry) (es : List Entry) → lower a b → AllByRecursion (lo
 all_lower a b [] h hs = tt
 all_lower a b (x ∷ es) h hs = (omega (arith, h, hs.0), all_lower a b es h hs.1)
 
-no_first : (a b : Bool) → (a || b) ≡ false → a ≡ false
-no_first true b h = h
-no_first false b h = refl
-
-no_rest : (a b : Bool) → (a || b) ≡ false → b ≡ false
-no_rest true b h = absurd (let e : true ≡ false = h in cc)
-no_rest false b h = h
-
 pub ascends : (e : Entry) (es : List Entry) → IsAscending lower es → has_position e.position es ≡ false → IsAscending lower (insert_at e es)
 ascends e [] h free = (tt, tt)
 ascends e (x ∷ es) h free = elim (cases_Bool (nat_lt e.position x.position)) [
   | inl before ↦ let low : lower e x = grind (arith, nat_tests, before) in rw before ((low, all_lower e x es low h.0), (h.0, h.1))
   | inr after ↦
-      let other : (x.position == e.position) ≡ false = no_first (x.position == e.position) (has_position e.position es) free in
-      let high : lower x e = grind (arith, nat_tests, after, other) in
-      rw after (all_insert (lower x) e es high h.0, ascends e es h.1 (no_rest (x.position == e.position) (has_position e.position es) free))
+      let other = or_parts (x.position == e.position) (has_position e.position es) free in
+      let high : lower x e = grind (arith, nat_tests, after, other.0) in
+      rw after (all_insert (lower x) e es high h.0, ascends e es h.1 other.1)
 ]
 
-pub run_takes : (e : Entry) (r : Run) → IsEntry e → IsRun r → r.finished ≡ false → e.position < r.total → has_position e.position r.entries ≡ false → IsRun (record r { entries = insert_at e r.entries })
+run_takes : (e : Entry) (r : Run) → IsEntry e → IsRun r → r.finished ≡ false → e.position < r.total → has_position e.position r.entries ≡ false → IsRun (record r { entries = insert_at e r.entries })
 run_takes e r sound is unclosed low free = record {
   small = is.small;
   ordered = ascends e r.entries is.ordered free;
@@ -43,25 +35,6 @@ run_takes e r sound is unclosed low free = record {
   sound = all_insert IsEntry e r.entries sound is.sound;
   whole = λ done. absurd (let e : true ≡ false = sym done ∙ unclosed in cc);
 }
-
-takes_from : (from k : ℕ) (e : Entry) (runs : List Run) (r : Run) → AreNumbered from runs → AllByRecursion IsRun runs → slice_get runs k ≡ Some r → r.finished ≡ false → e.position < r.total
-    → has_position e.position r.entries ≡ false → (k < length runs) × (IsEntry e → AllByRecursion IsRun (with_entry (from + k) e runs))
-takes_from from k e [] r h valid there unclosed low free = absurd cc
-takes_from from zero e (x ∷ runs) r h valid there unclosed low free =
-    let same : x ≡ r = cc in
-    let number : (x.number == from + 0) ≡ true = grind (arith, nat_tests, h.0) in
-    (omega arith, λ sound. rw number (subst (λ (y : Run). IsRun (record y { entries = insert_at e y.entries })) (sym same) (run_takes e r sound (subst IsRun same valid.0) unclosed low free), valid.1))
-takes_from from (suc k) e (x ∷ runs) r h valid there unclosed low free =
-    let place : suc from + k ≡ from + suc k = omega arith in
-    let apart : (x.number == from + suc k) ≡ false = grind (arith, nat_tests, h.0) in
-    let rest = takes_from (suc from) k e runs r h.1 valid.1 there unclosed low free in
-    (omega (arith, rest.0), λ sound. rw apart (valid.0, subst (λ n. AllByRecursion IsRun (with_entry n e runs)) place (rest.1 sound)))
-
-pub takes : (k : ℕ) (e : Entry) (runs : List Run) (r : Run) → AreNumbered 1 runs → AllByRecursion IsRun runs → run_at runs (suc k) ≡ Some r → r.finished ≡ false → e.position < r.total
-    → has_position e.position r.entries ≡ false → (k < length runs) × (IsEntry e → AllByRecursion IsRun (with_entry (suc k) e runs))
-takes k e runs r h valid there unclosed low free =
-    let place : 1 + k ≡ suc k = omega arith in
-    subst (λ n. (k < length runs) × (IsEntry e → AllByRecursion IsRun (with_entry n e runs))) place (takes_from 1 k e runs r h valid there unclosed low free)
 
 module _ (runs : List Run) (run : ℕ) (e : Entry) (r : Run) (there : run_at runs run ≡ Some r) where
   pub refused_closed : r.finished ≡ true → put_refusal runs run e ≡ Some RunClosed
@@ -90,6 +63,11 @@ module _ (runs : List Run) (run : ℕ) (e : Entry) (r : Run) (there : run_at run
         where
           fits : (run : ℕ) → run_at runs run ≡ Some r → AreRuns runs → has_position e.position r.entries ≡ false → CanAdd run e runs
           fits zero there valid is = absurd cc
-          fits (suc k) there valid is =
-              let both = takes k e runs r valid.numbered valid.each there unclosed low is in
-              (k, refl, both.0, λ has. both.1 (record { program = has.0; case_name = has.1; reason = has.2; passed = passed; meta = has.3 }))
+          fits (suc k) there valid is = (
+            k,
+            refl,
+            slice_get_within runs k r there,
+            λ has.
+                let sound : IsEntry e = record { program = has.0; case_name = has.1; reason = has.2; passed = passed; meta = has.3 } in
+                entry_each IsRun k runs r valid.numbered valid.each there e (run_takes e r sound (run_of (suc k) runs r valid there) unclosed low is),
+          )

@@ -1,7 +1,5 @@
 -- Values as they are compared and cast, and what parts of a statement gave.
-use Rattle.std.proofs.Common.{◌≡◌, ◌⊎◌, ◌==◌, ℕ, ℤ, ◌<◌, pos, Bool, true, false, cond, Less, Equal, Greater, Ok, Err, Result, inl, inr, refl, ap, ◌∙◌, arith}
-use Rattle.kt_store.proofs.Common.{ints, nat_tests, Value, Null, Int, value_cmp, value_cmp-Int, unary, Integer, cast}
-use Rattle.std.specs.Ordering.{is_eq}
+use Rattle.kt_store.proofs.Common.{Bool, Equal, Err, Greater, Int, Integer, Less, None, Null, Ok, Option, Result, Some, Value, ap, arith, cast, cond, false, inl, inr, ints, is_eq, nat_tests, option_map, pos, refl, true, unary, value_cmp, value_cmp-Int, ℕ, ℤ, ◌<◌, ◌==◌, ◌∙◌, ◌≡◌, ◌⊎◌}
 
 pub below : (m n : ℕ) → m < n → value_cmp (Int (pos m)) (Int (pos n)) ≡ Less
 below m n h = value_cmp-Int (pos m) (pos n) ∙ grind (arith, ints, nat_tests)
@@ -31,6 +29,15 @@ cast_int n = either _ (Int n)
 pub went : {B E R : Type 0} {b : B} {Stops : E → Type 0} → ((stop : E) × Stops stop × (Ok b ≡ Err stop)) ⊎ R → R
 went (inl stopped) = absurd (let e = stopped.2 in cc)
 went (inr on) = on
+
+-- what an option has of which this is seen
+pub some_mapped : {X Y : Type 0} (f : X → Y) (o : Option X) (y : Y) → Some y ≡ option_map f o → (x : X) × (o ≡ Some x) × (y ≡ f x)
+some_mapped f None y is = absurd cc
+some_mapped f (Some x) y is = (x, refl, let same : y ≡ f x = cc in same)
+
+pub none_mapped : {X Y : Type 0} (f : X → Y) (o : Option X) → None ≡ option_map f o → o ≡ None
+none_mapped f None is = refl
+none_mapped f (Some x) is = absurd cc
 
 pub same_value : {B E : Type 0} {a b : B} → ◌≡◌ {A = Result B E} (Ok a) (Ok b) → a ≡ b
 same_value e = cc

@@ -1,6 +1,5 @@
 -- A write that is one statement in its own commit, from what it does to the tables alone.
-use Rattle.std.proofs.Common.{◌≡◌, ◌⊎◌, inl, inr, ℕ, List, IsTrue, cond, None, Option, Ok, refl, ap, ◌∙◌, unwrap_or}
-use Rattle.kt_store.proofs.Common.{⊤, Row, Trees, Ghosts, Held, state, Command, Program, Update, Commit, Release, Mode, Enforced, Tally, Does, Database, IsDatabase, understood, State, HasCleanDisk, mode_of, Executes, Runs, Writes, CommitsBy, IsNewestNamed, names_in, begins_at, IsPlain, command_of, statement_of, runs_as, Run, schema_2, Tables, Keeps, IsStore, StandsFor, MayTell, Told}
+use Rattle.kt_store.proofs.Common.{Command, Commit, CommitsBy, Database, Does, Enforced, Executes, Ghosts, HasCleanDisk, Held, IsDatabase, IsNewestNamed, IsPlain, IsStore, IsTrue, Keeps, List, MayTell, Mode, None, Ok, Option, Program, Release, Row, Run, Runs, StandsFor, State, Tables, Tally, Told, Trees, Update, Writes, ap, begins_at, command_of, cond, inl, inr, mode_of, names_in, refl, runs_as, schema_2, state, statement_of, understood, unwrap_or, ℕ, ⊤, ◌∙◌, ◌≡◌, ◌⊎◌}
 use Rattle.kt_store.proofs.StepLemmas.{commits_as, same_store}
 
 abbrev pub Ends : Command → State → Type 0

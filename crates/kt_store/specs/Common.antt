@@ -23,7 +23,7 @@ pub use Rattle.kt_store.specs.Inner.Ask.{AreWide, Asked, HasColumns, MayShow, Ma
 pub use Rattle.kt_store.specs.Inner.Attaching.{HasNumber}
 pub use Rattle.kt_store.specs.Inner.Calls.{IsOurs, Statement, entry_statements, pair_statement, pair_statements, plain_statements}
 pub use Rattle.kt_store.specs.Inner.Cursors.{CountsUnder, FindsUnder, Goes, HoldsCommit, Looks, LooksThrough, ShowsUnder, in_columns}
-pub use Rattle.kt_store.specs.Inner.Edits.{Fills, Obeys, PutsRows, Wrote, done_row, unnumbered}
+pub use Rattle.kt_store.specs.Inner.Edits.{Ended, Fills, Obeys, PutsRows, Wrote, done_row, unnumbered}
 pub use Rattle.kt_store.specs.Inner.Fault.{IsShort, Tells, TellsOf, TellsOfWrite}
 pub use Rattle.kt_store.specs.Inner.Heads.{as_shown, entry_columns, head_columns, output_columns, pair_columns, pairs_shown, shown_columns, width_of}
 pub use Rattle.kt_store.specs.Inner.Opening.{ListsRuns, OpensOver}

@@ -41,18 +41,19 @@ Agrees runs (Outline number pairs (Err fault)) = IsStoreFault fault ⊎ ((fault 
 Agrees runs (Outputs number position (Ok outputs)) = (e : Entry) × (entry_at (run_at runs number) position ≡ Some e) × (outputs ≡ outputs_of e)
 Agrees runs (Outputs number position (Err fault)) = IsStoreFault fault ⊎ ((fault ≡ NoRun) × (entry_at (run_at runs number) position ≡ None))
 
--- after a call that was done and writes, a crash leaves its runs alone; after one that was refused, what it left before or the runs with its
--- change; after one that reads, what it left before
-abbrev pub Outlasts : {R : Type 0} → (R → List (List Run) → Type 0) → StoreCall → List Run → List (List Run) → R → R → Type 0
-Outlasts Leaves (Began total moment (Ok number)) runs may old new = Leaves new ((runs ++ new_run runs total moment ∷ []) ∷ [])
-Outlasts Leaves (Began total moment (Err fault)) runs may old new = Leaves old (runs ∷ may) → Leaves new (runs ∷ (runs ++ new_run runs total moment ∷ []) ∷ may)
-Outlasts Leaves (Put number e (Ok done)) runs may old new = Leaves new (with_entry number e runs ∷ [])
-Outlasts Leaves (Put number e (Err fault)) runs may old new = Leaves old (runs ∷ may) → Leaves new (runs ∷ with_entry number e runs ∷ may)
-Outlasts Leaves (Finished number (Ok done)) runs may old new = Leaves new (finish number runs ∷ [])
-Outlasts Leaves (Finished number (Err fault)) runs may old new = Leaves old (runs ∷ may) → Leaves new (runs ∷ finish number runs ∷ may)
-Outlasts Leaves (Heads answer) runs may old new = Leaves old may → Leaves new may
-Outlasts Leaves (Outline number pairs answer) runs may old new = Leaves old may → Leaves new may
-Outlasts Leaves (Outputs number position answer) runs may old new = Leaves old may → Leaves new may
+module _ {R : Type 0} (LeavesOne : R → List (List Run) → Type 0) where
+  -- after a call that was done and writes, a crash leaves its runs alone; after one that was refused, what it left before or the runs with its
+  -- change; after one that reads, what it left before
+  abbrev pub Outlasts : StoreCall → List Run → List (List Run) → R → R → Type 0
+  Outlasts (Began total moment (Ok number)) runs may old new = LeavesOne new ((runs ++ new_run runs total moment ∷ []) ∷ [])
+  Outlasts (Began total moment (Err fault)) runs may old new = LeavesOne old (runs ∷ may) → LeavesOne new (runs ∷ (runs ++ new_run runs total moment ∷ []) ∷ may)
+  Outlasts (Put number e (Ok done)) runs may old new = LeavesOne new (with_entry number e runs ∷ [])
+  Outlasts (Put number e (Err fault)) runs may old new = LeavesOne old (runs ∷ may) → LeavesOne new (runs ∷ with_entry number e runs ∷ may)
+  Outlasts (Finished number (Ok done)) runs may old new = LeavesOne new (finish number runs ∷ [])
+  Outlasts (Finished number (Err fault)) runs may old new = LeavesOne old (runs ∷ may) → LeavesOne new (runs ∷ finish number runs ∷ may)
+  Outlasts (Heads answer) runs may old new = LeavesOne old may → LeavesOne new may
+  Outlasts (Outline number pairs answer) runs may old new = LeavesOne old may → LeavesOne new may
+  Outlasts (Outputs number position answer) runs may old new = LeavesOne old may → LeavesOne new may
 
 -- a store serves a call with this answer: whatever runs it stood for, it stands for the changed runs; if it is sound then, it was so before, and
 -- the answer agrees with the runs

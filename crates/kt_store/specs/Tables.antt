@@ -41,87 +41,59 @@ column name kind not_null = record { name = name; kind = kind; is_strict = true;
 abbrev pub no_stamps : Stamps
 no_stamps = record { places = []; terms = []; formats = [] }
 
+-- a table of these columns, without a key or a rule
+abbrev pub bare_table : List ℕ → List Column → Table
+bare_table name columns =
+    record { name = name; tree = 0; columns = columns; key = None; primary = []; uniques = []; orders = []; checks = []; references = []; computed = []; stamps = no_stamps; is_counted = false }
+
 -- the table of the schema's number
 abbrev pub meta : Table
-meta = record {
-  name = codes "meta";
-  tree = 0;
-  columns = column (codes "name") Text true ∷ column (codes "value") Integer true ∷ [];
-  key = None;
-  primary = 1 ∷ [];
-  uniques = (1 ∷ []) ∷ [];
-  orders = plain ∷ [];
-  checks = [];
-  references = [];
-  computed = [];
-  stamps = no_stamps;
-  is_counted = false;
-}
+meta = record (bare_table (codes "meta") (column (codes "name") Text true ∷ column (codes "value") Integer true ∷ [])) { primary = 1 ∷ []; uniques = (1 ∷ []) ∷ []; orders = plain ∷ [] }
 
 -- the check that a run is finished or not
 abbrev pub finished_check : Term
 finished_check = op2 Or (op2 (Compare Eq Binary) (col 1 4) (lit (Int (pos 0)))) (op2 (Compare Eq Binary) (col 1 4) (lit (Int (pos 1))))
 
+-- the columns of runs
+abbrev pub runs_columns : List Column
+runs_columns = column (codes "id") Integer false ∷ column (codes "started") Integer true ∷ column (codes "total") Integer true ∷ column (codes "finished") Integer true ∷ []
+
 -- the table of runs
 abbrev pub runs : Table
-runs = record {
-  name = codes "runs";
-  tree = 0;
-  columns = column (codes "id") Integer false ∷ column (codes "started") Integer true ∷ column (codes "total") Integer true ∷ column (codes "finished") Integer true ∷ [];
-  key = Some 0;
-  primary = 0 ∷ [];
-  uniques = [];
-  orders = [];
-  checks = finished_check ∷ [];
-  references = [];
-  computed = [];
-  stamps = no_stamps;
-  is_counted = false;
-}
+runs = record (bare_table (codes "runs") runs_columns) { key = Some 0; primary = 0 ∷ []; checks = finished_check ∷ [] }
 
 -- the check that a kind is one of five
 abbrev pub kind_check : Term
 kind_check = op2 And (op2 (Compare Ge Binary) (col 1 5) (lit (Int (pos 0)))) (op2 (Compare Le Binary) (col 1 5) (lit (Int (pos 4))))
 
+-- the columns of entries
+abbrev pub entries_columns : List Column
+entries_columns =
+    column (codes "run") Integer true ∷ column (codes "position") Integer true ∷ column (codes "program") Text true ∷ column (codes "case_name") Text true ∷ column (codes "kind") Integer true
+    ∷ column (codes "reason") Text true ∷ column (codes "started") Integer true ∷ column (codes "millis") Integer true ∷ column (codes "body_out") Blob true ∷ column (codes "body_err") Blob true
+    ∷ column (codes "clean_out") Blob true ∷ column (codes "clean_err") Blob true ∷ []
+
 -- the table of entries
 abbrev pub entries : Table
-entries = record {
-  name = codes "entries";
-  tree = 0;
-  columns = column (codes "run") Integer true ∷ column (codes "position") Integer true ∷ column (codes "program") Text true ∷ column (codes "case_name") Text true
-      ∷ column (codes "kind") Integer true ∷ column (codes "reason") Text true ∷ column (codes "started") Integer true ∷ column (codes "millis") Integer true
-      ∷ column (codes "body_out") Blob true ∷ column (codes "body_err") Blob true ∷ column (codes "clean_out") Blob true ∷ column (codes "clean_err") Blob true ∷ [];
-  key = None;
+entries = record (bare_table (codes "entries") entries_columns) {
   primary = 1 ∷ 2 ∷ [];
   uniques = (1 ∷ 2 ∷ []) ∷ [];
   orders = plain ∷ [];
   checks = kind_check ∷ [];
   references = record { columns = 1 ∷ []; parent = codes "runs"; parent_columns = codes "id" ∷ []; on_delete = NoAction; on_update = NoAction; is_deferred = false } ∷ [];
-  computed = [];
-  stamps = no_stamps;
-  is_counted = false;
 }
 
 -- the text that makes the table of pairs
 abbrev pub create_props : List ℕ
 create_props = codes "CREATE TABLE props (run INTEGER NOT NULL, position INTEGER NOT NULL, place INTEGER NOT NULL, name TEXT NOT NULL, value TEXT NOT NULL, PRIMARY KEY (run, position, place)) STRICT"
 
+-- the columns of pairs
+abbrev pub props_columns : List Column
+props_columns = column (codes "run") Integer true ∷ column (codes "position") Integer true ∷ column (codes "place") Integer true ∷ column (codes "name") Text true ∷ column (codes "value") Text true ∷ []
+
 -- the table of pairs
 abbrev pub props : Table
-props = record {
-  name = codes "props";
-  tree = 0;
-  columns = column (codes "run") Integer true ∷ column (codes "position") Integer true ∷ column (codes "place") Integer true ∷ column (codes "name") Text true ∷ column (codes "value") Text true ∷ [];
-  key = None;
-  primary = 1 ∷ 2 ∷ 3 ∷ [];
-  uniques = (1 ∷ 2 ∷ 3 ∷ []) ∷ [];
-  orders = plain ∷ [];
-  checks = [];
-  references = [];
-  computed = [];
-  stamps = no_stamps;
-  is_counted = false;
-}
+props = record (bare_table (codes "props") props_columns) { primary = 1 ∷ 2 ∷ 3 ∷ []; uniques = (1 ∷ 2 ∷ 3 ∷ []) ∷ []; orders = plain ∷ [] }
 
 -- the index of a table's key
 abbrev pub index_of : Table → ℕ → Index

@@ -1,7 +1,7 @@
 //! Runs and entries that are written into the trees of a store, without a commit.
 
-ghost use Rattle.std.specs.Prelude.{◌≡◌, ◌⊎◌, ◌<◌, ◌≤◌, ◌^◌, [], ◌∷◌, map, suc, length, Some, None, Ok, Err, false, is_err, IfOk, IfErr, OnOk, OnErr};
-ghost use Rattle.kt_store.specs.Common.{OnTrees, AllByRecursion, owned, Run, last_run, IsMoment, IsStorable, IsStoreFault, IsText, IsPair, CanAdd, IsComplete, IsBareIfPassed, StandAt, Looks, LooksThrough, Obeys, HoldsCommit, Fills, Began, Put, Finished, Agrees, Keeps, PutsRows, changed_by, run_at, run_row, entry_row, pair_row, pair_rows_from, unnumbered, done_row, put_refusal, finish_refusal};
+ghost use Rattle.std.specs.Prelude.{◌≡◌, ◌⊎◌, ◌<◌, ◌≤◌, ◌^◌, [], ◌∷◌, map, suc, length, Some, None, Ok, Err, false, IfOk, IfErr, OnOk};
+ghost use Rattle.kt_store.specs.Common.{AllByRecursion, Began, CanAdd, Ended, Fills, Finished, HoldsCommit, IsBareIfPassed, IsComplete, IsMoment, IsPair, IsStorable, IsStoreFault, IsText, Looks, LooksThrough, Obeys, OnTrees, Put, PutsRows, Run, StandAt, Wrote, done_row, entry_row, finish_refusal, last_run, owned, pair_row, pair_rows_from, put_refusal, run_at, run_row, unnumbered};
 ghost use Rattle.sqlite_trees.specs.Tree.{Trees};
 ghost use Rattle.sqlite_trees.specs.View.{IsClean};
 ghost use Rattle.sqlite_catalog.specs.Listing.{IsSound};
@@ -191,18 +191,7 @@ pub(crate) fn write_run<S: Alter>(
     requires sound { IsClean (S.Store.view store.old) → (S.Store.view store.old).is_broken ≡ false
         → IsSound schema.now (S.Store.view store.old).trees }
     requires placed { StandAt places (S.Store.view store.old) }
-    ensures agrees { OnTrees S.Store store.old store.new (λ runs.
-        Agrees runs (Began total moment result)) }
-    ensures rows { OnTrees S.Store store.old store.new (λ runs.
-        OnOk result (Keeps (changed_by (Began total moment result) runs) (S.Store.view
-        store.new).trees)) }
-    ensures obeys { IsClean (S.Store.view store.new)
-        → OnOk result (Obeys (S.Store.view store.new) schema.now) }
-    ensures held { IsClean (S.Store.view store.new)
-        → HoldsCommit (S.Store.view store.old) (S.Store.view store.new) }
-    ensures clean { IsClean (S.Store.view store.new) → IsClean (S.Store.view store.old) }
-    ensures outcomes { (db : Trees) → S.Store.recovers store.new db
-        → S.Store.recovers store.old db }
+    ensures { Wrote S.Store schema.now (λ r. Began total moment r) store.old store.new result }
 {
     let number = next_number(store, alloc, places)?;
     let row = row_of(
@@ -327,18 +316,7 @@ pub(crate) fn write_entry<S: Alter>(
     requires sound { IsClean (S.Store.view store.old) → (S.Store.view store.old).is_broken ≡ false
         → IsSound schema.now (S.Store.view store.old).trees }
     requires placed { StandAt places (S.Store.view store.old) }
-    ensures agrees { OnTrees S.Store store.old store.new (λ runs.
-        Agrees runs (Put run entry.now result)) }
-    ensures rows { OnTrees S.Store store.old store.new (λ runs.
-        OnOk result (Keeps (changed_by (Put run entry.now result) runs) (S.Store.view
-        store.new).trees)) }
-    ensures obeys { IsClean (S.Store.view store.new)
-        → OnOk result (Obeys (S.Store.view store.new) schema.now) }
-    ensures held { IsClean (S.Store.view store.new)
-        → HoldsCommit (S.Store.view store.old) (S.Store.view store.new) }
-    ensures clean { IsClean (S.Store.view store.new) → IsClean (S.Store.view store.old) }
-    ensures outcomes { (db : Trees) → S.Store.recovers store.new db
-        → S.Store.recovers store.old db }
+    ensures { Wrote S.Store schema.now (λ r. Put run entry.now r) store.old store.new result }
 {
     let reason = reason_of(alloc, entry)?;
     check_entry(store, alloc, places, run, entry)?;
@@ -404,17 +382,7 @@ pub(crate) fn write_finish<S: Alter>(
     requires sound { IsClean (S.Store.view store.old) → (S.Store.view store.old).is_broken ≡ false
         → IsSound schema.now (S.Store.view store.old).trees }
     requires placed { StandAt places (S.Store.view store.old) }
-    ensures agrees { OnTrees S.Store store.old store.new (λ runs.
-        Agrees runs (Finished run result)) }
-    ensures rows { OnTrees S.Store store.old store.new (λ runs.
-        OnOk result (Keeps (changed_by (Finished run result) runs) (S.Store.view store.new).trees)) }
-    ensures obeys { IsClean (S.Store.view store.new)
-        → OnOk result (Obeys (S.Store.view store.new) schema.now) }
-    ensures held { IsClean (S.Store.view store.new)
-        → HoldsCommit (S.Store.view store.old) (S.Store.view store.new) }
-    ensures clean { IsClean (S.Store.view store.new) → IsClean (S.Store.view store.old) }
-    ensures outcomes { (db : Trees) → S.Store.recovers store.new db
-        → S.Store.recovers store.old db }
+    ensures { Wrote S.Store schema.now (λ r. Finished run r) store.old store.new result }
 {
     let row = check_run(store, alloc, places, run)?;
     let done = finished_row(alloc, &row)?;
@@ -436,20 +404,7 @@ pub(crate) fn ended<S: Alter, T: Drop>(
     store: &mut S,
     written: Result<T, StoreFault>,
 ) -> Result<T, StoreFault>
-    ensures value { IfOk result (λ value. written ≡ Ok value) }
-    ensures fault { IfErr result (λ e. (written ≡ Err e) ⊎ IsStoreFault e) }
-    ensures clean { IsClean (S.Store.view store.new) → IsClean (S.Store.view store.old) }
-    ensures settled { IsClean (S.Store.view store.new)
-        → (S.Store.view store.new).is_broken ≡ false
-        → (S.Store.view store.new).trees ≡ (S.Store.view store.new).committed }
-    ensures done { IsClean (S.Store.view store.new)
-        → OnOk result (((S.Store.view store.new).is_broken ≡ false)
-        × ((S.Store.view store.new).committed ≡ (S.Store.view store.old).trees)) }
-    ensures kept { IsClean (S.Store.view store.new)
-        → OnErr result (HoldsCommit (S.Store.view store.old) (S.Store.view store.new)) }
-    ensures crash { (db : Trees) → S.Store.recovers store.new db
-        → ((is_err written ≡ false) × (db ≡ (S.Store.view store.old).trees))
-        ⊎ S.Store.recovers store.old db }
+    ensures { Ended S.Store store.old store.new written result }
 {
     let value = match written {
         Ok(value) => value,

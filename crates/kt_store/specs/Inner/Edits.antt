@@ -1,5 +1,5 @@
 -- Rows that are written into the trees of a store by the rules of its schema.
-use Rattle.std.specs.Prelude.{◌≡◌, ℕ, pos, false, List, [], ◌∷◌, IsTrue, Some, slice_get, Result, Ok, OnOk, ℤ, map}
+use Rattle.std.specs.Prelude.{◌≡◌, ◌⊎◌, ℕ, pos, false, List, [], ◌∷◌, IsTrue, Some, slice_get, Result, Ok, Err, IfErr, IfOk, OnErr, OnOk, is_err, ℤ, map}
 use Rattle.sqlite_trees.specs.Tree.{Trees}
 use Rattle.sqlite_trees.specs.View.{View, IsClean}
 use Rattle.sqlite_schema.specs.declared.schema.Schema.{Schema}
@@ -15,6 +15,7 @@ use Rattle.sqlite_value.specs.Order.{Row}
 use Rattle.sqlite.specs.Store.{Ghosts}
 use Rattle.kt_base.specs.declared.entry.Entry.{Entry}
 use Rattle.kt_base.specs.declared.entry.Run.{Run}
+use Rattle.kt_store.specs.Ask.{IsStoreFault}
 use Rattle.kt_store.specs.Inner.Cursors.{HoldsCommit}
 use Rattle.kt_store.specs.Inner.Runs.{HasTexts}
 use Rattle.kt_store.specs.Runs.{Keeps, entry_row, pair_rows}
@@ -34,10 +35,11 @@ pub record IsSettledStore (v : View) (schema : Schema) : Type 0 where
   pub settled : IsClean v → v.is_broken ≡ false → v.trees ≡ v.committed
   pub sound : IsTrue v.is_open → IsSound schema v.committed
 
--- the table at a place of the schema lost these rows and got others, which are read from a column of these on
-abbrev pub PutsRows : Schema → ℕ → List ℤ → Rowids → ℕ → List Row → Trees → Trees → Type 0
-PutsRows schema place gone rowids from sources old new =
-    (table : Table) → slice_get schema.tables place ≡ Some table → Writes schema Enforced old (edit_of old table gone rowids from sources) (Ok new)
+module _ (schema : Schema) where
+  -- the table at a place of the schema lost these rows and got others, which are read from a column of these on
+  abbrev pub PutsRows : ℕ → List ℤ → Rowids → ℕ → List Row → Trees → Trees → Type 0
+  PutsRows place gone rowids from sources old new =
+      (table : Table) → slice_get schema.tables place ≡ Some table → Writes schema Enforced old (edit_of old table gone rowids from sources) (Ok new)
 
 -- a row that has no rowid yet
 abbrev pub unnumbered : Row → Row
@@ -57,12 +59,24 @@ Fills schema places run' e old new =
     HasTexts e × ((mid : Trees) × PutsRows schema places.entries.at [] Chosen 0 (unnumbered (entry_row run' e) ∷ []) old mid
     × PutsRows schema places.props.at [] Chosen 0 (map unnumbered (pair_rows run' e)) mid new)
 
--- a call wrote its rows, or failed, and committed nothing: the last commit stands, and a crash leaves what it left before; once it is done, the
--- trees are those of the changed runs
-pub record Wrote {S : Type 0} (g : Ghosts S) {T : Type 0} (schema : Schema) (call : Result T StoreFault → StoreCall) (old new : S) (result : Result T StoreFault) : Type 0 where
-  pub clean : IsClean (g.view new) → IsClean (g.view old)
-  pub held : IsClean (g.view new) → HoldsCommit (g.view old) (g.view new)
-  pub outcomes : (db : Trees) → g.recovers new db → g.recovers old db
-  pub obeys : IsClean (g.view new) → OnOk result (Obeys (g.view new) schema)
-  pub agrees : (runs : List Run) → HasRuns (g.view old) runs → IsClean (g.view new) → Agrees runs (call result)
-  pub rows : (runs : List Run) → HasRuns (g.view old) runs → IsClean (g.view new) → OnOk result (Keeps (changed_by (call result) runs) (g.view new).trees)
+module _ {S : Type 0} (g : Ghosts S) (schema : Schema) where
+  -- a call wrote its rows, or failed, and committed nothing: the last commit stands, and a crash leaves what it left before; once it is done, the
+  -- trees are those of the changed runs
+  pub record Wrote {T : Type 0} (call : Result T StoreFault → StoreCall) (old new : S) (result : Result T StoreFault) : Type 0 where
+    pub clean : IsClean (g.view new) → IsClean (g.view old)
+    pub held : IsClean (g.view new) → HoldsCommit (g.view old) (g.view new)
+    pub outcomes : (db : Trees) → g.recovers new db → g.recovers old db
+    pub obeys : IsClean (g.view new) → OnOk result (Obeys (g.view new) schema)
+    pub agrees : (runs : List Run) → HasRuns (g.view old) runs → IsClean (g.view new) → Agrees runs (call result)
+    pub rows : (runs : List Run) → HasRuns (g.view old) runs → IsClean (g.view new) → OnOk result (Keeps (changed_by (call result) runs) (g.view new).trees)
+
+module _ {S : Type 0} (g : Ghosts S) where
+  -- what was written was committed; or it was refused, or its commit failed, and the transaction went back to the last commit
+  pub record Ended {T : Type 0} (old new : S) (written result : Result T StoreFault) : Type 0 where
+    pub value : IfOk result (λ value. written ≡ Ok value)
+    pub fault : IfErr result (λ e. (written ≡ Err e) ⊎ IsStoreFault e)
+    pub clean : IsClean (g.view new) → IsClean (g.view old)
+    pub settled : IsClean (g.view new) → (g.view new).is_broken ≡ false → (g.view new).trees ≡ (g.view new).committed
+    pub done : IsClean (g.view new) → OnOk result (((g.view new).is_broken ≡ false) × ((g.view new).committed ≡ (g.view old).trees))
+    pub kept : IsClean (g.view new) → OnErr result (HoldsCommit (g.view old) (g.view new))
+    pub crash : (db : Trees) → g.recovers new db → ((is_err written ≡ false) × (db ≡ (g.view old).trees)) ⊎ g.recovers old db

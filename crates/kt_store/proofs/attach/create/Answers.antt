@@ -1,5 +1,4 @@
-use Rattle.std.proofs.Common.{◌≡◌, [], inl, inr, refl, arith}
-use Rattle.kt_store.proofs.Common.{make_statements, no_schema}
+use Rattle.kt_store.proofs.Common.{[], arith, inl, inr, make_statements, no_schema, refl, ◌≡◌}
 use Rattle.kt_store.proofs.CommitLemmas.{undone_holds, commit_stands, commit_lasts, commit_crash}
 use Rattle.kt_store.proofs.CreateLemmas.{made_in}
 use Rattle.kt_store.proofs.FaultLemmas.{if_trouble}

@@ -1,6 +1,5 @@
-use Rattle.kt_store.proofs.ProbeLemmas.{understood_before}
-use Rattle.std.proofs.Common.{◌≡◌, ◌∙◌, true, false, sym, arith}
-use Rattle.kt_store.proofs.Common.{entries_text, pairs_text, unchanged_then, state}
+use Rattle.kt_store.proofs.Common.{arith, entries_text, false, pairs_text, state, sym, true, unchanged_then, ◌∙◌, ◌≡◌}
+use Rattle.kt_store.proofs.AskLemmas.{understood_before}
 use Rattle.kt_store.proofs.SqlFacts.{runs_select_is, entries_select_is, pairs_select_is}
 use Rattle.kt_store.proofs.attach.find_tables.Goals as goal
 

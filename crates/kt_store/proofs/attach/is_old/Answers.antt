@@ -1,7 +1,6 @@
-use Rattle.kt_store.proofs.ProbeLemmas.{understood_before, asks_then, never_old_number}
+use Rattle.kt_store.proofs.Common.{arith, entries_text, inl, pairs_text, rules, runs_text, state, unchanged_then}
+use Rattle.kt_store.proofs.AskLemmas.{understood_before, asks_then, never_old_number}
 use Rattle.kt_store.proofs.StepLemmas.{rests_then}
-use Rattle.std.proofs.Common.{inl, arith, rules}
-use Rattle.kt_store.proofs.Common.{runs_text, entries_text, pairs_text, unchanged_then, state}
 use Rattle.kt_store.proofs.attach.is_old.Goals as goal
 
 pub returns-in_err-old-clause-taken : goal.returns-in_err-old-clause-taken

@@ -1,5 +1,4 @@
-use Rattle.std.proofs.Common.{inl, inr, refl, arith}
-use Rattle.kt_store.proofs.Common.{raise_statements, OldTables, state}
+use Rattle.kt_store.proofs.Common.{OldTables, arith, inl, inr, raise_statements, refl, state}
 use Rattle.kt_store.proofs.CommitLemmas.{undone_holds, commit_stands, commit_lasts, commit_crash}
 use Rattle.kt_store.proofs.RaiseLemmas.{raised_in}
 use Rattle.kt_store.proofs.FaultLemmas.{if_trouble}

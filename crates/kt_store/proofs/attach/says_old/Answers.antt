@@ -1,5 +1,4 @@
-use Rattle.std.proofs.Common.{inl, inr, w64, SFits, of_z, to_z, ◌∙◌, sym, ap, rules}
-use Rattle.kt_store.proofs.Common.{to_z-of_z}
+use Rattle.kt_store.proofs.Common.{SFits, ap, inl, inr, of_z, rules, sym, to_z, to_z-of_z, w64, ◌∙◌}
 use Rattle.kt_store.proofs.attach.says_old.Goals as goal
 
 pub returns-in_err-number-clause-taken : goal.returns-in_err-number-clause-taken

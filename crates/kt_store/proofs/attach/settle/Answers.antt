@@ -1,5 +1,4 @@
-use Rattle.std.proofs.lemmas.Result.{on_ok_weaker, IfErr-weaker}
-use Rattle.kt_store.proofs.Common.{state}
+use Rattle.kt_store.proofs.Common.{IfErr-weaker, on_ok_weaker, state}
 use Rattle.kt_store.proofs.AttachLemmas.{all_due, look_refuses, create_refuses, create_takes, take_refuses, take_takes}
 use Rattle.kt_store.proofs.FaultLemmas.{if_trouble, ok_later, fault_later, ok_of, fault_of}
 use Rattle.kt_store.proofs.SqlFacts.{nothing_is}

@@ -1,7 +1,5 @@
-use Rattle.std.proofs.Common.{rules, arith, ◌≡◌, ◌+◌, ◌<◌, ℕ, zero, suc, List, [], ◌∷◌, length, get_or, Some, ◌∙◌, ap, map}
+use Rattle.kt_store.proofs.Common.{AreNamed, List, Some, [], ap, arith, column_named, get_or, length, map, rules, suc, zero, ℕ, ◌+◌, ◌<◌, ◌∙◌, ◌∷◌, ◌≡◌}
 use Rattle.sqlite_schema.specs.declared.schema.Table.{Table}
-use Rattle.sqlite_schema.specs.Names.{column_named}
-use Rattle.kt_store.specs.Inner.Places.{AreNamed}
 use Rattle.kt_store.proofs.by_name.has_columns.Goals as goal
 
 -- one of the names is found at its place

@@ -1,4 +1,4 @@
-use Rattle.std.proofs.Common.{◌≡◌}
+use Rattle.kt_store.proofs.Common.{◌≡◌}
 use Rattle.kt_store.proofs.by_name.has_columns.Given as goal
 
 abbrev pub invariant-loop-name : goal.invariant-loop-name

@@ -1,8 +1,6 @@
-use Rattle.std.proofs.Common.{◌≡◌, [], ◌∷◌, codes, Some, refl}
+use Rattle.kt_store.proofs.Common.{AreNamed, Some, [], codes, entries_1, index_of, props_1, refl, runs_1, schema_2, ◌∷◌, ◌≡◌}
 use Rattle.std.specs.Fmt.{digits}
 use Rattle.sqlite_schema.specs.Names.{index_named, same_name, table_named}
-use Rattle.kt_store.specs.Inner.Places.{AreNamed}
-use Rattle.kt_store.proofs.Common.{entries_1, index_of, props_1, runs_1, schema_2}
 use Rattle.kt_store.proofs.by_name.places_in.Goals as goal
 
 -- the tables of schema 2, by name

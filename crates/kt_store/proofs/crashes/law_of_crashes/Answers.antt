@@ -1,4 +1,4 @@
-use Rattle.std.proofs.Common.{inl, inr, arith}
+use Rattle.kt_store.proofs.Common.{arith, inl, inr}
 use Rattle.kt_store.proofs.crashes.law_of_crashes.Goals as goal
 
 pub returns : goal.returns

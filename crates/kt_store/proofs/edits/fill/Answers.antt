@@ -1,5 +1,4 @@
-use Rattle.std.proofs.Common.{arith}
-use Rattle.sqlite_trees.specs.View.{IsClean}
+use Rattle.kt_store.proofs.Common.{IsClean, arith}
 use Rattle.kt_store.proofs.edits.fill.Goals as goal
 
 pub returns-clause-filled : goal.returns-clause-filled

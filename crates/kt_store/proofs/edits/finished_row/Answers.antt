@@ -1,4 +1,4 @@
-use Rattle.std.proofs.lemmas.Result.{IfOk-weaker}
+use Rattle.kt_store.proofs.Common.{IfOk-weaker}
 use Rattle.kt_store.proofs.edits.finished_row.Goals as goal
 
 pub returns : goal.returns

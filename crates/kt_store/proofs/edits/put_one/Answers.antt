@@ -1,6 +1,4 @@
-use Rattle.std.proofs.Common.{◌≡◌, ◌∙◌, List, [], ◌∷◌, ◌++◌, ap, subst}
-use Rattle.kt_store.proofs.Common.{Row}
-use Rattle.kt_store.specs.Inner.Edits.{PutsRows}
+use Rattle.kt_store.proofs.Common.{List, PutsRows, Row, [], ap, subst, ◌++◌, ◌∙◌, ◌∷◌, ◌≡◌}
 use Rattle.kt_store.proofs.edits.put_one.Goals as goal
 
 pub returns-clause-puts : goal.returns-clause-puts

@@ -1,4 +1,4 @@
-use Rattle.std.proofs.Common.{◌≡◌, map, take}
+use Rattle.kt_store.proofs.Common.{map, take, ◌≡◌}
 use Rattle.sqlite_value.specs.Value.{owned}
 use Rattle.kt_store.proofs.edits.row_of.Given as goal
 

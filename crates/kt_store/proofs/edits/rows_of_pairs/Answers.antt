@@ -1,7 +1,5 @@
-use Rattle.std.proofs.Common.{rules, arith, ◌≡◌, ◌∙◌, ◌+◌, suc, [], ◌∷◌, ◌++◌, map, take, sym, ap, ap₂, subst}
-use Rattle.kt_store.proofs.Common.{AllByRecursion, IsPair, Row, pair_row, pair_rows_from, take_all}
-use Rattle.kt_store.specs.Inner.Edits.{unnumbered}
-use Rattle.kt_store.proofs.EditLemmas.{all_taken, pairs_taken}
+use Rattle.kt_store.proofs.Common.{AllByRecursion, IsPair, Row, [], all_more, ap, ap₂, arith, map, pair_row, pair_rows_from, rules, subst, suc, sym, take, take_all, unnumbered, ◌++◌, ◌+◌, ◌∙◌, ◌∷◌, ◌≡◌}
+use Rattle.kt_store.proofs.EditLemmas.{pairs_taken}
 use Rattle.kt_store.proofs.edits.rows_of_pairs.Goals as goal
 
 pub loop-pair-preserved : goal.loop-pair-preserved
@@ -16,7 +14,7 @@ loop-pair-preserved c =
     let next : suc i ≡ i + 1 = omega arith in (
       omega (arith, c.loop-pair.invariant.0),
       pushed ∙ ap₂ (λ (l : _) (x : Row). l ++ x ∷ []) c.loop-pair.invariant.1 row ∙ sym taken ∙ ap (λ k. map unnumbered (pair_rows_from c.args.run c.args.position 0 (take k vs))) next,
-      subst (λ k. AllByRecursion IsPair (take k vs)) next (all_taken i vs v (omega (arith, c.loop-pair-test.true)) c.pair-item.is c.in_ok-row.ensures.texts c.loop-pair.invariant.2),
+      all_more IsPair vs i v (omega (arith, c.loop-pair-test.true)) c.pair-item.is c.loop-pair.invariant.2 c.in_ok-row.ensures.texts,
     )
 
 pub returns-clause-rows : goal.returns-clause-rows

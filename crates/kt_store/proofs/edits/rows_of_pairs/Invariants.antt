@@ -1,6 +1,4 @@
-use Rattle.std.proofs.Common.{◌≡◌, map, take}
-use Rattle.kt_store.proofs.Common.{AllByRecursion, IsPair, pair_rows_from}
-use Rattle.kt_store.specs.Inner.Edits.{unnumbered}
+use Rattle.kt_store.proofs.Common.{AllByRecursion, IsPair, map, pair_rows_from, take, unnumbered, ◌≡◌}
 use Rattle.kt_store.proofs.edits.rows_of_pairs.Given as goal
 
 abbrev pub invariant-loop-pair : goal.invariant-loop-pair

@@ -1,23 +1,24 @@
-use Rattle.std.proofs.lemmas.Int.{to_z_pos}
-use Rattle.std.proofs.Common.{arith, w64, ◌≡◌, ◌∙◌, ℤ, pos, [], ◌∷◌, sym, ap}
-use Rattle.sqlite_trees.specs.View.{View, IsClean}
-use Rattle.kt_store.specs.Inner.Edits.{done_row}
+use Rattle.kt_store.proofs.Common.{IsClean, View, [], ap, arith, done_row, pos, rules, sym, to_z_pos, w64, ℤ, ◌∙◌, ◌∷◌, ◌≡◌}
 use Rattle.kt_store.proofs.EditLemmas.{finished_by, number_is}
 use Rattle.kt_store.proofs.edits.write_finish.Goals as goal
 
-pub returns-clause-agrees : goal.returns-clause-agrees
-returns-clause-agrees g c runs has clean = (c.in_ok-row.ensures.taken runs has (c.put_one.ensures.clean clean)).3
-
-pub returns-clause-rows : goal.returns-clause-rows
-returns-clause-rows g c runs has clean =
-    let early : IsClean (g.S.Store.view c.check_run.new.store) = c.put_one.ensures.clean clean in
-    let through = c.in_ok-row.ensures.through early in
-    let was = c.check_run.ensures.looks.clean early in
-    let trees = ap (λ (v : View). v.trees) through.1 in
-    let taken = c.in_ok-row.ensures.taken runs has early in
-    let r = taken.0 in
-    let keeps = has was through.0 in
-    let done : c.in_ok-done.done ≡ done_row r = c.in_ok-done.ensures r taken.2 in
-    let id = to_z_pos w64 c.args.run (omega (arith, c.in_ok-row.ensures.small)) in
-    let ids = ap (λ (z : ℤ). z ∷ []) (id ∙ ap pos (sym (number_is c.args.run runs r keeps.3.valid.numbered taken.1))) in
-    finished_by c.args.schema.now runs (g.S.Store.view c.args.store.now).trees (g.S.Store.view c.put_one.new.store).trees (c.requires.sound was through.0) (c.in_ok-put_one.ensures.obeys clean).sound keeps c.args.run r taken.1 taken.4 _ _ _ trees done ids (rw (c.requires.placed was through.0 runs keeps) at (c.in_ok-put_one.ensures.puts clean))
+pub returns : goal.returns
+returns g c = record {
+  clean = search rules;
+  held = search rules;
+  outcomes = search rules;
+  obeys = search rules;
+  agrees = λ runs has clean. (c.in_ok-row.ensures.taken runs has (c.put_one.ensures.clean clean)).3;
+  rows = λ runs has clean.
+      let early : IsClean (g.S.Store.view c.check_run.new.store) = c.put_one.ensures.clean clean in
+      let through = c.in_ok-row.ensures.through early in
+      let was = c.check_run.ensures.looks.clean early in
+      let trees = ap (λ (v : View). v.trees) through.1 in
+      let taken = c.in_ok-row.ensures.taken runs has early in
+      let r = taken.0 in
+      let keeps = has was through.0 in
+      let done : c.in_ok-done.done ≡ done_row r = c.in_ok-done.ensures r taken.2 in
+      let id = to_z_pos w64 c.args.run (omega (arith, c.in_ok-row.ensures.small)) in
+      let ids = ap (λ (z : ℤ). z ∷ []) (id ∙ ap pos (sym (number_is c.args.run runs r keeps.3.valid.numbered taken.1))) in
+      finished_by c.args.schema.now runs (g.S.Store.view c.args.store.now).trees (g.S.Store.view c.put_one.new.store).trees (c.requires.sound was through.0) (c.in_ok-put_one.ensures.obeys clean).sound keeps c.args.run r taken.1 taken.4 _ _ _ trees done ids (rw (c.requires.placed was through.0 runs keeps) at (c.in_ok-put_one.ensures.puts clean));
+}

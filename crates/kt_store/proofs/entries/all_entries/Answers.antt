@@ -1,6 +1,4 @@
-use Rattle.std.proofs.lemmas.List.{map-id}
-use Rattle.std.proofs.Common.{◌∙◌, ap}
-use Rattle.kt_store.proofs.Common.{entries_of}
+use Rattle.kt_store.proofs.Common.{ap, entries_of, map-id, ◌∙◌}
 use Rattle.kt_store.proofs.EntriesLemmas.{sound_of, up_of}
 use Rattle.kt_store.proofs.AskLemmas.{looked-then, was_clean}
 use Rattle.kt_store.proofs.entries.all_entries.Goals as goal

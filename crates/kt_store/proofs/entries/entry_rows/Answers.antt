@@ -1,5 +1,4 @@
-use Rattle.std.proofs.lemmas.Result.{IfOk-weaker}
-use Rattle.kt_store.proofs.Common.{state}
+use Rattle.kt_store.proofs.Common.{IfOk-weaker, state}
 use Rattle.kt_store.proofs.SqlFacts.{entries_select_is}
 use Rattle.kt_store.proofs.EntriesLemmas.{tells_entries}
 use Rattle.kt_store.proofs.entries.entry_rows.Goals as goal

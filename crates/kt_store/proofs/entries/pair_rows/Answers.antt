@@ -1,5 +1,4 @@
-use Rattle.std.proofs.lemmas.Result.{IfOk-weaker}
-use Rattle.kt_store.proofs.Common.{state}
+use Rattle.kt_store.proofs.Common.{IfOk-weaker, state}
 use Rattle.kt_store.proofs.SqlFacts.{pairs_select_is}
 use Rattle.kt_store.proofs.PairsLemmas.{tells_pairs}
 use Rattle.kt_store.proofs.entries.pair_rows.Goals as goal

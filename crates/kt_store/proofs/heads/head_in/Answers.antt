@@ -1,5 +1,4 @@
-use Rattle.std.proofs.Common.{◌≡◌, ◌∙◌, pos, nat_lt, refl, sym, ap, unsigned_abs}
-use Rattle.kt_store.proofs.Common.{column, Int, flag}
+use Rattle.kt_store.proofs.Common.{Int, ap, column, flag, nat_lt, pos, refl, sym, unsigned_abs, ◌∙◌, ◌≡◌}
 use Rattle.kt_store.proofs.RunLemmas.{set, flag_read}
 use Rattle.kt_store.proofs.heads.head_in.Goals as goal
 

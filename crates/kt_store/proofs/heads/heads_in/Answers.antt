@@ -1,7 +1,6 @@
-use Rattle.std.proofs.Common.{rules, ◌≡◌, ◌∙◌, ◌<◌, ◌+◌, suc, [], ◌∷◌, ◌++◌, map, take, get_or, length, refl, sym, ap, subst, arith}
-use Rattle.kt_store.proofs.Common.{length-map, take_all, head_columns, head_of}
+use Rattle.kt_store.proofs.Common.{[], ap, arith, get_or, head_columns, head_of, length, length-map, map, refl, rules, subst, suc, sym, take, take_all, ◌++◌, ◌+◌, ◌<◌, ◌∙◌, ◌∷◌, ◌≡◌}
 use Rattle.kt_store.proofs.HeadLemmas.{one_more}
-use Rattle.kt_store.proofs.WideLemmas.{one_wide}
+use Rattle.kt_store.proofs.SeenLemmas.{one_wide}
 use Rattle.kt_store.proofs.heads.heads_in.Goals as goal
 
 pub head_in-requires : goal.head_in-requires

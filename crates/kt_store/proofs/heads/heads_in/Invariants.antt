@@ -1,5 +1,4 @@
-use Rattle.std.proofs.Common.{◌≡◌, List, map, take}
-use Rattle.kt_store.proofs.Common.{Run, head_columns, head_of}
+use Rattle.kt_store.proofs.Common.{List, Run, head_columns, head_of, map, take, ◌≡◌}
 use Rattle.kt_store.proofs.heads.heads_in.Given as goal
 
 abbrev pub invariant-loop-row : goal.invariant-loop-row

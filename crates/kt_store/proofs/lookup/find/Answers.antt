@@ -1,15 +1,13 @@
-use Rattle.std.proofs.Common.{◌∙◌, slice_get, sym, ap, arith}
-use Rattle.kt_store.proofs.Common.{option_copied, run_at}
+use Rattle.kt_store.proofs.Common.{Row, all-slice_get, ap, arith, length, option_copied, run_at, slice_get, sym, ◌∙◌, ◌≤◌}
 use Rattle.kt_store.proofs.RunLemmas.{tells_run, none_there, some_there, both_read}
 use Rattle.kt_store.proofs.SqlFacts.{run_is}
-use Rattle.kt_store.proofs.WideLemmas.{first_wide}
 use Rattle.kt_store.proofs.lookup.find.Goals as goal
 
 pub number_in-requires : goal.number_in-requires
-number_in-requires g c = omega (arith, first_wide 2 c.in_ok-rows.rows.items c.in-Some.row.now c.in_ok-rows.ensures.wide (ap (λ l. slice_get l 0) (sym c.deref.ensures.value) ∙ sym c.first.ensures.value ∙ ap option_copied c.in-Some.is))
+number_in-requires g c = omega (arith, all-slice_get (λ (l : Row). 2 ≤ length l) c.in_ok-rows.rows.items 0 c.in-Some.row.now (ap (λ l. slice_get l 0) (sym c.deref.ensures.value) ∙ sym c.first.ensures.value ∙ ap option_copied c.in-Some.is) c.in_ok-rows.ensures.wide)
 
 pub number_in-requires-2 : goal.number_in-requires-2
-number_in-requires-2 g c = omega (arith, first_wide 2 c.in_ok-rows.rows.items c.in-Some.row.now c.in_ok-rows.ensures.wide (ap (λ l. slice_get l 0) (sym c.deref.ensures.value) ∙ sym c.first.ensures.value ∙ ap option_copied c.in-Some.is))
+number_in-requires-2 g c = omega (arith, all-slice_get (λ (l : Row). 2 ≤ length l) c.in_ok-rows.rows.items 0 c.in-Some.row.now (ap (λ l. slice_get l 0) (sym c.deref.ensures.value) ∙ sym c.first.ensures.value ∙ ap option_copied c.in-Some.is) c.in_ok-rows.ensures.wide)
 
 pub query-requires : goal.query-requires
 query-requires g c = record { plain = run_is.2; width = run_is.3 }

@@ -1,6 +1,6 @@
-use Rattle.std.proofs.Common.{◌∙◌, ap, length, nat_lt}
+use Rattle.kt_store.proofs.Common.{ap, length, nat_lt, ◌∙◌}
 use Rattle.kt_store.proofs.SqlFacts.{there_is}
-use Rattle.kt_store.proofs.ThereLemmas.{tells_there}
+use Rattle.kt_store.proofs.EntriesLemmas.{tells_there}
 use Rattle.kt_store.proofs.lookup.there.Goals as goal
 
 pub query-requires : goal.query-requires

@@ -1,7 +1,5 @@
-use Rattle.std.proofs.Common.{ℕ, List, refl, subst, sym}
+use Rattle.kt_store.proofs.Common.{HoldsEmpty, Image, List, refl, subst, sym, ℕ}
 use Rattle.sqlite_pool.specs.Header.{first_page}
-use Rattle.sqlite_wal.specs.Recovery.{Image}
-use Rattle.kt_store.specs.Inner.NewFiles.{HoldsEmpty}
 use Rattle.kt_store.proofs.NewFiles.{holds_empty}
 use Rattle.kt_store.proofs.new_file.first_page.Goals as goal
 

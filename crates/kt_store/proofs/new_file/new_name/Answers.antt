@@ -1,6 +1,5 @@
-use Rattle.std.proofs.lemmas.Result.{IfOk-weaker}
+use Rattle.kt_store.proofs.Common.{IfOk-weaker, IsNewName}
 unfoldable use Rattle.std.specs.Str.{chars}
-use Rattle.kt_store.specs.Inner.NewFiles.{IsNewName}
 use Rattle.kt_store.proofs.new_file.new_name.Goals as goal
 
 pub returns : goal.returns

@@ -1,14 +1,8 @@
-use Rattle.std.proofs.Common.{◌≡◌, ap, sym, subst, ◌∙◌, arith}
-use Rattle.sqlite_trees.specs.View.{View, IsClean}
-use Rattle.sqlite_wal.proofs.StateLemmas.{open_from}
+use Rattle.kt_store.proofs.Common.{AreClean, HasAlone, IsClean, View, ap, arith, clean_is, may_leave_is, open_from, outcomes, subst, sym, ◌∙◌, ◌≡◌}
 use Rattle.sqlite_trees.proofs.Doubt.{clean_of as sure, no_doubt}
 use Rattle.sqlite_store.specs.FileStore.{state, view}
 use Rattle.sqlite_store.proofs.StepLemmas.{quiet_then}
-use Rattle.sqlite_wal.specs.Files.{outcomes}
-use Rattle.sqlite_wal.specs.Reads.{AreClean}
-use Rattle.sqlite_pool.proofs.StateLemmas.{clean_is, may_leave_is}
-use Rattle.kt_store.specs.Closing.{HasAlone}
-use Rattle.kt_store.proofs.AloneFiles.{alone_of}
+use Rattle.kt_store.proofs.ReopenLemmas.{alone_of}
 use Rattle.kt_store.proofs.opening.close_store.Goals as goal
 
 pub returns-in-Ok : goal.returns-in-Ok

@@ -1,13 +1,4 @@
-use Rattle.std.proofs.Common.{◌∙◌, IsTrue, pos, refl, sym, subst}
-use Rattle.kt_store.proofs.Common.{Schema, schema_2}
-use Rattle.sqlite_catalog.specs.Listing.{IsSound}
-use Rattle.sqlite_store.specs.FileStore.{view}
-use Rattle.sqlite_store.specs.Laws.{shut_if_dirty_at}
-use Rattle.sqlite.specs.Files.{image_of, over_files}
-use Rattle.sqlite_trees.specs.View.{IsClean}
-use Rattle.kt_store.specs.Seeks.{OpensRuns}
-use Rattle.kt_store.specs.Supposed.{ListsTables}
-use Rattle.kt_store.specs.Runs.{SaysIn}
+use Rattle.kt_store.proofs.Common.{IsClean, IsSound, IsTrue, ListsTables, OpensRuns, SaysIn, Schema, image_of, over_files, pos, refl, schema_2, shut_if_dirty_at, subst, sym, view, ◌∙◌}
 use Rattle.kt_store.proofs.EndLemmas.{clean_of_open, looked_settled}
 use Rattle.kt_store.proofs.OpeningLemmas.{if_some, opens_runs}
 use Rattle.kt_store.proofs.opening.known.Goals as goal

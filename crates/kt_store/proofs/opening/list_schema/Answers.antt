@@ -1,16 +1,6 @@
-use Rattle.std.proofs.Common.{◌≡◌, map, refl, sym, ap, subst, ◌∙◌}
-use Rattle.kt_store.proofs.Common.{rowid}
-use Rattle.sqlite_wal.specs.Files.{seen_image}
-use Rattle.sqlite_pool.specs.File.{in_use}
+use Rattle.kt_store.proofs.Common.{Recovers, ap, image, in_use, joined, listed_from, map, objects_2, refl, rowid, rows_at, seen_image, state_of, subst, sym, unrooted, wanted_by, ◌∙◌, ◌≡◌}
 use Rattle.sqlite_pool.specs.Pool
-use Rattle.sqlite_pool.specs.Stored.{Recovers}
 use Rattle.sqlite_trees.specs.declared.store.Shape.TheVariants.{Table}
-use Rattle.sqlite_store.specs.Db.{rows_at}
-use Rattle.sqlite_store.specs.Joined.{joined}
-use Rattle.sqlite_store.specs.Listing.{listed_from}
-use Rattle.sqlite_store.specs.Unopened.{state_of, wanted_by, image}
-use Rattle.sqlite.specs.Opening.{unrooted}
-use Rattle.kt_store.specs.Supposed.{objects_2}
 use Rattle.kt_store.proofs.OpeningLemmas.{ok_is, if_some, ids, layouts, fits_of}
 use Rattle.kt_store.proofs.opening.list_schema.Goals as goal
 

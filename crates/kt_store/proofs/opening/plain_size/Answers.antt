@@ -1,14 +1,9 @@
-use Rattle.std.proofs.Common.{◌≡◌, ◌≤◌, ◌%◌, sym, subst₂, ◌∙◌, inl, inr, arith, eq-eqb, ne_eqb}
-use Rattle.std.proofs.lemmas.Bool.{cases_eq}
+use Rattle.kt_store.proofs.Common.{IsIgnored, arith, cases_eq, eq-eqb, image_of, inl, inr, ne_eqb, probe_size, reserved, same_image, stored_size, subst₂, sym, ◌%◌, ◌∙◌, ◌≡◌, ◌≤◌}
 use Rattle.sqlite_wal.specs.Format.{be32}
-use Rattle.sqlite_wal.specs.Recovery.{IsIgnored}
 use Rattle.sqlite_wal.specs.Recovery as raw
 use Rattle.sqlite_wal.specs.PageSize.{bytes_of, size_in_file, Names}
 use Rattle.sqlite_wal.proofs.CleanLemmas.{both_clean}
-use Rattle.sqlite_pool.specs.Stored.{reserved, stored_size}
 use Rattle.sqlite_pool.proofs.ProbeLemmas.{reserved_word}
-use Rattle.sqlite.specs.Files.{image_of}
-use Rattle.sqlite.proofs.FileLemmas.{probe_size, same_image}
 use Rattle.kt_store.proofs.OpeningLemmas.{ok_is}
 use Rattle.kt_store.proofs.opening.plain_size.Goals as goal
 

@@ -1,4 +1,4 @@
-use Rattle.std.proofs.Common.{◌∙◌}
+use Rattle.kt_store.proofs.Common.{◌∙◌}
 use Rattle.kt_store.proofs.OpeningLemmas.{ok_is, if_some}
 use Rattle.kt_store.proofs.opening.unopened.Goals as goal
 

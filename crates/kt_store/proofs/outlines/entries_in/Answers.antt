@@ -1,8 +1,6 @@
-use Rattle.kt_store.specs.Inner.Heads.{pair_count}
-use Rattle.std.proofs.Common.{rules, List, ◌≡◌, ◌∙◌, ◌<◌, ◌+◌, suc, [], ◌∷◌, ◌++◌, map, take, drop, get_or, length, sym, ap, subst, arith}
-use Rattle.kt_store.proofs.Common.{length-map, map-append, take_all, Entry, as_shown, shown_columns, pair_columns, pairs_shown}
+use Rattle.kt_store.proofs.Common.{Entry, List, [], ap, arith, as_shown, drop, get_or, length, length-map, map, map-append, pair_columns, pair_count, pairs_shown, rules, shown_columns, subst, suc, sym, take, take_all, ◌++◌, ◌+◌, ◌<◌, ◌∙◌, ◌∷◌, ◌≡◌}
 use Rattle.kt_store.proofs.MergeLemmas.{Later, at, enough, entry_position}
-use Rattle.kt_store.proofs.WideLemmas.{one_wide}
+use Rattle.kt_store.proofs.SeenLemmas.{one_wide}
 use Rattle.kt_store.proofs.outlines.entries_in.Goals as goal
 
 -- the pairs of one more entry

@@ -1,6 +1,4 @@
-use Rattle.std.proofs.Common.{◌≡◌, ◌+◌, ◌<◌, List, length, map, take, drop}
-use Rattle.kt_store.proofs.Common.{AreWide, Entry, AllByRecursion, IsAscending, IsEntry, as_shown, pairs_shown, shown_columns}
-use Rattle.kt_store.specs.Inner.Heads.{pair_count}
+use Rattle.kt_store.proofs.Common.{AllByRecursion, AreWide, Entry, IsAscending, IsEntry, List, as_shown, drop, length, map, pair_count, pairs_shown, shown_columns, take, ◌+◌, ◌<◌, ◌≡◌}
 use Rattle.kt_store.proofs.outlines.entries_in.Given as goal
 
 abbrev pub invariant-loop-row : goal.invariant-loop-row

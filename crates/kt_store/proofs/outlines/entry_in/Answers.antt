@@ -1,5 +1,4 @@
-use Rattle.std.proofs.Common.{◌≡◌, ◌∙◌, pos, refl, sym, ap}
-use Rattle.kt_store.proofs.Common.{column, Int}
+use Rattle.kt_store.proofs.Common.{Int, ap, column, pos, refl, sym, ◌∙◌, ◌≡◌}
 use Rattle.kt_store.proofs.MergeLemmas.{begins, outputs_shown}
 use Rattle.kt_store.proofs.outlines.entry_in.Goals as goal
 

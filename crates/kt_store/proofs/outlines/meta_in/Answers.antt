@@ -1,5 +1,4 @@
-use Rattle.std.proofs.Common.{[], ◌∷◌, ◌∙◌, sym, ap, subst, arith, length, length-append}
-use Rattle.kt_store.proofs.Common.{AreWide}
+use Rattle.kt_store.proofs.Common.{AreWide, [], ap, arith, length, length-append, subst, sym, ◌∙◌, ◌∷◌}
 use Rattle.kt_store.proofs.MergeLemmas.{one_read, all_read, no_more}
 use Rattle.kt_store.proofs.outlines.meta_in.Goals as goal
 

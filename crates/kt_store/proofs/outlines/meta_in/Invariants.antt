@@ -1,5 +1,4 @@
-use Rattle.std.proofs.Common.{◌≡◌, ◌+◌, length}
-use Rattle.kt_store.proofs.Common.{AreWide}
+use Rattle.kt_store.proofs.Common.{AreWide, length, ◌+◌, ◌≡◌}
 use Rattle.kt_store.proofs.MergeLemmas.{SoFar}
 use Rattle.kt_store.proofs.outlines.meta_in.Given as goal
 

@@ -1,5 +1,4 @@
-use Rattle.std.proofs.Common.{◌≡◌, ◌∙◌, ◌≤◌, length, refl, ap, subst, arith}
-use Rattle.kt_store.proofs.Common.{column, shown_columns, width_of}
+use Rattle.kt_store.proofs.Common.{ap, arith, column, length, refl, shown_columns, subst, width_of, ◌∙◌, ◌≡◌, ◌≤◌}
 use Rattle.kt_store.proofs.outlines.outputs_behind.Goals as goal
 
 pub output_in-requires : goal.output_in-requires

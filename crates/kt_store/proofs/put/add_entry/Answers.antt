@@ -1,6 +1,4 @@
-use Rattle.std.proofs.lemmas.Result.{on_ok_weaker, on_err_weaker}
-use Rattle.std.proofs.Common.{arith}
-use Rattle.kt_store.proofs.Common.{entry_statements, Tables, with_entry}
+use Rattle.kt_store.proofs.Common.{Tables, arith, entry_statements, on_err_weaker, on_ok_weaker, with_entry}
 use Rattle.kt_store.proofs.CommitLemmas.{undone_holds, commit_stands, commit_lasts, commit_crash}
 use Rattle.kt_store.proofs.FaultLemmas.{ok_later, err_later}
 use Rattle.kt_store.proofs.FillLemmas.{entry_made}

@@ -1,5 +1,4 @@
-use Rattle.std.proofs.lemmas.Result.{on_ok_weaker}
-use Rattle.std.proofs.Common.{inr}
+use Rattle.kt_store.proofs.Common.{inr, on_ok_weaker}
 use Rattle.kt_store.proofs.SqlFacts.{pair_is}
 use Rattle.kt_store.proofs.put.add_pair.Goals as goal
 

@@ -1,6 +1,5 @@
-use Rattle.std.proofs.Common.{◌≡◌, ◌+◌, ◌∷◌, suc, subst, arith, rules, drop}
-use Rattle.kt_store.proofs.Common.{pair_statements, pair_statement}
-use Rattle.kt_store.proofs.TurnLemmas.{SoFar, one_done, pairs_at}
+use Rattle.kt_store.proofs.Common.{arith, drop, pair_statement, pair_statements, rules, subst, suc, ◌+◌, ◌∷◌, ◌≡◌}
+use Rattle.kt_store.proofs.CommitLemmas.{SoFar, one_done, pairs_at}
 use Rattle.kt_store.proofs.put.add_pairs.Goals as goal
 
 pub loop-pair-preserved : goal.loop-pair-preserved

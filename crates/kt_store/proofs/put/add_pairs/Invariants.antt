@@ -1,6 +1,5 @@
-use Rattle.std.proofs.Common.{◌≡◌, drop}
-use Rattle.kt_store.proofs.Common.{pair_statements}
-use Rattle.kt_store.proofs.TurnLemmas.{SoFar}
+use Rattle.kt_store.proofs.Common.{drop, pair_statements, ◌≡◌}
+use Rattle.kt_store.proofs.CommitLemmas.{SoFar}
 use Rattle.kt_store.proofs.put.add_pairs.Given as goal
 
 abbrev pub invariant-loop-pair : goal.invariant-loop-pair

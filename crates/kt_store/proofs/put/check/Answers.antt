@@ -1,4 +1,4 @@
-use Rattle.std.proofs.Common.{inr, ◌∙◌, sym, arith}
+use Rattle.kt_store.proofs.Common.{arith, inr, sym, ◌∙◌}
 use Rattle.kt_store.proofs.AskLemmas.{looked-then, was_clean}
 use Rattle.kt_store.proofs.TakesLemmas.{refused_closed, refused_past, refused_repeated, taken}
 use Rattle.kt_store.proofs.put.check.Goals as goal

@@ -1,6 +1,4 @@
-use Rattle.std.proofs.lemmas.Result.{on_ok_weaker}
-use Rattle.std.proofs.Common.{inr, arith}
-use Rattle.kt_store.proofs.Common.{state, HasCleanDisk}
+use Rattle.kt_store.proofs.Common.{HasCleanDisk, arith, inr, on_ok_weaker, state}
 use Rattle.kt_store.proofs.SqlFacts.{put_is}
 use Rattle.kt_store.proofs.put.fill.Goals as goal
 

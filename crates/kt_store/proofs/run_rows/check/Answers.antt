@@ -1,5 +1,4 @@
-use Rattle.std.proofs.Common.{inr, ◌∙◌, true, length, sym, ap, arith}
-use Rattle.kt_store.proofs.Common.{length-map, entries_of, run_at, shown_columns}
+use Rattle.kt_store.proofs.Common.{ap, arith, entries_of, inr, length, length-map, run_at, shown_columns, sym, true, ◌∙◌}
 use Rattle.kt_store.proofs.AskLemmas.{looked-then, was_clean}
 use Rattle.kt_store.proofs.CloseLemmas.{closed_already, lacks_some, lacks_none}
 use Rattle.kt_store.proofs.run_rows.check.Goals as goal

@@ -1,5 +1,5 @@
-use Rattle.std.proofs.Common.{◌∙◌, sym}
-use Rattle.kt_store.proofs.FullLemmas.{has_room, has_none}
+use Rattle.kt_store.proofs.Common.{sym, ◌∙◌}
+use Rattle.kt_store.proofs.RunLemmas.{has_room, has_none}
 use Rattle.kt_store.proofs.run_rows.is_full.Goals as goal
 
 pub returns-clause-full : goal.returns-clause-full

@@ -1,7 +1,5 @@
-use Rattle.std.proofs.lemmas.Result.{on_ok_weaker}
+use Rattle.kt_store.proofs.Common.{Keeps, arith, finish, on_ok_weaker, state, survives_weaker}
 use Rattle.kt_store.proofs.FaultLemmas.{ok_later}
-use Rattle.std.proofs.Common.{arith}
-use Rattle.kt_store.proofs.Common.{state, survives_weaker, Keeps, finish}
 use Rattle.kt_store.proofs.BeginLemmas.{leaves_commit}
 use Rattle.kt_store.proofs.CloseLemmas.{told_finish, crash_finish}
 use Rattle.kt_store.proofs.SqlFacts.{finish_is}

@@ -1,14 +1,12 @@
-use Rattle.std.proofs.lemmas.Result.{IfOk-weaker, IfErr-weaker}
-use Rattle.std.proofs.Common.{◌∙◌, ℕ, inl, inr, drop, map, filter, refl, sym, ap}
-use Rattle.kt_store.proofs.Common.{entry_at, entries_of, entry_row, run_at}
+use Rattle.kt_store.proofs.Common.{IfErr-weaker, IfOk-weaker, None, Outputs, ap, drop, entries_of, entry_at, entry_row, filter, inl, inr, map, refl, run_at, sym, ℕ, ◌∙◌, ◌≡◌}
 use Rattle.kt_store.proofs.CursorLemmas.{cs, place_of_entry}
-use Rattle.kt_store.proofs.OutputsLemmas.{has as is_at, row_there, no_row, no_entry, past_run}
-use Rattle.kt_store.proofs.AloneLemmas.{outputs_agree, outputs_looked}
+use Rattle.kt_store.proofs.OutputsLemmas.{has as is_at, row_there, no_row, no_run, past_run}
+use Rattle.kt_store.proofs.SeenLemmas.{outputs_agree, looked_serves}
 use Rattle.kt_store.proofs.seeks.find_outputs.Goals.{in_default-via-in-Some+else-number-run, in_default-via-in_default}
 use Rattle.kt_store.proofs.seeks.find_outputs.Goals as goal
 
 pub returns-in-Some-clause-served : goal.returns-in-Some-clause-served
-returns-in-Some-clause-served g c = outputs_looked g.S.Store _ _ c.row_behind.ensures.looks c.args.run c.args.position _ (λ runs has clean.
+returns-in-Some-clause-served g c = looked_serves g.S.Store _ _ c.row_behind.ensures.looks (Outputs c.args.run c.args.position _) (λ runs. refl) (λ runs may left. left) (λ runs has clean.
     let first = c.row_behind.ensures.looks.clean clean in
     let sound = c.in_ok-row.ensures.sound clean in
     let keeps = has first sound in
@@ -22,7 +20,7 @@ returns-in-Some-clause-served g c = outputs_looked g.S.Store _ _ c.row_behind.en
     (IfErr-weaker c.stored_outputs.result _ _ (λ e failed. inl failed) c.stored_outputs.ensures.failed))
 
 pub returns-clause-served : goal.returns-clause-served
-returns-clause-served g c = outputs_looked g.S.Store _ _ c.row_behind.ensures.looks c.args.run c.args.position _ (λ runs has clean.
+returns-clause-served g c = looked_serves g.S.Store _ _ c.row_behind.ensures.looks (Outputs c.args.run c.args.position _) (λ runs. refl) (λ runs may left. left) (λ runs has clean.
     let first = c.row_behind.ensures.looks.clean clean in
     let sound = c.in_ok-row.ensures.sound clean in
     let keeps = has first sound in
@@ -34,6 +32,6 @@ returns-clause-served g c = outputs_looked g.S.Store _ _ c.row_behind.ensures.lo
       refl,
       elim c.in_default.branch [
         | in_default-via-in-Some+else-number-run w ↦ ap (λ o. entry_at o c.args.position) (past_run runs c.args.run n keeps.3.valid.few c.key-number.ensures.same w.if-number-run.false)
-        | in_default-via-in_default w ↦ no_entry runs c.args.run n c.args.position keeps.3.valid.few c.key-number.ensures.same (no_row (run_at runs n) n c.args.position (rw w.in_default.is at there))
+        | in_default-via-in_default w ↦ no_run (λ o. entry_at o c.args.position ≡ None) refl runs c.args.run n keeps.3.valid.few c.key-number.ensures.same (no_row (run_at runs n) n c.args.position (rw w.in_default.is at there))
       ],
     ))

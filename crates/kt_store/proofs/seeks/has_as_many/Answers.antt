@@ -1,6 +1,4 @@
-use Rattle.std.proofs.Common.{arith, ◌≤◌, ap}
-use Rattle.kt_store.proofs.Common.{nat_tests}
-use Rattle.kt_store.specs.declared.result_store.RunHead.{RunHead}
+use Rattle.kt_store.proofs.Common.{RunHead, ap, arith, nat_tests, ◌≤◌}
 use Rattle.kt_store.proofs.CloseLemmas.{at_most}
 use Rattle.kt_store.proofs.seeks.has_as_many.Goals as goal
 

@@ -1,8 +1,5 @@
-use Rattle.std.proofs.Common.{rules, ◌∙◌, map, subst, sym, ap}
-use Rattle.kt_store.proofs.Common.{AreWide}
-use Rattle.kt_store.specs.Inner.Cursors.{Looks, in_columns}
-use Rattle.kt_store.proofs.AloneLemmas.{heads_looked, looks_then}
-use Rattle.kt_store.proofs.SeenLemmas.{all_wide, head_places, rows_of_runs, seen_heads}
+use Rattle.kt_store.proofs.Common.{AreWide, Heads, Looks, ap, in_columns, map, refl, rules, subst, sym, ◌∙◌}
+use Rattle.kt_store.proofs.SeenLemmas.{looked_serves, looks_then, all_wide, head_places, rows_of_runs, seen_heads}
 use Rattle.kt_store.proofs.seeks.heads.Goals as goal
 
 pub heads_in-requires : goal.heads_in-requires
@@ -11,7 +8,7 @@ heads_in-requires g c = subst (AreWide 4) (sym (c.deref-2.ensures.value ∙ c.in
 pub returns-clause-served : goal.returns-clause-served
 returns-clause-served g c =
     let looks : Looks g.S.Store c.args.store.now c.all_rows.new.store = search rules in
-    heads_looked g.S.Store _ _ (looks_then g.S.Store _ _ _ looks c.check_ends.ensures.looks) _ (λ runs has late.
+    looked_serves g.S.Store _ _ (looks_then g.S.Store _ _ _ looks c.check_ends.ensures.looks) (Heads _) (λ runs. refl) (λ runs may left. left) (λ runs has late.
     let clean = c.check_ends.ensures.looks.clean late in
     let sound = c.in_ok-stored.ensures.sound clean in
     let keeps = has (looks.clean clean) sound in

@@ -1,7 +1,5 @@
-use Rattle.std.proofs.Common.{arith, ◌∙◌, ap, map}
-use Rattle.kt_store.proofs.Common.{entries_of, outlined}
-use Rattle.kt_store.proofs.SeenLemmas.{still_at, still_has}
-use Rattle.kt_store.proofs.AloneLemmas.{looks_then, outline_looked}
+use Rattle.kt_store.proofs.Common.{Outline, ap, arith, entries_of, map, outlined, refl, ◌∙◌}
+use Rattle.kt_store.proofs.SeenLemmas.{still_at, still_has, looks_then, looked_serves}
 use Rattle.kt_store.proofs.seeks.outline.Goals as goal
 
 pub all_entries-requires-clause-run : goal.all_entries-requires-clause-run
@@ -12,7 +10,7 @@ all_entries-requires-clause-placed g c = still_at g.S.Store _ _ c.args.places c.
 
 pub returns-clause-served : goal.returns-clause-served
 returns-clause-served g c =
-    outline_looked g.S.Store _ _ (looks_then g.S.Store _ _ _ c.stored_run.ensures.looks c.all_entries.ensures.looks) c.args.run c.args.pairs _ (λ runs has clean.
+    looked_serves g.S.Store _ _ (looks_then g.S.Store _ _ _ c.stored_run.ensures.looks c.all_entries.ensures.looks) (Outline c.args.run c.args.pairs _) (λ runs. refl) (λ runs may left. left) (λ runs has clean.
     let is = c.in_ok-row.ensures.found runs has (c.all_entries.ensures.looks.clean clean) in (
       is.0,
       is.1,

@@ -1,6 +1,4 @@
-use Rattle.std.proofs.lemmas.Int.{to_z_pos}
-use Rattle.std.proofs.Common.{arith, w64, ◌∙◌, ℤ, true, false, inr, refl, sym, ap, subst}
-use Rattle.kt_store.proofs.Common.{run_at}
+use Rattle.kt_store.proofs.Common.{None, ap, arith, false, inr, refl, run_at, subst, sym, to_z_pos, true, w64, ℤ, ◌∙◌, ◌≡◌}
 use Rattle.sqlite_trees.specs.View.{IsClean, Finds}
 use Rattle.kt_store.proofs.OutputsLemmas.{no_run, past_run}
 use Rattle.kt_store.proofs.SeenLemmas.{rows_of_runs, there_is, there_is_none}
@@ -20,7 +18,7 @@ returns-then-not-branch-clause-refused g c runs has clean =
       elim c.then-not-branch.branch [
         | then-not-branch-via-then-not-branch w ↦
             let none = subst (λ (id : ℤ). Finds ((g.S.Store.view c.args.store.now).trees c.args.places.runs.tree) id c.get.new.row false) id (rw w.if-not-branch.true at (c.in_ok-get.ensures.ok clean)) in
-            no_run runs c.args.run n keeps.3.valid.few c.key-number.ensures.same (there_is_none runs n _ c.get.new.row keeps.3.valid.numbered are none)
+            no_run (λ o. o ≡ None) refl runs c.args.run n keeps.3.valid.few c.key-number.ensures.same (there_is_none runs n _ c.get.new.row keeps.3.valid.numbered are none)
         | then-not-branch-via-else-not-branch+then-number-run w ↦ past_run runs c.args.run n keeps.3.valid.few c.key-number.ensures.same w.if-number-run.true
       ],
     )

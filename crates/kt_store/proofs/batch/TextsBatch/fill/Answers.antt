@@ -1,6 +1,5 @@
-use Rattle.std.proofs.Common.{◌∙◌, ◌+◌, ◌<◌, ℕ, zero, suc, List, [], ◌∷◌, drop, get_or, length, map, subst, arith}
-use Rattle.kt_store.proofs.Common.{AllByRecursion, IsOurs, plain_statements}
-use Rattle.kt_store.proofs.TurnLemmas.{SoFar, one_done, texts_at}
+use Rattle.kt_store.proofs.Common.{AllByRecursion, IsOurs, List, [], arith, drop, get_or, length, map, plain_statements, subst, suc, zero, ℕ, ◌+◌, ◌<◌, ◌∙◌, ◌∷◌}
+use Rattle.kt_store.proofs.CommitLemmas.{SoFar, one_done, texts_at}
 use Rattle.kt_store.proofs.batch.TextsBatch.fill.Goals as goal
 
 each_is : {T : Type 0} (see : T → List ℕ) (i : ℕ) (vs : List T) (d : T) → AllByRecursion IsOurs (map see vs) → i < length vs → IsOurs (see (get_or vs i d))

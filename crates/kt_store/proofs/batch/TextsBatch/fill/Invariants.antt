@@ -1,6 +1,5 @@
-use Rattle.std.proofs.Common.{◌≡◌, drop, map}
-use Rattle.kt_store.proofs.Common.{plain_statements}
-use Rattle.kt_store.proofs.TurnLemmas.{SoFar}
+use Rattle.kt_store.proofs.Common.{drop, map, plain_statements, ◌≡◌}
+use Rattle.kt_store.proofs.CommitLemmas.{SoFar}
 use Rattle.kt_store.proofs.batch.TextsBatch.fill.Given as goal
 
 abbrev pub invariant-loop-text : goal.invariant-loop-text

@@ -1,25 +1,26 @@
-use Rattle.std.proofs.Common.{Ok, Err, inl, inr, refl}
-use Rattle.kt_store.proofs.Common.{Began, StoreFull}
-use Rattle.kt_store.proofs.ServeLemmas.{seen_at, troubled_at, begin_refused, begin_called}
+use Rattle.kt_store.proofs.Common.{Began, Err, Ok, StoreFull, inl, inr, last_run, length, refl, ◌<◌}
+use Rattle.kt_store.proofs.ServeLemmas.{begin_writes, seen_at, troubled_at, write_refused, write_called}
 use Rattle.kt_store.proofs.results.Results.begin.Goals as goal
 
 pub returns-in_err-is_full : goal.returns-in_err-is_full
 returns-in_err-is_full g c =
     troubled_at g.S.Store (λ r. Began c.args.total c.args.moment r) c.self.inside.conn c.args.self.now c.is_full.new.conn c.self.view_is c.from_residual.result c.from_residual.ensures.1
-    (λ e failed. begin_refused g.S.Store c.self.inside.conn c.is_full.new.conn c.is_full.ensures.looked e c.args.total c.args.moment (λ runs has clean. inl failed))
+    (λ e failed. write_refused g.S.Store _ _ (begin_writes _ c.args.total c.args.moment) c.self.inside.conn c.is_full.new.conn c.is_full.ensures.looked e (λ runs has clean. inl failed))
 
 pub returns-then-branch : goal.returns-then-branch
 returns-then-branch g c =
     seen_at g.S.Store (Began c.args.total c.args.moment (Err StoreFull)) c.self.inside.conn c.args.self.now c.is_full.new.conn c.self.view_is
-    (begin_refused g.S.Store c.self.inside.conn c.is_full.new.conn c.is_full.ensures.looked StoreFull c.args.total c.args.moment (λ runs has clean. inr (refl, (c.in_ok-is_full.ensures.full runs has clean).0 c.if-branch.true)))
+    (write_refused g.S.Store _ _ (begin_writes _ c.args.total c.args.moment) c.self.inside.conn c.is_full.new.conn c.is_full.ensures.looked StoreFull (λ runs has clean. inr (refl, (c.in_ok-is_full.ensures.full runs has clean).0 c.if-branch.true)))
 
 pub returns-in_err-add_run : goal.returns-in_err-add_run
 returns-in_err-add_run g c =
     troubled_at g.S.Store (λ r. Began c.args.total c.args.moment r) c.self.inside.conn c.args.self.now c.add_run.new.conn c.self.view_is c.from_residual-in_err-add_run.result c.from_residual-in_err-add_run.ensures.1 (λ e failed.
-    begin_called g.S.Store c.self.inside.conn c.is_full.new.conn c.add_run.new.conn c.is_full.ensures.looked c.args.total c.args.moment (λ runs has clean. (c.in_ok-is_full.ensures.full runs has clean).1 c.if-branch.false) c.add_run.ensures.crash (Err e) tt (λ _ _ _. tt) failed c.in_err-add_run.ensures.kept)
+    write_called g.S.Store _ _ (begin_writes _ c.args.total c.args.moment) c.self.inside.conn c.is_full.new.conn c.add_run.new.conn c.is_full.ensures.looked (λ runs. length runs < last_run)
+    (λ runs has clean. (c.in_ok-is_full.ensures.full runs has clean).1 c.if-branch.false) c.add_run.ensures.crash (Err e) tt (λ _ _ _ _. tt) failed c.in_err-add_run.ensures.kept)
 
 pub returns : goal.returns
 returns g c =
     seen_at g.S.Store _ c.self.inside.conn c.args.self.now c.add_run.new.conn c.self.view_is
-    (begin_called g.S.Store c.self.inside.conn c.is_full.new.conn c.add_run.new.conn c.is_full.ensures.looked c.args.total c.args.moment (λ runs has clean. (c.in_ok-is_full.ensures.full runs has clean).1 c.if-branch.false) c.add_run.ensures.crash (Ok c.in_ok-add_run.field-0) c.in_ok-add_run.ensures.added
-    (λ runs has clean. c.in_ok-add_run.ensures.number runs (c.is_full.ensures.looked.stands runs has) (λ k. (c.in_ok-is_full.ensures.full runs has k).1 c.if-branch.false) clean) tt tt)
+    (write_called g.S.Store (λ r. Began c.args.total c.args.moment r) _ (begin_writes _ c.args.total c.args.moment) c.self.inside.conn c.is_full.new.conn c.add_run.new.conn c.is_full.ensures.looked (λ runs. length runs < last_run)
+    (λ runs has clean. (c.in_ok-is_full.ensures.full runs has clean).1 c.if-branch.false) c.add_run.ensures.crash (Ok c.in_ok-add_run.field-0) c.in_ok-add_run.ensures.added
+    (λ runs has early clean. (c.in_ok-add_run.ensures.number runs (c.is_full.ensures.looked.stands runs has) (λ k. (c.in_ok-is_full.ensures.full runs has k).1 c.if-branch.false) clean, (c.in_ok-is_full.ensures.full runs has early).1 c.if-branch.false)) tt tt)

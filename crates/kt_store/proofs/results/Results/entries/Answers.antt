@@ -1,5 +1,4 @@
-use Rattle.std.proofs.Common.{subst}
-use Rattle.kt_store.proofs.Common.{Reads, results}
+use Rattle.kt_store.proofs.Common.{Reads, results, subst}
 use Rattle.kt_store.proofs.ServeLemmas.{reads_alone}
 use Rattle.kt_store.proofs.results.Results.entries.Goals as goal
 

@@ -1,25 +1,27 @@
-use Rattle.std.proofs.Common.{Ok, Err, inl, refl}
-use Rattle.kt_store.proofs.Common.{Put, CanAdd}
-use Rattle.kt_store.proofs.ServeLemmas.{failed_at, seen_at, survives_self, troubled_at, put_refused, put_called}
+use Rattle.kt_store.proofs.Common.{CanAdd, Err, Ok, Put, inl, refl}
+use Rattle.kt_store.proofs.ServeLemmas.{put_writes, failed_at, seen_at, survives_self, troubled_at, write_refused, write_called}
 use Rattle.kt_store.proofs.FaultLemmas.{starved}
 use Rattle.kt_store.proofs.results.Results.put.Goals as goal
 
 pub returns-in_err-reason : goal.returns-in_err-reason
 returns-in_err-reason g c =
     troubled_at g.S.Store (λ r. Put c.args.run c.args.entry.now r) c.args.self.now c.args.self.now c.args.self.now refl c.from_residual.result c.from_residual.ensures.1
-    (λ e short. put_refused g.S.Store c.args.self.now c.args.self.now (record { stands = λ runs has. has; crash = λ runs has. survives_self _ }) e c.args.run c.args.entry.now (λ runs has clean. inl (starved e short)))
+    (λ e short. write_refused g.S.Store _ _ (put_writes _ c.args.run c.args.entry.now) c.args.self.now c.args.self.now (record { stands = λ runs has. has; crash = λ runs has. survives_self _ }) e (λ runs has clean. inl (starved e short)))
 
 pub returns-in_err-check : goal.returns-in_err-check
 returns-in_err-check g c =
     failed_at g.S.Store (λ r. Put c.args.run c.args.entry.now r) c.self.inside.conn c.args.self.now c.check.new.conn c.self.view_is c.from_residual-in_err-check.result c.in_err-check.field-0.0 c.from_residual-in_err-check.ensures.1
-    (put_refused g.S.Store c.self.inside.conn c.check.new.conn c.check.ensures.looked _ c.args.run c.args.entry.now (λ runs has clean. c.in_err-check.ensures.refused runs has clean))
+    (write_refused g.S.Store _ _ (put_writes _ c.args.run c.args.entry.now) c.self.inside.conn c.check.new.conn c.check.ensures.looked _ (λ runs has clean. c.in_err-check.ensures.refused runs has clean))
 
 pub returns-in_err-add_entry : goal.returns-in_err-add_entry
 returns-in_err-add_entry g c =
     troubled_at g.S.Store (λ r. Put c.args.run c.args.entry.now r) c.self.inside.conn c.args.self.now c.add_entry.new.conn c.self.view_is c.from_residual-in_err-add_entry.result c.from_residual-in_err-add_entry.ensures.1 (λ e failed.
-    put_called g.S.Store c.self.inside.conn c.check.new.conn c.add_entry.new.conn c.check.ensures.looked c.args.run c.args.entry.now (CanAdd c.args.run c.args.entry.now) (λ runs has clean. c.in_ok-check.ensures.taken runs has clean c.in_ok-reason.ensures.passed) c.add_entry.ensures.crash (Err e) tt failed c.in_err-add_entry.ensures.kept)
+    write_called g.S.Store _ _ (put_writes _ c.args.run c.args.entry.now) c.self.inside.conn c.check.new.conn c.add_entry.new.conn c.check.ensures.looked (CanAdd c.args.run c.args.entry.now)
+    (λ runs has clean. (c.in_ok-check.ensures.taken runs has clean c.in_ok-reason.ensures.passed).1) c.add_entry.ensures.crash (Err e) tt (λ _ _ _ _. tt) failed c.in_err-add_entry.ensures.kept)
 
 pub returns : goal.returns
 returns g c =
     seen_at g.S.Store _ c.self.inside.conn c.args.self.now c.add_entry.new.conn c.self.view_is
-    (put_called g.S.Store c.self.inside.conn c.check.new.conn c.add_entry.new.conn c.check.ensures.looked c.args.run c.args.entry.now (CanAdd c.args.run c.args.entry.now) (λ runs has clean. c.in_ok-check.ensures.taken runs has clean c.in_ok-reason.ensures.passed) c.add_entry.ensures.crash (Ok c.in_ok-add_entry.field-0) c.in_ok-add_entry.ensures.added tt tt)
+    (write_called g.S.Store (λ r. Put c.args.run c.args.entry.now r) _ (put_writes _ c.args.run c.args.entry.now) c.self.inside.conn c.check.new.conn c.add_entry.new.conn c.check.ensures.looked (CanAdd c.args.run c.args.entry.now)
+    (λ runs has clean. (c.in_ok-check.ensures.taken runs has clean c.in_ok-reason.ensures.passed).1) c.add_entry.ensures.crash (Ok c.in_ok-add_entry.field-0) c.in_ok-add_entry.ensures.added
+    (λ runs has early clean. (c.in_ok-check.ensures.taken runs has early c.in_ok-reason.ensures.passed).0) tt tt)

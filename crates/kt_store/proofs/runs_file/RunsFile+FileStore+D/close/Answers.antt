@@ -1,5 +1,4 @@
-use Rattle.std.proofs.Common.{subst}
-use Rattle.kt_store.specs.Files.{Ends}
+use Rattle.kt_store.proofs.Common.{Ends, subst}
 use Rattle.kt_store.proofs.runs_file.RunsFile+FileStore+D.close.Goals as goal
 
 pub returns-clause-closed : goal.returns-clause-closed

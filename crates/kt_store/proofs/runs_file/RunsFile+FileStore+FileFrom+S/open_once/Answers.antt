@@ -1,5 +1,5 @@
-use Rattle.std.proofs.Common.{inl}
-use Rattle.kt_store.proofs.FoundLemmas.{found_of}
+use Rattle.kt_store.proofs.Common.{inl}
+use Rattle.kt_store.proofs.OpeningLemmas.{found_of}
 use Rattle.kt_store.proofs.runs_file.RunsFile+FileStore+FileFrom+S.open_once.Goals as goal
 
 pub returns-in-Some-clause-opened : goal.returns-in-Some-clause-opened

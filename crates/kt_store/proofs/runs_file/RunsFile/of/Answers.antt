@@ -1,7 +1,5 @@
-use Rattle.std.proofs.Common.{arith, sym, subst}
-use Rattle.kt_store.proofs.Common.{StandsFor, state}
-use Rattle.kt_store.specs.Seeks.{HasCommitted}
-use Rattle.kt_store.proofs.OverLemmas.{still_sound, still_stands}
+use Rattle.kt_store.proofs.Common.{HasCommitted, StandsFor, arith, state, subst, sym}
+use Rattle.kt_store.proofs.EndLemmas.{still_sound, still_stands}
 use Rattle.kt_store.proofs.runs_file.RunsFile.of.Goals as goal
 
 pub over-requires-clause-sound : goal.over-requires-clause-sound

@@ -1,6 +1,5 @@
-use Rattle.std.proofs.Common.{inl, refl, subst}
-use Rattle.kt_store.proofs.Common.{Serves, Finished, finish}
-use Rattle.kt_store.specs.Inner.Known.{runs_file}
+use Rattle.kt_store.proofs.Common.{Finished, Serves, runs_file, subst}
+use Rattle.kt_store.proofs.ServeLemmas.{finish_writes}
 use Rattle.kt_store.proofs.EndLemmas.{ended_served, ended_settled, stand_at}
 use Rattle.kt_store.proofs.runs_file.RunsFileResultStore.finish.Goals as goal
 
@@ -9,15 +8,9 @@ write_finish-written-requires-clause-placed g c = stand_at (g.S.Store.view c.sel
 
 pub returns : goal.returns
 returns g c =
-    let w = c.write_finish-written in
     subst (λ o. Serves (runs_file g.S.Store) (Finished c.args.run c.ended.result) o c.ended.new.store) c.self.view_is
-    (ended_served g.S.Store g.met.S.Store.shut_if_dirty g.met.S.Store.broken_if_shut g.met.S.Store.settled c.self.inside.schema (λ r. Finished c.args.run r) (finish c.args.run) (λ x runs. refl) (λ e runs. refl) (λ e runs failed. inl failed) (λ x runs may o n h. h) (λ e runs may o n h. h) c.self.inside.store w.new.store c.ended.new.store c.self.invariant.0 c.ended.ensures.clean w.result c.ended.result
-    (record { clean = w.ensures.clean; held = w.ensures.held; outcomes = w.ensures.outcomes; obeys = w.ensures.obeys; agrees = w.ensures.agrees; rows = w.ensures.rows }) c.ended.ensures.value c.ended.ensures.fault c.ended.ensures.done c.ended.ensures.kept c.ended.ensures.crash)
+    (ended_served g.S.Store g.met.S.Store.shut_if_dirty g.met.S.Store.broken_if_shut g.met.S.Store.settled c.self.inside.schema _ _ (finish_writes _ c.args.run) c.self.inside.store c.write_finish-written.new.store c.ended.new.store c.self.invariant.0 _ _ c.write_finish-written.ensures c.ended.ensures)
 
 pub invariant_of-self : goal.invariant_of-self
 invariant_of-self g c =
-    let w = c.write_finish-written in
-    let settled =
-    ended_settled g.S.Store g.met.S.Store.shut_if_dirty g.met.S.Store.broken_if_shut g.met.S.Store.settled c.self.inside.schema (λ r. Finished c.args.run r) (finish c.args.run) (λ x runs. refl) (λ e runs. refl) (λ e runs failed. inl failed) (λ x runs may o n h. h) (λ e runs may o n h. h) c.self.inside.store w.new.store c.ended.new.store c.self.invariant.0 c.ended.ensures.clean w.result c.ended.result
-    (record { clean = w.ensures.clean; held = w.ensures.held; outcomes = w.ensures.outcomes; obeys = w.ensures.obeys; agrees = w.ensures.agrees; rows = w.ensures.rows }) c.ended.ensures.value c.ended.ensures.settled c.ended.ensures.done c.ended.ensures.kept in
-    (settled, c.self.invariant.1)
+    (ended_settled g.S.Store g.met.S.Store.shut_if_dirty g.met.S.Store.broken_if_shut g.met.S.Store.settled c.self.inside.schema _ _ (finish_writes _ c.args.run) c.self.inside.store c.write_finish-written.new.store c.ended.new.store c.self.invariant.0 _ _ c.write_finish-written.ensures c.ended.ensures, c.self.invariant.1)

@@ -1,7 +1,5 @@
-use Rattle.std.proofs.Common.{subst}
-use Rattle.kt_store.proofs.Common.{Serves, Outputs}
-use Rattle.kt_store.specs.Inner.Known.{runs_file}
-use Rattle.kt_store.proofs.EndLemmas.{outputs_served, looked_settled, stand_at}
+use Rattle.kt_store.proofs.Common.{Outputs, Serves, refl, runs_file, subst}
+use Rattle.kt_store.proofs.EndLemmas.{read_served, looked_settled, stand_at}
 use Rattle.kt_store.proofs.runs_file.RunsFileResultStore.outputs.Goals as goal
 
 pub find_outputs-requires : goal.find_outputs-requires
@@ -10,7 +8,7 @@ find_outputs-requires g c = stand_at (g.S.Store.view c.self.inside.store) c.self
 pub returns : goal.returns
 returns g c =
     subst (λ o. Serves (runs_file g.S.Store) (Outputs c.args.run c.args.position c.find_outputs.result) o c.find_outputs.new.store) c.self.view_is
-    (outputs_served g.S.Store g.met.S.Store.shut_if_dirty g.met.S.Store.broken_if_shut g.met.S.Store.settled c.self.inside.schema c.self.inside.store c.find_outputs.new.store c.find_outputs.ensures.looks c.self.invariant.0 _ _ _ c.find_outputs.ensures.served)
+    (read_served g.S.Store g.met.S.Store.shut_if_dirty g.met.S.Store.broken_if_shut g.met.S.Store.settled c.self.inside.schema c.self.inside.store c.find_outputs.new.store c.find_outputs.ensures.looks c.self.invariant.0 (Outputs _ _ _) (λ runs. refl) (λ runs may left. left) c.find_outputs.ensures.served)
 
 pub invariant_of-self : goal.invariant_of-self
 invariant_of-self g c = (looked_settled g.S.Store c.self.inside.store c.find_outputs.new.store c.self.inside.schema (g.met.S.Store.shut_if_dirty c.find_outputs.new.store) c.find_outputs.ensures.looks c.self.invariant.0, c.self.invariant.1)

@@ -1,13 +1,7 @@
-use Rattle.std.proofs.Common.{◌≡◌, ◌∙◌, Ok, Some, slice_get, sym, ap, subst, arith}
-use Rattle.sqlite_trees.specs.View.{View}
+use Rattle.kt_store.proofs.Common.{Enforced, IsCatalogOf, Ok, Some, Trees, View, ap, arith, refl, slice_get, slice_get_read, still_set_up, subst, sym, ◌∙◌, ◌≡◌}
 use Rattle.sqlite_rules.specs.Action.{Writes}
 use Rattle.sqlite_rules.specs.Edit.{edit_of}
-use Rattle.sqlite_rules.proofs.LogLemmas.{still_set_up}
-use Rattle.sqlite_schema.specs.Catalog.{IsCatalogOf}
-use Rattle.sqlite_schema.specs.declared.schema.Keys.TheVariants.{Enforced}
 use Rattle.sqlite_schema.specs.declared.schema.Table.{Table}
-use Rattle.kt_store.proofs.Common.{Trees}
-use Rattle.kt_store.proofs.PlaceLemmas.{slice_at}
 use Rattle.kt_store.proofs.RuleLemmas.{is_set_up, has_reals, fits, accounted, still_stands, stands_again}
 use Rattle.kt_store.proofs.store_fault.rules.put_rows.Goals as goal
 
@@ -43,7 +37,7 @@ returns-then-branch-clause-puts g c clean table found =
     let falls = c.are_kept.ensures.quiet.clean in
     let same = c.in_ok-are_kept.ensures.same clean in
     let old = (g.S.Store.view c.args.store.now).trees in
-    let here : slice_get c.args.schema.now.tables c.args.place ≡ Some c.in-Some.table.now = ap (λ l. slice_get l c.args.place) (sym c.as_slice.ensures) ∙ slice_at c.as_slice.result.now c.args.place c.in-Some.table.now c.in-Some.ensures.lookup.3.0 c.in-Some.ensures.lookup.1 in
+    let here : slice_get c.args.schema.now.tables c.args.place ≡ Some c.in-Some.table.now = ap (λ l. slice_get l c.args.place) (sym c.as_slice.ensures) ∙ slice_get_read c.as_slice.result.now _ c.args.place c.in-Some.table.now refl c.in-Some.ensures.lookup.3.0 c.in-Some.ensures.lookup.1 in
     let one : c.in-Some.table.now ≡ table = let e : Some c.in-Some.table.now ≡ Some table = sym here ∙ found in cc in
     subst (λ (t : Table). Writes c.args.schema.now Enforced old (edit_of old t c.args.gone.now c.args.rowids c.args.from c.args.sources.now) (Ok (g.S.Store.view c.are_kept.new.store).trees)) one
     (subst (λ (t : Trees). Writes c.args.schema.now Enforced old (edit_of old c.in-Some.table.now c.args.gone.now c.args.rowids c.args.from c.args.sources.now) (Ok t)) (sym (ap (λ (v : View). v.trees) same)) (c.in_ok-write.ensures.ok (omega arith)))

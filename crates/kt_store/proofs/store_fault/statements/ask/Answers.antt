@@ -1,5 +1,4 @@
-use Rattle.std.proofs.Common.{[], subst, arith}
-use Rattle.kt_store.proofs.Common.{bound, Shown, CommitsShowing, state, MayShow}
+use Rattle.kt_store.proofs.Common.{CommitsShowing, MayShow, Shown, [], arith, bound, state, subst}
 use Rattle.kt_store.proofs.StepLemmas.{not_run, query_refused, rests_then, prepare_then}
 use Rattle.kt_store.proofs.store_fault.statements.ask.Goals as goal
 

@@ -1,5 +1,4 @@
-use Rattle.std.proofs.Common.{length}
-use Rattle.kt_store.proofs.Common.{AreWide}
+use Rattle.kt_store.proofs.Common.{AreWide, length}
 use Rattle.kt_store.proofs.store_fault.statements.have_columns.Given as goal
 
 abbrev pub invariant-loop-row : goal.invariant-loop-row

@@ -1,22 +1,11 @@
-use Rattle.std.proofs.lemmas.Result.{IfOk-weaker}
-use Rattle.std.proofs.Common.{ℕ, Bool, cond, List, ap₂, subst}
-use Rattle.sqlite_disk.specs.Events.{Event, replay}
-use Rattle.sqlite_wal.specs.Recovery.{Image}
-use Rattle.sqlite.specs.Files.{file_state}
+use Rattle.kt_store.proofs.Common.{IfOk-weaker, file_state, subst}
 use Rattle.sqlite.specs.Start.{FindsIn}
+use Rattle.kt_store.proofs.OpeningLemmas.{as_found}
 use Rattle.kt_store.proofs.store_fault.statements.open_file.Goals as goal
-
-abbrev image : List ℕ → List ℕ → Image
-image log db = record { log = log; db = db }
-
-abbrev seen : List ℕ → List ℕ → Bool → List Event → List ℕ
-seen log db is_log history = (replay (cond is_log log db) history).seen
 
 pub returns : goal.returns
 returns g c = record {
   opened = IfOk-weaker c.done.result _ _ (λ it ok clean.
-      let (log, db) = c.in_ok-files.ensures.fresh in
       let found = (rw ok at c.open_files.ensures.found) clean in
-      let same = ap₂ image (ap₂ (seen g.S.Start.log g.S.Start.db) log.0 log.1) (ap₂ (seen g.S.Start.log g.S.Start.db) db.0 db.1) in
-      ((rw ok at c.open_files.ensures.opened) clean, subst (λ i. FindsIn i (file_state it)) same (record { holds = found.holds; reads = found.reads }))) c.done.ensures.ok;
+      ((rw ok at c.open_files.ensures.opened) clean, subst (λ i. FindsIn i (file_state it)) (as_found g.S.Start.log g.S.Start.db c.in_ok-files.ensures.fresh) (record { holds = found.holds; reads = found.reads }))) c.done.ensures.ok;
 }

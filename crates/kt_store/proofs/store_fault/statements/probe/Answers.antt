@@ -1,5 +1,5 @@
-use Rattle.std.proofs.Common.{[]}
-use Rattle.kt_store.proofs.ProbeLemmas.{outlined}
+use Rattle.kt_store.proofs.Common.{[]}
+use Rattle.kt_store.proofs.AskLemmas.{outlined}
 use Rattle.kt_store.proofs.StepLemmas.{not_run}
 use Rattle.kt_store.proofs.store_fault.statements.probe.Goals as goal
 

@@ -1,5 +1,4 @@
-use Rattle.std.proofs.Common.{arith}
-use Rattle.kt_store.proofs.Common.{Tables, bound, state}
+use Rattle.kt_store.proofs.Common.{Tables, arith, bound, state}
 use Rattle.kt_store.proofs.AskLemmas.{asked_mid, asked_stands, asked_survives}
 use Rattle.kt_store.proofs.StepLemmas.{rests_hold}
 use Rattle.kt_store.proofs.store_fault.statements.query.Goals as goal

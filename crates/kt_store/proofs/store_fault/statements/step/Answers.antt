@@ -1,5 +1,5 @@
-use Rattle.std.proofs.Common.{rules}
-use Rattle.kt_store.proofs.EmptyLemmas.{step_keeps}
+use Rattle.kt_store.proofs.Common.{rules}
+use Rattle.kt_store.proofs.CommitLemmas.{step_keeps}
 use Rattle.kt_store.proofs.store_fault.statements.step.Goals as goal
 
 pub returns-in-Err-clause-uncommitted : goal.returns-in-Err-clause-uncommitted

@@ -1,5 +1,4 @@
-use Rattle.std.proofs.Common.{[], Ok, subst, arith}
-use Rattle.kt_store.proofs.Common.{bound, Executes, CommitsBy, state, MayTell}
+use Rattle.kt_store.proofs.Common.{CommitsBy, Executes, MayTell, Ok, [], arith, bound, state, subst}
 use Rattle.kt_store.proofs.StepLemmas.{not_run, refused, rests_then, prepare_then}
 use Rattle.kt_store.proofs.store_fault.statements.tell.Goals as goal
 

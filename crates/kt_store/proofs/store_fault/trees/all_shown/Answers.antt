@@ -1,7 +1,4 @@
-use Rattle.std.proofs.Common.{◌∙◌, ◌++◌, [], ◌∷◌, map, take, get_or, sym, ap, arith}
-use Rattle.std.proofs.lemmas.List.{take_more}
-use Rattle.kt_store.proofs.Common.{Row, map-append, take_all}
-use Rattle.kt_store.specs.Inner.Cursors.{in_columns}
+use Rattle.kt_store.proofs.Common.{Row, [], ap, arith, get_or, in_columns, map, map-append, sym, take, take_all, take_more, ◌++◌, ◌∙◌, ◌∷◌}
 use Rattle.kt_store.proofs.store_fault.trees.all_shown.Goals as goal
 
 pub loop-row-preserved : goal.loop-row-preserved

@@ -1,5 +1,4 @@
-use Rattle.std.proofs.Common.{◌≡◌, map, take}
-use Rattle.kt_store.specs.Inner.Cursors.{in_columns}
+use Rattle.kt_store.proofs.Common.{in_columns, map, take, ◌≡◌}
 use Rattle.kt_store.proofs.store_fault.trees.all_shown.Given as goal
 
 abbrev pub invariant-loop-row : goal.invariant-loop-row

@@ -1,5 +1,4 @@
-use Rattle.std.proofs.Common.{◌≡◌, map, take}
-use Rattle.kt_store.proofs.Common.{column}
+use Rattle.kt_store.proofs.Common.{column, map, take, ◌≡◌}
 use Rattle.kt_store.proofs.store_fault.trees.columns_of.Given as goal
 
 abbrev pub invariant-loop-at : goal.invariant-loop-at

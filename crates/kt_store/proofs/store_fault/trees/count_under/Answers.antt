@@ -1,14 +1,14 @@
-use Rattle.std.proofs.Common.{rules, arith, ◌≡◌, ◌∙◌, List, take, true, false, sym, ap, subst}
-use Rattle.kt_store.proofs.Common.{AllByRecursion, Row}
-use Rattle.sqlite_exec.specs.Loops.{left_of}
-use Rattle.sqlite_trees.specs.View.{View, IsClean, IsShaped}
-use Rattle.kt_store.proofs.AloneLemmas.{looks_then}
+use Rattle.kt_store.proofs.Common.{AllByRecursion, CountsUnder, IsClean, IsShaped, List, Looks, Row, View, ap, arith, begins, false, left_of, rules, subst, sym, take, true, ◌∙◌, ◌≡◌}
+use Rattle.kt_store.proofs.SeenLemmas.{looks_then}
 use Rattle.kt_store.proofs.PlaceLemmas.{left_is, left_none, passed_all, passed_one}
-use Rattle.kt_store.specs.Inner.Cursors.{Looks, begins}
+use Rattle.kt_store.proofs.store_fault.trees.count_under.Given.{Over}
+use Rattle.kt_store.proofs.store_fault.trees.count_under.Goals.{In_ok-next}
 use Rattle.kt_store.proofs.store_fault.trees.count_under.Goals as goal
 
-pub returns-then-not-branch-clause-counted : goal.returns-then-not-branch-clause-counted
-returns-then-not-branch-clause-counted g c clean cs mine has =
+-- the places so far are all, if none is left that begins with the key
+all_counted : (g : Over) (c : In_ok-next g) → IsClean (g.S.Store.view c.next.new.self) → AllByRecursion (λ e. begins c.args.key.now e ≡ false) (take 1 (left_of (g.S.Store.view c.places.store) 0))
+    → CountsUnder c.args.table.now.tree c.args.table.now.index c.args.key.now (g.S.Store.view c.args.store.now).trees c.places.count
+all_counted g c clean none cs mine has =
     let old = g.S.Store.view c.args.store.now in
     let mid = g.S.Store.view c.places.store in
     let falls = c.next.ensures.quiet.clean in
@@ -16,23 +16,18 @@ returns-then-not-branch-clause-counted g c clean cs mine has =
     let order = g.met.S.Store.ordered c.args.store.now (c.places.invariant.2 early).0 in
     let table = c.args.table.now in
     let p = has (subst (λ s. IsShaped s (old.trees table.tree)) (c.are_shaped.ensures.table (search rules)) (order table.tree)) (subst (λ s. IsShaped s (old.trees table.index)) (c.are_shaped.ensures.index (search rules)) (order table.index)) in
-    let none = left_none mid (g.S.Store.view c.next.new.self) c.next.new.row (rw c.if-not-branch.true at (c.in_ok-next.ensures.ok clean)) in
-    passed_all c.args.key.now cs mine (old.trees table.tree) (old.trees table.index) (left_of mid 0) c.places.count p (c.places.invariant.3 early)
-    (subst (λ (l : List Row). AllByRecursion (λ e. begins c.args.key.now e ≡ false) (take 1 l)) (sym none) tt)
+    passed_all c.args.key.now cs mine (old.trees table.tree) (old.trees table.index) (left_of mid 0) c.places.count p (c.places.invariant.3 early) none
+
+pub returns-then-not-branch-clause-counted : goal.returns-then-not-branch-clause-counted
+returns-then-not-branch-clause-counted g c clean =
+    let none = left_none (g.S.Store.view c.places.store) (g.S.Store.view c.next.new.self) c.next.new.row (rw c.if-not-branch.true at (c.in_ok-next.ensures.ok clean)) in
+    all_counted g (goal.at.returns-then-not-branch-clause-counted g c).In_ok-next clean (subst (λ (l : List Row). AllByRecursion (λ e. begins c.args.key.now e ≡ false) (take 1 l)) (sym none) tt)
 
 pub returns-then-ne-clause-counted : goal.returns-then-ne-clause-counted
-returns-then-ne-clause-counted g c clean cs mine has =
-    let old = g.S.Store.view c.args.store.now in
-    let mid = g.S.Store.view c.places.store in
-    let falls = c.next.ensures.quiet.clean in
-    let early : IsClean mid = omega arith in
-    let order = g.met.S.Store.ordered c.args.store.now (c.places.invariant.2 early).0 in
-    let table = c.args.table.now in
-    let p = has (subst (λ s. IsShaped s (old.trees table.tree)) (c.are_shaped.ensures.table (search rules)) (order table.tree)) (subst (λ s. IsShaped s (old.trees table.index)) (c.are_shaped.ensures.index (search rules)) (order table.index)) in
-    let one = left_is mid (g.S.Store.view c.next.new.self) c.next.new.row (rw c.if-not-branch.false at (c.in_ok-next.ensures.ok clean)) in
+returns-then-ne-clause-counted g c clean =
+    let one = left_is (g.S.Store.view c.places.store) (g.S.Store.view c.next.new.self) c.next.new.row (rw c.if-not-branch.false at (c.in_ok-next.ensures.ok clean)) in
     let past : begins c.args.key.now c.next.new.row ≡ false = search rules in
-    passed_all c.args.key.now cs mine (old.trees table.tree) (old.trees table.index) (left_of mid 0) c.places.count p (c.places.invariant.3 early)
-    (subst (λ (l : List Row). AllByRecursion (λ e. begins c.args.key.now e ≡ false) (take 1 l)) (sym one) (past, tt))
+    all_counted g (goal.at.returns-then-ne-clause-counted g c).In_ok-next clean (subst (λ (l : List Row). AllByRecursion (λ e. begins c.args.key.now e ≡ false) (take 1 l)) (sym one) (past, tt))
 
 pub places-preserved : goal.places-preserved
 places-preserved g c =

@@ -1,7 +1,4 @@
-use Rattle.std.proofs.Common.{IsSome}
-use Rattle.sqlite_trees.specs.View.{IsClean}
-use Rattle.sqlite_exec.specs.Loops.{left_of}
-use Rattle.kt_store.specs.Inner.Cursors.{Looks, LooksThrough}
+use Rattle.kt_store.proofs.Common.{IsClean, IsSome, Looks, LooksThrough, left_of}
 use Rattle.kt_store.proofs.PlaceLemmas.{Passed}
 use Rattle.kt_store.proofs.store_fault.trees.count_under.Given as goal
 

@@ -1,5 +1,4 @@
-use Rattle.std.proofs.Common.{rules, ◌≡◌, ◌∙◌, pos, unsigned_abs, w64, SFits, sym, ap}
-use Rattle.kt_store.proofs.Common.{Int, rowid, to_z-of_z}
+use Rattle.kt_store.proofs.Common.{Int, SFits, ap, pos, rowid, rules, sym, to_z-of_z, unsigned_abs, w64, ◌∙◌, ◌≡◌}
 use Rattle.kt_store.proofs.store_fault.trees.number_of.Goals as goal
 
 pub returns-in-Int : goal.returns-in-Int

@@ -1,8 +1,6 @@
-use Rattle.std.proofs.Common.{rules, arith, ◌≡◌, ℤ, [], ◌∷◌, ◌++◌, filter, ap, subst}
-use Rattle.kt_store.proofs.Common.{Int, Row, Trees, all-append, column, has_rowid, length-map}
-use Rattle.sqlite_trees.specs.View.{View, IsClean, IsShaped}
-use Rattle.kt_store.proofs.AloneLemmas.{looks_then}
-use Rattle.kt_store.proofs.BehindLemmas as lemma
+use Rattle.kt_store.proofs.Common.{Int, IsClean, IsShaped, Row, Trees, View, [], all-append, ap, arith, column, filter, has_rowid, length-map, rules, subst, ℤ, ◌++◌, ◌∷◌, ◌≡◌}
+use Rattle.kt_store.proofs.SeenLemmas.{looks_then}
+use Rattle.kt_store.proofs.PlaceLemmas as lemma
 use Rattle.kt_store.proofs.store_fault.trees.rows_behind.Goals as goal
 
 pub returns-then-not-branch-clause-all : goal.returns-then-not-branch-clause-all

@@ -1,11 +1,7 @@
-use Rattle.std.proofs.Common.{◌≡◌, false, length, List, ℕ, IsSome}
-use Rattle.kt_store.proofs.Common.{AreWide, Row}
-use Rattle.sqlite_trees.specs.View.{IsClean}
+use Rattle.kt_store.proofs.Common.{AreWide, IsClean, IsSome, List, Looks, Places, Row, false, left_of, length, ℕ, ◌≡◌}
 use Rattle.sqlite_trees.specs.declared.store.Shape.TheVariants.{Table}
 use Rattle.sqlite_exec.specs.Calls.{OnlyReads}
-use Rattle.sqlite_exec.specs.Loops.{left_of}
-use Rattle.kt_store.specs.Inner.Cursors.{Looks, Places}
-use Rattle.kt_store.proofs.BehindLemmas.{Halfway}
+use Rattle.kt_store.proofs.PlaceLemmas.{Halfway}
 use Rattle.kt_store.proofs.store_fault.trees.rows_behind.Given as goal
 
 abbrev pub invariant-places : goal.invariant-places

@@ -1,8 +1,5 @@
-use Rattle.std.proofs.Common.{rules, [], ◌∷◌, pos, ap, subst}
-use Rattle.kt_store.proofs.Common.{Int, Trees}
+use Rattle.kt_store.proofs.Common.{Int, Looks, ShowsUnder, Trees, View, [], ap, pos, rules, subst, ◌∷◌}
 use Rattle.kt_store.proofs.FaultLemmas.{if_both}
-use Rattle.sqlite_trees.specs.View.{View}
-use Rattle.kt_store.specs.Inner.Cursors.{Looks, ShowsUnder}
 use Rattle.kt_store.proofs.store_fault.trees.rows_in.Goals as goal
 
 pub returns-clause-all : goal.returns-clause-all

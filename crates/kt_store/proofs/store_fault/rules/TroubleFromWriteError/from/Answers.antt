@@ -1,4 +1,4 @@
-use Rattle.std.proofs.Common.{rules, ◌≡◌, inl, inr}
+use Rattle.kt_store.proofs.Common.{inl, inr, rules, ◌≡◌}
 use Rattle.sqlite_trees.specs.declared.error.StoreError.TheVariants.{OutOfMemory}
 use Rattle.kt_store.proofs.FaultLemmas.{never_both}
 use Rattle.kt_store.proofs.store_fault.rules.TroubleFromWriteError.from.Goals as goal
