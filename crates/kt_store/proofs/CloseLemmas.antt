@@ -1,5 +1,5 @@
 -- A run is finished.
-use Rattle.kt_store.proofs.Common.{AllByRecursion, Applies, AreRuns, Database, Does, Enforced, Entry, Ghosts, Given, HasCleanDisk, Held, Incomplete, Int, IsAscending, IsComplete, IsDatabase, IsPermutation, IsRun, IsStore, IsTrue, Keeps, List, MayTell, Mode, None, Ok, Option, Run, RunClosed, Some, StandsFor, Tables, Tally, Told, Trees, Update, [], ap, arith, done_row, drop, edit_of, entries_of, entry_row, entry_rows, false, finish, finish_refusal, finish_refusal_of, finish_text, flat_map, ids_of, length, map, nat_lt, nat_tests, pair_rows, pos, prop_rows, refl, run_at, runs_1, schema_2, state, subst, suc, sym, true, zero, ℕ, ◌++◌, ◌+◌, ◌<◌, ◌==◌, ◌∙◌, ◌∷◌, ◌≡◌, ◌≤◌}
+use Rattle.kt_store.proofs.Common.{AllByRecursion, Applies, AreRuns, Database, Does, Enforced, Entry, Ghosts, Given, HasCleanDisk, Held, Incomplete, Int, IsAscending, IsComplete, IsDatabase, IsPermutation, IsRun, IsStore, IsTrue, Keeps, List, MayTell, Mode, None, Ok, Option, Run, RunClosed, Some, StandsFor, Tables, Tally, Told, Trees, Update, [], ap, arith, done_row, drop, edit_of, entries_of, entry_row, entry_rows, false, finish, finish_refusal, finish_refusal_of, finish_text, flat_map, ids_of, length, map, nat_lt, nat_tests, pair_rows, pos, prop_rows, refl, run_at, runs_1, schema_2, state, subst, suc, sym, true, zero, ℕ, ◌++◌, ◌+◌, ◌<◌, ◌∙◌, ◌∷◌, ◌≡◌, ◌≤◌}
 use Rattle.kt_store.proofs.RunsByNumber.{finish_each, finish_unseen, run_of}
 use Rattle.kt_store.proofs.SqlFacts.{finish_is}
 use Rattle.kt_store.proofs.FinishLemmas.{finish_program, finish_writes, finished_rows}
@@ -39,22 +39,22 @@ module _ {S : Type 0} (g : Ghosts S) (old new : Held S) (runs : List Run) (run :
   abbrev pub Closes : Type 0
   Closes = HasCleanDisk (state g old) → IsComplete run runs
 
-  told_at : (k n : ℕ) (r : Run) → n ≡ suc k → run_at runs n ≡ Some r → length r.entries ≡ r.total → HasCleanDisk (state g new) → Told g finish_text (Int (pos n) ∷ []) old new
-      → IsStore (state g new) (finish n runs) × IsTrue (state g new).is_open × IsDatabase (state g new).now
-  told_at k n r is there whole clean it =
-      subst (λ m. run_at runs m ≡ Some r → Told g finish_text (Int (pos m) ∷ []) old new → IsStore (state g new) (finish m runs) × IsTrue (state g new).is_open × IsDatabase (state g new).now) (sym is)
-      (λ there it. told_update finish_text (Int (pos (suc k)) ∷ []) 1 finish_program finish_is.0 finish_is.1 runs (finish (suc k) runs) (finish_step runs k r there whole) g old new has earlier clean it) there it
+  told_at : (run : ℕ) (r : Run) → run_at runs run ≡ Some r → length r.entries ≡ r.total → HasCleanDisk (state g new) → Told g finish_text (Int (pos run) ∷ []) old new
+      → IsStore (state g new) (finish run runs) × IsTrue (state g new).is_open × IsDatabase (state g new).now
+  told_at zero r there whole clean it = absurd cc
+  told_at (suc k) r there whole clean it =
+      told_update finish_text (Int (pos (suc k)) ∷ []) 1 finish_program finish_is.0 finish_is.1 runs (finish (suc k) runs) (finish_step runs k r there whole) g old new has earlier clean it
 
-  crash_at : (k n : ℕ) (r : Run) → n ≡ suc k → run_at runs n ≡ Some r → length r.entries ≡ r.total → HasCleanDisk (state g new) → (trees : Trees) → MayTell g finish_text (Int (pos n) ∷ []) old trees → Keeps (finish n runs) trees
-  crash_at k n r is there whole clean trees it =
-      subst (λ m. run_at runs m ≡ Some r → MayTell g finish_text (Int (pos m) ∷ []) old trees → Keeps (finish m runs) trees) (sym is)
-      (λ there it. crash_update finish_text (Int (pos (suc k)) ∷ []) 1 finish_program finish_is.0 finish_is.1 runs (finish (suc k) runs) (finish_step runs k r there whole) g old new has earlier clean trees it) there it
+  crash_at : (run : ℕ) (r : Run) → run_at runs run ≡ Some r → length r.entries ≡ r.total → HasCleanDisk (state g new) → (trees : Trees) → MayTell g finish_text (Int (pos run) ∷ []) old trees → Keeps (finish run runs) trees
+  crash_at zero r there whole clean trees it = absurd cc
+  crash_at (suc k) r there whole clean trees it =
+      crash_update finish_text (Int (pos (suc k)) ∷ []) 1 finish_program finish_is.0 finish_is.1 runs (finish (suc k) runs) (finish_step runs k r there whole) g old new has earlier clean trees it
 
   pub told_finish : Closes → HasCleanDisk (state g new) → Told g finish_text (Int (pos run) ∷ []) old new → IsStore (state g new) (finish run runs) × IsTrue (state g new).is_open × IsDatabase (state g new).now
-  told_finish closes clean it = let f = closes (earlier clean) in told_at f.0 run f.1 f.2 f.3 f.4 clean it
+  told_finish closes clean it = let f = closes (earlier clean) in told_at run f.1 f.3 f.4 clean it
 
   pub crash_finish : Closes → HasCleanDisk (state g new) → (trees : Trees) → MayTell g finish_text (Int (pos run) ∷ []) old trees → Keeps (finish run runs) trees
-  crash_finish closes clean trees it = let f = closes (earlier clean) in crash_at f.0 run f.1 f.2 f.3 f.4 clean trees it
+  crash_finish closes clean trees it = let f = closes (earlier clean) in crash_at run f.1 f.3 f.4 clean trees it
 
 all_from : (x : Entry) (es : List Entry) → AllByRecursion (λ (e : Entry). x.position < e.position) es → AllByRecursion (λ (e : Entry). suc x.position ≤ e.position) es
 all_from x [] h = tt

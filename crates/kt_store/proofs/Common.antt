@@ -121,7 +121,7 @@ pub use Rattle.kt_store.specs.Inner.Cursors.{CountsUnder, HoldsCommit, IsAt, Loo
 pub use Rattle.kt_store.specs.Inner.Edits.{Ended, Fills, IsSettledStore, Obeys, PutsRows, Wrote, begun_row, done_row, unnumbered}
 pub use Rattle.kt_store.specs.Inner.Heads.{as_shown, entry_columns, head_columns, output_columns, pair_columns, pair_count, pairs_shown, shown_columns, width_of}
 pub use Rattle.kt_store.specs.Inner.Kept.{AsksNumber, Changes, CommitsNothing, KeepsRuns, Looked, MayChange, OnlyReads}
-pub use Rattle.kt_store.specs.Inner.Known.{HasRuns, readings, runs_file}
+pub use Rattle.kt_store.specs.Inner.Known.{HasRuns, by_trees, readings, runs_file}
 pub use Rattle.kt_store.specs.Inner.NewFiles.{HoldsEmpty, IsNewName}
 pub use Rattle.kt_store.specs.Inner.Opening.{ListsRuns, OpensOver}
 pub use Rattle.kt_store.specs.Inner.Places.{AreNamed, StandAt, places_2}

@@ -1,7 +1,8 @@
 -- How calls end that write the trees of a store: committed, or gone back to the last commit.
-use Rattle.kt_store.proofs.Common.{Agrees, Bool, Database, Ended, Err, Ghosts, HasCleanDisk, HasCommitted, HasRuns, Held, HoldsCommit, IsLive, IsSettledStore, IsSound, IsTrue, Keeps, KeepsOne, List, Lists, Looks, Ok, Outlasts, Result, Run, Schema, Serves, StandAt, StandsFor, StoreCall, StoreFault, Trees, Wrote, [], ap, catalog_tree, changed_by, false, inl, inr, is_err, lists_once, no_doubt, places_2, readings, refl, runs_file, schema_2, state, subst, sym, true, true≢false, ◌∙◌, ◌∷◌, ◌≡◌, ◌⊎◌}
+use Rattle.kt_store.proofs.Common.{Agrees, Bool, Database, Ended, Err, Ghosts, HasCleanDisk, HasCommitted, HasRuns, Held, HoldsCommit, IsLive, IsSettledStore, IsSound, IsTrue, Keeps, KeepsOne, List, Lists, Looks, Ok, Outlasts, Result, Run, Schema, Serves, StandAt, StandsFor, StoreCall, StoreFault, Trees, Wrote, ap, catalog_tree, changed_by, false, inl, inr, is_err, lists_once, no_doubt, places_2, readings, refl, runs_file, schema_2, state, subst, sym, true, true≢false, ◌∙◌, ◌∷◌, ◌≡◌}
 use Rattle.sqlite_trees.specs.View.{View, IsClean, IsRolledBack, doubt}
 use Rattle.kt_store.specs.declared.places.Places.{Places}
+use Rattle.kt_store.proofs.SeenLemmas.{read_serves}
 use Rattle.kt_store.proofs.ServeLemmas.{IsWrite}
 use Rattle.kt_store.proofs.EditLemmas.{schema_is}
 use Rattle.kt_store.proofs.Numbered.{numbers_changed, ordered_changed}
@@ -50,25 +51,13 @@ module _ {S : Type 0} (g : Ghosts S) (dirty : (s : S) → (g.view s).is_clean �
   -- ---- a call that reads
 
   module _ (old new : S) (looks : Looks g old new) (is : IsSettledStore (g.view old) schema) where
-    still : (runs : List Run) → (runs_file g).stands old runs → (runs_file g).stands new runs
-    still runs h = (λ opened. let held = looks.held (clean_of_open (g.view new) (dirty new) opened) opened in subst (Keeps runs) (sym held.1) (h.0 held.0), h.1, λ clean. h.2 (looks.clean clean))
-
-    leaves : (may : List (List Run)) → (runs_file g).leaves old may → (runs_file g).leaves new may
-    leaves may h clean trees found = h (looks.clean clean) trees (looks.outcomes trees found)
-
-    shown : (runs : List Run) → (runs_file g).stands old runs → (readings g).stands old runs
-    shown runs h = (has_runs (g.view old) schema (shut old) is runs h.0, h.1, h.2)
+    still : (runs : List Run) → HasCommitted (g.view old) runs → HasCommitted (g.view new) runs
+    still runs h opened = let held = looks.held (clean_of_open (g.view new) (dirty new) opened) opened in subst (Keeps runs) (sym held.1) (h held.0)
 
     pub read_served : (call : StoreCall) → ((runs : List Run) → changed_by call runs ≡ runs)
         → ((runs : List Run) (may : List (List Run)) → ((runs_file g).leaves old may → (runs_file g).leaves new may) → Outlasts (runs_file g).leaves call runs may old new)
         → Serves (readings g) call old new → Serves (runs_file g) call old new
-    read_served call same lasts s = record {
-      asked = tt;
-      stands = λ runs h. subst ((runs_file g).stands new) (sym (same runs)) (still runs h);
-      earlier = λ runs h clean. looks.clean clean;
-      agrees = λ runs h clean. s.agrees runs (shown runs h) clean;
-      crash = λ runs may h. lasts runs may (leaves may);
-    }
+    read_served call same lasts s = read_serves g old new looks HasCommitted still call same lasts (λ runs h. s.agrees runs (has_runs (g.view old) schema (shut old) is runs h.0, h.1, h.2))
 
   -- ---- a call that writes
 

@@ -1,5 +1,5 @@
 -- What the statements do that put an entry and its pairs, one after the other.
-use Rattle.kt_store.proofs.Common.{AllByRecursion, Applies, AreRuns, CanAdd, Chosen, Database, Enforced, Entry, Executes, Ghosts, HasCleanDisk, HasTexts, Held, Insert, Int, IsDatabase, IsPair, IsPermutation, IsPermutation-cons, IsPermutation-map, IsPermutation-middle, IsPermutation-sym, IsPermutation-trans, IsRun, IsTrue, List, None, Ok, Row, Run, RunInTurn, StandsFor, State, Statement, Tables, Text, Values, Variable, Writes, [], and_parts, ap, are_fresh, arith, begun, cast_row, codes, drop, edit_of, entries_1, entry_row, entry_rows, entry_statements, false, is_taken, kind_code, length, map, mode_of, next_rowid, not, not-true, numbered, pair_row, pair_rows_from, pair_statements, pair_text, pos, prop_rows, props_1, put_all, put_row, put_text, refl, run_row, runs_as, schema_2, state, statement_of, subst, suc, sym, true, understood, value_rows, with_entry, ℕ, ◌&&◌, ◌++◌, ◌+◌, ◌<◌, ◌∙◌, ◌∷◌, ◌≡◌}
+use Rattle.kt_store.proofs.Common.{AllByRecursion, Applies, AreRuns, CanAdd, Chosen, Database, Enforced, Entry, Executes, Ghosts, HasCleanDisk, HasTexts, Held, Insert, Int, IsDatabase, IsPair, IsPermutation, IsPermutation-cons, IsPermutation-map, IsPermutation-middle, IsPermutation-sym, IsPermutation-trans, IsTrue, List, None, Ok, Row, Run, RunInTurn, StandsFor, State, Statement, Tables, Text, Values, Variable, Writes, [], and_parts, ap, are_fresh, arith, begun, cast_row, codes, drop, edit_of, entries_1, entry_row, entry_rows, entry_statements, false, is_taken, kind_code, length, map, mode_of, next_rowid, not, not-true, numbered, pair_row, pair_rows, pair_rows_from, pair_statements, pair_text, pos, prop_rows, props_1, put_all, put_row, put_text, refl, run_row, runs_as, schema_2, state, statement_of, subst, suc, sym, true, understood, value_rows, with_entry, ℕ, ◌++◌, ◌+◌, ◌∙◌, ◌∷◌, ◌≡◌}
 use Rattle.kt_store.proofs.SqlFacts.{put_is, put_terms, pair_is, pair_terms}
 use Rattle.kt_store.proofs.InsertLemmas.{changed}
 use Rattle.kt_store.proofs.RunsByNumber.{entry_unseen}
@@ -103,46 +103,40 @@ module _ {S : Type 0} (g : Ghosts S) (n p : ℕ) where
 pub rows_of : (runs : List Run) (db : Database) → Tables db runs → Holds runs (entry_rows runs) (prop_rows runs) db
 rows_of runs db has = record { schema = has.schema; marked = has.marked; runs_are = has.runs_are; entries_are = has.entries_are; props_are = has.props_are }
 
-pub tables_of : (runs : List Run) (k : ℕ) (e : Entry) → k < length runs → AllByRecursion IsRun (with_entry (suc k) e runs) → AreRuns runs → (db : Database)
-    → Holds runs (entry_row (suc k) e ∷ entry_rows runs) (pair_rows_from (suc k) e.position 0 e.meta ++ prop_rows runs) db → Tables db (with_entry (suc k) e runs)
-tables_of runs k e low valid were db has =
-    let number : 1 + k ≡ suc k = omega arith in
-    let rows : IsPermutation (entry_row (suc k) e ∷ entry_rows runs) (entry_rows (with_entry (suc k) e runs)) =
-    subst (λ n. IsPermutation (entry_row n e ∷ entry_rows runs) (entry_rows (with_entry n e runs))) number (more_rows 1 k e runs were.numbered low) in
-    let pairs : IsPermutation (pair_rows_from (suc k) e.position 0 e.meta ++ prop_rows runs) (prop_rows (with_entry (suc k) e runs)) =
-    subst (λ n. IsPermutation (pair_rows_from n e.position 0 e.meta ++ prop_rows runs) (prop_rows (with_entry n e runs))) number (more_pairs 1 k e runs were.numbered low) in
+pub tables_of : (runs : List Run) (run : ℕ) (e : Entry) → CanAdd run e runs → HasTexts e → AreRuns runs → (db : Database)
+    → Holds runs (entry_row run e ∷ entry_rows runs) (pair_rows run e ++ prop_rows runs) db → Tables db (with_entry run e runs)
+tables_of runs run e fits texts were db has =
+    let number : 1 + fits.0 ≡ run = omega (arith, fits.1) in
+    let rows : IsPermutation (entry_row run e ∷ entry_rows runs) (entry_rows (with_entry run e runs)) =
+    subst (λ n. IsPermutation (entry_row n e ∷ entry_rows runs) (entry_rows (with_entry n e runs))) number (more_rows 1 fits.0 e runs were.numbered fits.2) in
+    let pairs : IsPermutation (pair_rows run e ++ prop_rows runs) (prop_rows (with_entry run e runs)) =
+    subst (λ n. IsPermutation (pair_rows n e ++ prop_rows runs) (prop_rows (with_entry n e runs))) number (more_pairs 1 fits.0 e runs were.numbered fits.2) in
     record {
       schema = has.schema;
       marked = has.marked;
-      runs_are = has.runs_are ∙ sym (entry_unseen (map run_row) (λ r more. run_row r ∷ more) (λ r rs. refl) (suc k) e (λ r more. refl) runs);
+      runs_are = has.runs_are ∙ sym (entry_unseen (map run_row) (λ r more. run_row r ∷ more) (λ r rs. refl) run e (λ r more. refl) runs);
       entries_are = IsPermutation-trans _ _ _ (IsPermutation-sym _ _ rows) has.entries_are;
       props_are = IsPermutation-trans _ _ _ (IsPermutation-sym _ _ pairs) has.props_are;
-      valid = record { numbered = numbers_entry (suc k) e 1 runs were.numbered; each = valid; few = omega (arith, were.few, entry_unseen length (λ r n. suc n) (λ r rs. refl) (suc k) e (λ r n. refl) runs) };
+      valid = record { numbered = numbers_entry run e 1 runs were.numbered; each = fits.3 texts; few = omega (arith, were.few, entry_unseen length (λ r n. suc n) (λ r rs. refl) run e (λ r n. refl) runs) };
     }
 
 module _ {S : Type 0} (g : Ghosts S) where
-  -- the entry and its pairs are in the tables of the runs that have it
-  pub filled : (runs : List Run) (k : ℕ) (e : Entry) → k < length runs → AllByRecursion IsRun (with_entry (suc k) e runs) → (old new : Held S) → Tables (state g old).now runs
-      → RunInTurn g (entry_statements (suc k) e) old new → Tables (state g new).now (with_entry (suc k) e runs) × IsDatabase (state g new).now
-  filled runs k e low valid old new has ran =
-      let one = put_inside runs (entry_rows runs) (prop_rows runs) (state g old) (state g ran.0) ran.1.0 (rows_of runs (state g old).now has) (suc k) e ran.1.1.0 in
-      let all = pairs_inside g runs (entry_row (suc k) e ∷ entry_rows runs) (suc k) e.position 0 e.meta (prop_rows runs) ran.0 new one.0 one.1 ran.2 in
-      (tables_of runs k e low valid has.valid (state g new).now all.0, all.1)
-
   -- its texts are texts
   spelled : (n : ℕ) (e : Entry) (old new : Held S) → RunInTurn g (entry_statements n e) old new → HasTexts e
   spelled n e old new ran = (ran.1.2.0, ran.1.2.1.0, ran.1.2.1.1.0, pairs_spelled g n e.position 0 e.meta ran.0 new ran.2)
 
-  pub filled_at : (runs : List Run) (e : Entry) (run : ℕ) → CanAdd run e runs → (old new : Held S) → Tables (state g old).now runs
-      → RunInTurn g (entry_statements run e) old new → Tables (state g new).now (with_entry run e runs) × IsDatabase (state g new).now
-  filled_at runs e run fits old new has ran =
-      subst (λ n. AllByRecursion IsRun (with_entry n e runs) → RunInTurn g (entry_statements n e) old new → Tables (state g new).now (with_entry n e runs) × IsDatabase (state g new).now) (sym fits.1)
-      (λ valid ran. filled runs fits.0 e fits.2 valid old new has ran) (fits.3 (spelled run e old new ran)) ran
+  -- the entry and its pairs are in the tables of the runs that have it
+  filled : (runs : List Run) (e : Entry) (run : ℕ) → CanAdd run e runs → (old new : Held S) → Tables (state g old).now runs → RunInTurn g (entry_statements run e) old new
+      → Tables (state g new).now (with_entry run e runs) × IsDatabase (state g new).now
+  filled runs e run fits old new has ran =
+      let one = put_inside runs (entry_rows runs) (prop_rows runs) (state g old) (state g ran.0) ran.1.0 (rows_of runs (state g old).now has) run e ran.1.1.0 in
+      let all = pairs_inside g runs (entry_row run e ∷ entry_rows runs) run e.position 0 e.meta (prop_rows runs) ran.0 new one.0 one.1 ran.2 in
+      (tables_of runs run e fits (spelled run e old new ran) has.valid (state g new).now all.0, all.1)
 
   -- the same of a transaction
   pub entry_made : (runs : List Run) (e : Entry) (run : ℕ) (old : Held S) → StandsFor (state g old) runs → (HasCleanDisk (state g old) → CanAdd run e runs) → HasCleanDisk (state g old) → (left : Held S)
       → RunInTurn g (entry_statements run e) (begun old) left → Tables (state g left).now (with_entry run e runs) × IsDatabase (state g left).now
-  entry_made runs e run old has fits clean left ran = filled_at runs e run (fits clean) (begun old) left (has clean ran.1.1.1.was_open).tables ran
+  entry_made runs e run old has fits clean left ran = filled runs e run (fits clean) (begun old) left (has clean ran.1.1.1.was_open).tables ran
 
   -- a transaction goes on
   pub in_turn : (statements : List Statement) (old new : Held S) → RunInTurn g statements old new → IsTrue (state g old).in_transaction → IsTrue (state g new).in_transaction

@@ -1,7 +1,6 @@
 pub mod Common
 pub mod Values
 pub mod RunsByNumber
-pub mod RuleLemmas
 pub mod EndLemmas
 pub mod EditLemmas
 pub mod PlaceLemmas
@@ -19,9 +18,7 @@ pub mod WriteLemmas
 pub mod FinishLemmas
 pub mod RunLemmas
 pub mod EntryLemmas
-pub mod TakesLemmas
 pub mod CloseLemmas
-pub mod HeadLemmas
 pub mod EntriesLemmas
 pub mod OutputsLemmas
 pub mod MetaLemmas

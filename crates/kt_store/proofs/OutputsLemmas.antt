@@ -1,5 +1,5 @@
 -- The entry of a run at a position, by its stored row.
-use Rattle.kt_store.proofs.Common.{Bool, Entry, List, None, Option, Row, Run, Some, [], ap, arith, cases_lt, entries_of, entry_at, entry_row, filter, find, inl, inr, last_run, length, map, option_map, refl, run_at, slice_get, slice_get-filter, slice_get-map, slice_get_past, subst, suc, sym, zero, ℕ, ◌<◌, ◌==◌, ◌∙◌, ◌∷◌, ◌≡◌, ◌≢◌, ◌≤◌}
+use Rattle.kt_store.proofs.Common.{Bool, Entry, List, None, Option, Row, Run, Some, ap, arith, cases_lt, entries_of, entry_at, entry_row, filter, find, inl, inr, last_run, length, map, option_map, refl, run_at, slice_get, slice_get-filter, slice_get-map, slice_get_past, subst, suc, sym, zero, ℕ, ◌<◌, ◌==◌, ◌∙◌, ◌≡◌, ◌≢◌, ◌≤◌}
 use Rattle.kt_store.proofs.Values.{some_mapped, none_mapped}
 
 -- an entry has this position

@@ -1,5 +1,5 @@
 -- What is shown of the rows that a cursor finds, and how a store that is only read serves.
-use Rattle.kt_store.proofs.Common.{Agrees, AreNumbered, AreWide, CaseOutputs, Entry, Err, Ghosts, HasRuns, HoldsCommit, IfErr, IfOk, IsStoreFault, Keeps, List, Looks, NoRun, None, Ok, Option, Outlasts, Outputs, Result, Row, Run, Serves, Shows, Some, StandAt, StoreCall, StoreFault, Trees, Variable, [], all-get_or, ap, ap₂, arith, changed_by, column, drop, entry_at, entry_columns, entry_row, false, filter, flat_map, get_or, has_rowid, head_columns, in_columns, length, length-map, map, map-append, map-map, option_to_list, outputs_of, pair_columns, pair_rows, pair_rows_from, pairs_shown, places_2, pos, readings, refl, run_at, run_row, subst, suc, sym, true, ℕ, ◌++◌, ◌<◌, ◌∙◌, ◌∷◌, ◌≡◌, ◌≤◌, ◌⊎◌}
+use Rattle.kt_store.proofs.Common.{Agrees, AreNumbered, AreWide, CaseOutputs, Entry, Err, Ghosts, HasRuns, HoldsCommit, IfErr, IfOk, IsStoreFault, Keeps, List, Looks, NoRun, None, Ok, Option, Outlasts, Outputs, Result, Row, Run, Serves, Shows, Some, StandAt, StoreCall, StoreFault, Trees, Variable, [], all-get_or, ap, ap₂, arith, by_trees, changed_by, column, drop, entry_at, entry_columns, entry_row, false, filter, flat_map, get_or, has_rowid, head_columns, in_columns, length, length-map, map, map-append, map-map, option_to_list, outputs_of, pair_columns, pair_rows, pair_rows_from, pairs_shown, places_2, pos, readings, refl, run_at, run_row, subst, suc, sym, true, ℕ, ◌++◌, ◌<◌, ◌∙◌, ◌∷◌, ◌≡◌, ◌≤◌, ◌⊎◌}
 use Rattle.sqlite_trees.specs.View.{View, Finds, IsClean, KeepsSchema}
 use Rattle.kt_store.proofs.EntryLemmas.{back}
 use Rattle.kt_store.proofs.RunLemmas.{found_run}
@@ -122,21 +122,20 @@ module _ {S : Type 0} (g : Ghosts S) where
     outcomes = λ db found. first.outcomes db (second.outcomes db found);
   }
 
-  -- a call that only reads
+  -- a call that only reads, of a store that still has its runs
   module _ (old new : S) (looks : Looks g old new) where
-    stays : (runs : List Run) → (readings g).stands old runs → (readings g).stands new runs
-    stays runs h = (still_has g old new looks runs h.0, h.1, λ clean. h.2 (looks.clean clean))
-
-    leaves : (may : List (List Run)) → (readings g).leaves old may → (readings g).leaves new may
-    leaves may h clean trees found = h (looks.clean clean) trees (looks.outcomes trees found)
+    pub read_serves : (Has : View → List Run → Type 0) → ((runs : List Run) → Has (g.view old) runs → Has (g.view new) runs) → (call : StoreCall) → ((runs : List Run) → changed_by call runs ≡ runs)
+        → ((runs : List Run) (may : List (List Run)) → ((by_trees g Has).leaves old may → (by_trees g Has).leaves new may) → Outlasts (by_trees g Has).leaves call runs may old new)
+        → ((runs : List Run) → (by_trees g Has).stands old runs → IsClean (g.view new) → Agrees runs call) → Serves (by_trees g Has) call old new
+    read_serves Has still call same lasts why = record {
+      asked = tt;
+      stands = λ runs h. subst ((by_trees g Has).stands new) (sym (same runs)) (still runs h.0, h.1, λ clean. h.2 (looks.clean clean));
+      earlier = λ runs h clean. looks.clean clean;
+      agrees = why;
+      crash = λ runs may h. lasts runs may (λ left clean trees found. left (looks.clean clean) trees (looks.outcomes trees found));
+    }
 
     pub looked_serves : (call : StoreCall) → ((runs : List Run) → changed_by call runs ≡ runs)
         → ((runs : List Run) (may : List (List Run)) → ((readings g).leaves old may → (readings g).leaves new may) → Outlasts (readings g).leaves call runs may old new)
         → ((runs : List Run) → HasRuns (g.view old) runs → IsClean (g.view new) → Agrees runs call) → Serves (readings g) call old new
-    looked_serves call same lasts why = record {
-      asked = tt;
-      stands = λ runs h. subst ((readings g).stands new) (sym (same runs)) (stays runs h);
-      earlier = λ runs h clean. looks.clean clean;
-      agrees = λ runs h clean. why runs h.0 clean;
-      crash = λ runs may h. lasts runs may (leaves may);
-    }
+    looked_serves call same lasts why = read_serves HasRuns (still_has g old new looks) call same lasts (λ runs h. why runs h.0)

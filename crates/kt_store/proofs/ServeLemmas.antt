@@ -1,5 +1,5 @@
 -- How the tables of a database serve the calls of a store, and what a crash leaves.
-use Rattle.kt_store.proofs.Common.{Agrees, Began, Changes, Entry, Err, Finished, Ghosts, HasCleanDisk, Heads, Held, IfErr, IfOk, IsErrAnd, IsStoreFault, Keeps, KeepsOne, KeepsRuns, Leaves, List, Looked, MayChange, Ok, OnErr, OnOk, Outlasts, Outline, Outputs, Put, Reads, Result, Run, RunHead, Serves, StandsFor, State, StoreCall, StoreFault, Survives, Trees, [], arith, changed_by, finish, inl, inr, new_run, refl, results, state, subst, survives_then, survives_weaker, sym, with_entry, ℕ, ◌++◌, ◌<◌, ◌∷◌, ◌≡◌, ◌⊎◌}
+use Rattle.kt_store.proofs.Common.{Agrees, Began, Changes, Entry, Err, Finished, Ghosts, HasCleanDisk, Heads, Held, IfErr, IfOk, IsErrAnd, IsStoreFault, Keeps, KeepsOne, KeepsRuns, Leaves, List, Looked, MayChange, Ok, OnErr, OnOk, Outlasts, Outline, Outputs, Put, Reads, Result, Run, RunHead, Serves, StandsFor, State, StoreCall, StoreFault, Survives, Trees, [], arith, changed_by, finish, inl, inr, new_run, refl, results, state, subst, survives_then, survives_weaker, sym, with_entry, ℕ, ◌++◌, ◌∷◌, ◌≡◌}
 use Rattle.kt_store.proofs.AskLemmas.{was_clean}
 use Rattle.kt_store.proofs.Numbered.{numbers_changed, ordered_changed}
 

@@ -1,7 +1,7 @@
 use Rattle.kt_store.proofs.Common.{AreRuns, HasRuns, IsClean, List, Run, RunHead, Some, View, ap, arith, entries_of, entry_row, filter, head_of, inr, length, length-map, map, run_at, sym, ◌∙◌, ◌≡◌}
 use Rattle.kt_store.proofs.CursorLemmas.{cs, place_of_entry}
 use Rattle.kt_store.proofs.OutputsLemmas.{has as is_at}
-use Rattle.kt_store.proofs.TakesLemmas.{refused_closed, refused_past, refused_repeated, taken}
+use Rattle.kt_store.proofs.Numbered.{refused_closed, refused_past, refused_repeated, taken}
 use Rattle.kt_store.proofs.EntriesLemmas.{counted_here, counted_none}
 use Rattle.kt_store.proofs.edits.check_entry.Given.{Over}
 use Rattle.kt_store.proofs.edits.check_entry.Goals.{In_ok-count_under}

@@ -1,6 +1,6 @@
 use Rattle.kt_store.proofs.Common.{state, ◌∙◌}
 use Rattle.kt_store.proofs.SqlFacts.{runs_select_is}
-use Rattle.kt_store.proofs.HeadLemmas.{tells_heads}
+use Rattle.kt_store.proofs.RunLemmas.{tells_heads}
 use Rattle.kt_store.proofs.heads.all_heads.Goals as goal
 
 pub query-requires : goal.query-requires

@@ -1,5 +1,5 @@
 use Rattle.kt_store.proofs.Common.{[], ap, arith, get_or, head_columns, head_of, length, length-map, map, refl, rules, subst, suc, sym, take, take_all, ◌++◌, ◌+◌, ◌<◌, ◌∙◌, ◌∷◌, ◌≡◌}
-use Rattle.kt_store.proofs.HeadLemmas.{one_more}
+use Rattle.kt_store.proofs.RunLemmas.{one_more}
 use Rattle.kt_store.proofs.SeenLemmas.{one_wide}
 use Rattle.kt_store.proofs.heads.heads_in.Goals as goal
 

@@ -1,6 +1,6 @@
 use Rattle.kt_store.proofs.Common.{arith, inr, sym, ◌∙◌}
 use Rattle.kt_store.proofs.AskLemmas.{looked-then, was_clean}
-use Rattle.kt_store.proofs.TakesLemmas.{refused_closed, refused_past, refused_repeated, taken}
+use Rattle.kt_store.proofs.Numbered.{refused_closed, refused_past, refused_repeated, taken}
 use Rattle.kt_store.proofs.put.check.Goals as goal
 
 pub returns-then-finished-clause-refused : goal.returns-then-finished-clause-refused

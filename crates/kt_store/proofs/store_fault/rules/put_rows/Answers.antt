@@ -2,7 +2,7 @@ use Rattle.kt_store.proofs.Common.{Enforced, IsCatalogOf, Ok, Some, Trees, View,
 use Rattle.sqlite_rules.specs.Action.{Writes}
 use Rattle.sqlite_rules.specs.Edit.{edit_of}
 use Rattle.sqlite_schema.specs.declared.schema.Table.{Table}
-use Rattle.kt_store.proofs.RuleLemmas.{is_set_up, has_reals, fits, accounted, still_stands, stands_again}
+use Rattle.kt_store.proofs.EditLemmas.{is_set_up, has_reals, fits, accounted, still_stands, stands_again}
 use Rattle.kt_store.proofs.store_fault.rules.put_rows.Goals as goal
 
 pub write-requires-clause-set_up : goal.write-requires-clause-set_up
