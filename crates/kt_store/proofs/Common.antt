@@ -1,10 +1,10 @@
 -- The names that most proofs of this crate cite, passed on from one place. Declares nothing.
 pub use Rattle.std.proofs.Common.{Bool, Equal, Err, Greater, IfErr, IfOk, IfSome, IsErrAnd, IsPermutation, IsSome, IsTrue, Less, List, MatchBool, None, Ok, OnErr, OnOk, Option, Ordering, Result, SFits, Some, [], ap, append-nil, ap₂, arith, codes, cond, drop, drop-cons, false, filter, fold, get_or, if◌then◌else◌, inl, inr, is_err, is_some, length, length-append, map, nat_le, nat_lt, ne_eqb, negsuc, not, of_z, option_map, pos, refl, reverse, rules, set, slice_get, subst, subst₂, suc, sym, take, to_z, true, true≢false, unsigned_abs, unwrap_or, w64, zero, ℕ, ℤ, ◌%◌, ◌&&◌, ◌++◌, ◌+ℤ◌, ◌+◌, ◌-◌, ◌/◌, ◌<◌, ◌==◌, ◌^◌, ◌||◌, ◌∙◌, ◌∷◌, ◌≡◌, ◌≢◌, ◌≤◌, ◌⊎◌}
 pub use Rattle.std.proofs.Math.Logic.{∥∥₁_elim, ∥∥₁_map}
-pub use Rattle.std.proofs.lemmas.Bool.{and_parts, both_ways, cases_Bool, cases_eq, cases_lt, cond-true, eq-eqb, not-true, or_parts}
+pub use Rattle.std.proofs.lemmas.Bool.{and_parts, both_ways, cases_Bool, cases_eq, cases_lt, cond-true, eq-eqb, not-true, or_left, or_parts, or_right}
 pub use Rattle.std.proofs.lemmas.Bool.Decides.{nat_tests}
 pub use Rattle.std.proofs.lemmas.Int.{ints, to_z-of_z, to_z_pos}
-pub use Rattle.std.proofs.lemmas.List.{append_assoc, drop_more, length-map, map-append, map-id, reverse-append, reverse-reverse, take_all, take_more}
+pub use Rattle.std.proofs.lemmas.List.{append_assoc, drop_more, length-map, map-append, map-id, nil_from_length, reverse-append, reverse-reverse, take_all, take_more}
 pub use Rattle.std.proofs.lemmas.List.Elements.{filter-append, filter_passes, recursion_from_All}
 pub use Rattle.std.proofs.lemmas.List.Sorted.{IsPermutation-append_comm, IsPermutation-append_left, IsPermutation-append_right, IsPermutation-cons, IsPermutation-map, IsPermutation-middle, IsPermutation-refl, IsPermutation-sym, IsPermutation-trans, length_permutation}
 pub use Rattle.std.proofs.lemmas.Option.{none-some, same_Some, slice_get-map, slice_get_past, slice_get_read, slice_get_within}
@@ -19,9 +19,9 @@ pub use Rattle.kt_base.specs.declared.entry.Run.{Run}
 pub use Rattle.kt_base.specs.declared.variable.Variable.{Variable}
 pub use Rattle.sqlite.proofs.Callers.{IsPlain, command_of, never_commits, one_permutation, one_step, reads_as, runs_as, statement_of, survives_begin, unchanged_then}
 pub use Rattle.sqlite.proofs.FileLemmas.{probe_size, same_image}
-pub use Rattle.sqlite.proofs.InsideLemmas.{inside_keeps, keeps_then}
+pub use Rattle.sqlite.proofs.InsideLemmas.{fails_whole, inside_keeps, keeps_then}
 pub use Rattle.sqlite.proofs.OpenLemmas.{meets, pool_files}
-pub use Rattle.sqlite.proofs.StateLemmas.{survives_then, survives_weaker}
+pub use Rattle.sqlite.proofs.StateLemmas.{clean_if_open, survives_then, survives_weaker}
 pub use Rattle.sqlite.specs.Cast.{cast}
 pub use Rattle.sqlite.specs.Collation.TheVariants.{Binary}
 pub use Rattle.sqlite.specs.Command.{Command}
@@ -59,7 +59,7 @@ pub use Rattle.sqlite.specs.declared.types.Value.TheVariants.{Blob, Int, Null, R
 pub use Rattle.sqlite_catalog.proofs.ReadLemmas.{lists_once}
 pub use Rattle.sqlite_catalog.specs.Listing.{IsSound, Lists}
 pub use Rattle.sqlite_exec.specs.Loops.{left_of}
-pub use Rattle.sqlite_keyed.proofs.ListLemmas.{IsPermutation-filter, all-append, all-filter, all-slice_get, all_map, all_weaker, ascending-filter, ascending-map, ascending_from_map, ascending_weaker, filter-map, filter_all, filter_none, filter_same, flat_map_same_on, map-map, slice_get-filter}
+pub use Rattle.sqlite_keyed.proofs.ListLemmas.{IsPermutation-filter, all-append, all-filter, all-map, all-slice_get, all_map, all_weaker, ascending-filter, ascending-map, ascending_from_map, ascending_weaker, filter-map, filter_all, filter_none, filter_same, flat_map_same_on, map-map, map_same, slice_get-filter}
 pub use Rattle.sqlite_keyed.proofs.SortLemmas.{sorted_unique}
 pub use Rattle.sqlite_pages.specs.PageMap.{PageMap}
 pub use Rattle.sqlite_pool.proofs.ResealLemmas.{adopts_of, plain_adopts}
@@ -70,6 +70,7 @@ pub use Rattle.sqlite_pool.specs.StoredLaws.{recovers_once}
 pub use Rattle.sqlite_resolve.specs.declared.compiled.Compiled.{Compiled}
 pub use Rattle.sqlite_rules.proofs.ListLemmas.{all_from, all_more}
 pub use Rattle.sqlite_rules.proofs.LogLemmas.{nothing_logged, still_set_up}
+pub use Rattle.sqlite_rules.proofs.TableLemmas.{int_is}
 pub use Rattle.sqlite_rules.specs.Action.{works}
 pub use Rattle.sqlite_rules.specs.Calls.{ids_of}
 pub use Rattle.sqlite_rules.specs.Cast.{cast_row}
@@ -101,7 +102,7 @@ pub use Rattle.sqlite_trees.specs.Tree.{IsAscending, IsIndex, IsTable, from_key,
 pub use Rattle.sqlite_trees.specs.View.{IsClean, IsOrdered, IsShaped, View, is_int, with_cursor}
 pub use Rattle.sqlite_trees.specs.declared.store.Direction.TheVariants.{Backward}
 pub use Rattle.sqlite_trees.specs.declared.store.Shape.{Shape}
-pub use Rattle.sqlite_value.proofs.OrderLemmas.{value_cmp-Int, value_cmp_total}
+pub use Rattle.sqlite_value.proofs.OrderLemmas.{then-Equal, value_cmp-Int, value_cmp_total}
 pub use Rattle.sqlite_value.specs.Keys.{ascending, entry_cmp, plain, prefix_cmp}
 unfoldable pub use Rattle.sqlite_value.specs.Keys.{first_key}
 pub use Rattle.sqlite_value.specs.Order.{column}

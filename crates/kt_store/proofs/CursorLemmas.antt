@@ -1,5 +1,5 @@
 -- The rows of a run, as an index has their places.
-use Rattle.kt_store.proofs.Common.{AllByRecursion, Blob, Bool, Entry, Equal, Greater, Int, IsAscending, IsAt, IsIndex, IsIndexOf, IsPermutation, IsPermutation-filter, IsPermutation-map, IsPermutation-sym, IsPermutation-trans, IsShaped, IsTable, IsTrue, Keeps, Less, List, Null, Ordering, Places, Real, Row, Run, Schema, Text, Trees, Value, Variable, [], all-filter, all-permutation, all_weaker, ap, ap₂, ascending-filter, ascending-map, ascending_from_map, ascending_weaker, begins, drop, entries_of, entry_cmp, entry_of, entry_row, entry_rows, false, filter, filter-map, filter_all, filter_none, filter_passes, first_key, flat_map, has_rowid, is_eq, is_gt, is_int, is_lt, map, map-id, not, ordering_then, pair_row, pair_rows, plain, pos, prefix_cmp, prop_rows, pull_back, recursion_from_All, refl, rowid, run_at, sorted_unique, subst, sym, true, true≢false, value_cmp, value_cmp_total, ℕ, ℤ, ◌&&◌, ◌++◌, ◌<◌, ◌==◌, ◌∙◌, ◌∷◌, ◌≡◌}
+use Rattle.kt_store.proofs.Common.{AllByRecursion, Bool, Entry, Equal, Greater, Int, IsAscending, IsAt, IsIndex, IsIndexOf, IsPermutation, IsPermutation-filter, IsPermutation-map, IsPermutation-sym, IsPermutation-trans, IsShaped, IsTable, IsTrue, Keeps, Less, List, Null, Ordering, Places, Row, Run, Schema, Trees, Value, Variable, [], all-filter, all-permutation, all_weaker, ap, ap₂, ascending-filter, ascending-map, ascending_from_map, ascending_weaker, begins, drop, entries_of, entry_cmp, entry_of, entry_row, entry_rows, false, filter, filter-map, filter_all, filter_none, filter_passes, first_key, flat_map, has_rowid, id_in, int_is, is_eq, is_gt, is_int, is_lt, map, map-id, not, ordering_then, pair_row, pair_rows, plain, pos, prefix_cmp, prop_rows, pull_back, recursion_from_All, refl, rowid, run_at, sorted_unique, subst, sym, then-Equal, true, value_cmp, value_cmp_total, ℕ, ◌&&◌, ◌++◌, ◌<◌, ◌==◌, ◌∙◌, ◌∷◌, ◌≡◌}
 use Rattle.std.proofs.lemmas.Cmp.{tied_itself}
 use Rattle.sqlite_trees.specs.declared.store.Shape.TheVariants.{Table}
 use Rattle.sqlite_trees.proofs.TreeLemmas.{IsSortedTree, prefix_cmp_follows, from_key-filter, sorted_index, later_rowids}
@@ -12,13 +12,6 @@ use Rattle.kt_store.proofs.Values.{below, equal, same_test}
 
 -- ---- each row of a table is the one of its rowid
 
-int_of : (v : Value) → IsTrue (is_int v) → (id : ℤ) × (v ≡ Int id)
-int_of Null h = absurd (true≢false (sym h))
-int_of (Int n) h = (n, refl)
-int_of (Real x) h = absurd (true≢false (sym h))
-int_of (Text t) h = absurd (true≢false (sym h))
-int_of (Blob b) h = absurd (true≢false (sym h))
-
 keep_head : (p : Row → Bool) (x : Row) (xs : List Row) → p x ≡ true → filter p xs ≡ [] → filter p (x ∷ xs) ≡ x ∷ []
 keep_head p x xs here none = rw here (ap (λ l. x ∷ l) none)
 
@@ -28,10 +21,11 @@ drop_head p x xs ys other is = rw other is
 alone : (rows : List Row) → IsTable rows → AllByRecursion (λ r. IsTrue (is_int (rowid r))) rows → AllByRecursion (IsAt rows) rows
 alone [] up ints = tt
 alone (x ∷ xs) up ints =
-    let i = int_of (rowid x) ints.0 in
-    let tie : value_cmp (rowid x) (Int i.0) ≡ Equal = ap (λ v. value_cmp (rowid x) v) (sym i.1) ∙ tied_itself value_cmp_total (rowid x) in
-    let none = filter_none (has_rowid i.0) xs (later_rowids (Int i.0) x xs (ap is_lt tie) up.0) in
-    ((i.0, i.1, keep_head (has_rowid i.0) x xs (ap is_eq tie) none), each xs up.0 (alone xs up.1 ints.1))
+    let id = id_in (rowid x) in
+    let is = int_is (rowid x) ints.0 in
+    let tie : value_cmp (rowid x) (Int id) ≡ Equal = ap (λ v. value_cmp (rowid x) v) (sym is) ∙ tied_itself value_cmp_total (rowid x) in
+    let none = filter_none (has_rowid id) xs (later_rowids (Int id) x xs (ap is_lt tie) up.0) in
+    ((id, is, keep_head (has_rowid id) x xs (ap is_eq tie) none), each xs up.0 (alone xs up.1 ints.1))
   where
     each : (ys : List Row) → AllByRecursion (λ y. value_cmp (rowid x) (rowid y) ≡ Less) ys → AllByRecursion (IsAt xs) ys → AllByRecursion (IsAt (x ∷ xs)) ys
     each [] less at = tt
@@ -154,11 +148,6 @@ run_key n = Int (pos n) ∷ []
 abbrev entry_key : ℕ → ℕ → Row
 entry_key n p = Int (pos n) ∷ Int (pos p) ∷ []
 
-then_equal : (c : Ordering) → is_eq (ordering_then c Equal) ≡ is_eq c
-then_equal Less = refl
-then_equal Equal = refl
-then_equal Greater = refl
-
 then_both : (c d : Ordering) → is_eq (ordering_then c (ordering_then d Equal)) ≡ is_eq c && is_eq d
 then_both Less d = refl
 then_both Equal Less = refl
@@ -176,7 +165,7 @@ same_entry n p (x ∷ r) = refl
 
 in_run : (n m : ℕ) (e : Entry) → begins (run_key n) (entry_of cs (back (entry_row m e))) ≡ (m == n) && true
 unfolding first_key
-in_run n m e = then_equal (value_cmp (Int (pos m)) (Int (pos n))) ∙ same_test m n ∙ sym (and_true (m == n))
+in_run n m e = ap is_eq (then-Equal (value_cmp (Int (pos m)) (Int (pos n)))) ∙ same_test m n ∙ sym (and_true (m == n))
 
 at_place : (n p m : ℕ) (e : Entry) → begins (entry_key n p) (entry_of cs (back (entry_row m e))) ≡ (m == n) && (e.position == p)
 unfolding first_key
@@ -225,7 +214,7 @@ same_pair n (x ∷ r) = refl
 
 pair_in_run : (n m p k : ℕ) (v : Variable) → begins (run_key n) (entry_of cs3 (back (pair_row m p k v))) ≡ (m == n)
 unfolding first_key
-pair_in_run n m p k v = then_equal (value_cmp (Int (pos m)) (Int (pos n))) ∙ same_test m n
+pair_in_run n m p k v = ap is_eq (then-Equal (value_cmp (Int (pos m)) (Int (pos n)))) ∙ same_test m n
 
 pub places_of_pairs : (runs : List Run) (trees : Trees) → Keeps runs trees → IsShaped Table (trees 5) → IsIndex plain (trees 6) → (n : ℕ)
     → Places cs3 (run_key n) (flat_map (pair_rows n) (entries_of (run_at runs n))) (trees 5) (trees 6)

@@ -1,8 +1,7 @@
 -- What a write asks of a store that obeys its schema, and what its rows make of the tables of runs.
-use Rattle.kt_store.proofs.Common.{Fits, ForeignKey, IsCatalogOf, IsListed, IsOrdered, List, Lists, Obeys, Refers, View, [], all_from, ap, arith, catalog_tree, nothing_logged, refl, subst, sym, true, ℕ, ◌∙◌, ◌≡◌, ◌≤◌, AreNumbered, CanAdd, Chosen, Database, Enforced, Entry, Fills, Given, IsComplete, IsSound, Keeps, None, PutsRows, Row, Run, Schema, Some, Tables, Tally, Trees, Variable, ap₂, begun_row, cast_row, done_row, drop, edit_of, entries_1, entry_row, entry_rows, false, finish, get_or, ids_of, last_id, length, lists_once, map, nat_tests, new_run, one_step, pair_row, pair_rows, pair_rows_from, places_2, pos, prop_rows, props_1, run_at, runs_1, schema_2, suc, take, unnumbered, with_entry, works, zero, ℤ, ◌++◌, ◌+◌, ◌<◌, ◌==◌, ◌∷◌}
+use Rattle.kt_store.proofs.Common.{AreNumbered, CanAdd, Chosen, Database, Enforced, Entry, Fills, Fits, ForeignKey, Given, IsCatalogOf, IsComplete, IsListed, IsOrdered, IsSound, Keeps, List, Lists, None, Obeys, PutsRows, Refers, Row, Run, Schema, Some, Tables, Tally, Trees, Variable, View, [], all_from, ap, ap₂, arith, begun_row, cast_row, catalog_tree, done_row, drop, edit_of, entries_1, entry_row, entry_rows, false, finish, get_or, ids_of, last_id, length, lists_once, map, nat_tests, new_run, nothing_logged, one_step, pair_row, pair_rows, pair_rows_from, places_2, pos, prop_rows, props_1, refl, run_at, runs_1, schema_2, subst, suc, sym, take, true, unnumbered, with_entry, works, zero, ℕ, ℤ, ◌++◌, ◌+◌, ◌<◌, ◌==◌, ◌∙◌, ◌∷◌, ◌≡◌, ◌≤◌}
 use Rattle.sqlite_sql.specs.declared.query.Index.{Index}
 use Rattle.sqlite_exec.specs.Calls.{OnlyReads}
-use Rattle.sqlite_schema.specs.declared.schema.Schema.{Schema}
 use Rattle.sqlite_schema.specs.declared.schema.Among.TheVariants.{All}
 use Rattle.sqlite_rules.specs.Calls.{IsSetUp, HasReals, Advances}
 use Rattle.sqlite_rules.specs.Log.{Accounts}

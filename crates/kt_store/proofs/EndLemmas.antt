@@ -1,6 +1,6 @@
 -- How calls end that write the trees of a store: committed, or gone back to the last commit.
-use Rattle.kt_store.proofs.Common.{Agrees, Bool, Database, Ended, Err, Ghosts, HasCleanDisk, HasCommitted, HasRuns, Held, HoldsCommit, IsLive, IsSettledStore, IsSound, IsTrue, Keeps, KeepsOne, List, Lists, Looks, Ok, Outlasts, Result, Run, Schema, Serves, StandAt, StandsFor, StoreCall, StoreFault, Trees, Wrote, ap, catalog_tree, changed_by, false, inl, inr, is_err, lists_once, no_doubt, places_2, readings, refl, runs_file, schema_2, state, subst, sym, true, true≢false, ◌∙◌, ◌∷◌, ◌≡◌}
-use Rattle.sqlite_trees.specs.View.{View, IsClean, IsRolledBack, doubt}
+use Rattle.kt_store.proofs.Common.{Agrees, Bool, Database, Ended, Err, Ghosts, HasCleanDisk, HasCommitted, HasRuns, Held, HoldsCommit, IsLive, IsSettledStore, IsSound, IsTrue, Keeps, KeepsOne, List, Lists, Looks, Ok, Outlasts, Result, Run, Schema, Serves, StandAt, StandsFor, StoreCall, StoreFault, Trees, Wrote, ap, catalog_tree, changed_by, clean_if_open, false, inl, inr, is_err, lists_once, places_2, readings, refl, runs_file, schema_2, state, subst, sym, true, true≢false, ◌∙◌, ◌∷◌, ◌≡◌}
+use Rattle.sqlite_trees.specs.View.{View, IsClean, IsRolledBack}
 use Rattle.kt_store.specs.declared.places.Places.{Places}
 use Rattle.kt_store.proofs.SeenLemmas.{read_serves}
 use Rattle.kt_store.proofs.ServeLemmas.{IsWrite}
@@ -11,14 +11,6 @@ use Rattle.kt_store.proofs.Numbered.{numbers_changed, ordered_changed}
 pub open_of : (is_open is_broken : Bool) → (is_open ≡ false → IsTrue is_broken) → is_broken ≡ false → IsTrue is_open
 open_of true is_broken law sound = refl
 open_of false is_broken law sound = absurd (true≢false (sym (law refl) ∙ sound))
-
--- and one that is open is clean
-pub clean_of_open : (v : View) → (v.is_clean ≡ false → v.is_open ≡ false) → IsTrue v.is_open → IsClean v
-clean_of_open v law opened = go v.is_clean law
-  where
-    go : (clean : Bool) → (clean ≡ false → v.is_open ≡ false) → doubt clean ≡ 0
-    go true law = no_doubt true refl
-    go false law = absurd (true≢false (sym opened ∙ law refl))
 
 module _ (old new : View) (back : IsRolledBack old new) (clean : IsClean new) where
   pub rolled_held : HoldsCommit old new
@@ -43,7 +35,7 @@ looked_settled g old new schema dirty looks is = record {
       let same = looks.same clean sound in
       ap (λ (v : View). v.trees) same ∙ is.settled (looks.clean clean) (ap (λ (v : View). v.is_broken) (sym same) ∙ sound) ∙ ap (λ (v : View). v.committed) (sym same);
   sound = λ opened.
-      let held = looks.held (clean_of_open (g.view new) dirty opened) opened in
+      let held = looks.held (clean_if_open (g.view new) dirty opened) opened in
       subst (IsSound schema) (sym held.1) (is.sound held.0);
 }
 
@@ -52,7 +44,7 @@ module _ {S : Type 0} (g : Ghosts S) (dirty : (s : S) → (g.view s).is_clean �
 
   module _ (old new : S) (looks : Looks g old new) (is : IsSettledStore (g.view old) schema) where
     still : (runs : List Run) → HasCommitted (g.view old) runs → HasCommitted (g.view new) runs
-    still runs h opened = let held = looks.held (clean_of_open (g.view new) (dirty new) opened) opened in subst (Keeps runs) (sym held.1) (h held.0)
+    still runs h opened = let held = looks.held (clean_if_open (g.view new) (dirty new) opened) opened in subst (Keeps runs) (sym held.1) (h held.0)
 
     pub read_served : (call : StoreCall) → ((runs : List Run) → changed_by call runs ≡ runs)
         → ((runs : List Run) (may : List (List Run)) → ((runs_file g).leaves old may → (runs_file g).leaves new may) → Outlasts (runs_file g).leaves call runs may old new)
@@ -86,7 +78,7 @@ module _ {S : Type 0} (g : Ghosts S) (dirty : (s : S) → (g.view s).is_clean �
         record {
           asked = tt;
           stands = λ runs h. made (call (Ok x)) runs h (λ late. done.agrees runs (has runs h) (ended.clean late)) (λ late. wrote.clean (ended.clean late)) (λ opened.
-              let late = clean_of_open (g.view new) (dirty new) opened in
+              let late = clean_if_open (g.view new) (dirty new) opened in
               subst (Keeps (changed_by (call (Ok x)) runs)) (sym (ended.done late).1) (done.rows runs (has runs h) (ended.clean late)));
           earlier = λ runs h late. wrote.clean (ended.clean late);
           agrees = λ runs h late. done.agrees runs (has runs h) (ended.clean late);
@@ -97,7 +89,7 @@ module _ {S : Type 0} (g : Ghosts S) (dirty : (s : S) → (g.view s).is_clean �
     ended_served written (Err e) wrote ended = record {
       asked = tt;
       stands = λ runs h. made (call (Err e)) runs h (agrees runs h) (λ late. wrote.clean (ended.clean late)) (λ opened.
-          let late = clean_of_open (g.view new) (dirty new) opened in
+          let late = clean_if_open (g.view new) (dirty new) opened in
           let second = ended.kept late opened in
           let first = wrote.held (ended.clean late) second.0 in
           subst (λ l. Keeps l (g.view new).committed) (sym (writes.refused e runs)) (subst (Keeps runs) (sym (second.1 ∙ first.1)) (h.0 first.0)));
@@ -119,13 +111,13 @@ module _ {S : Type 0} (g : Ghosts S) (dirty : (s : S) → (g.view s).is_clean �
     ended_settled written (Ok x) wrote ended = record {
       settled = ended.settled;
       sound = λ opened.
-          let late = clean_of_open (g.view new) (dirty new) opened in
+          let late = clean_if_open (g.view new) (dirty new) opened in
           subst (IsSound schema) (sym (ended.done late).1) ((subst (λ r. Wrote g schema call old mid r) ended.value wrote).obeys (ended.clean late)).sound;
     }
     ended_settled written (Err e) wrote ended = record {
       settled = ended.settled;
       sound = λ opened.
-          let late = clean_of_open (g.view new) (dirty new) opened in
+          let late = clean_if_open (g.view new) (dirty new) opened in
           let second = ended.kept late opened in
           let first = wrote.held (ended.clean late) second.0 in
           subst (IsSound schema) (sym (second.1 ∙ first.1)) (is.sound first.0);
@@ -143,12 +135,12 @@ settled_by v listed same lists has opened =
 module _ {S : Type 0} (g : Ghosts S) (held : Held S) (new : S) (dirty : (g.view new).is_clean ≡ false → (g.view new).is_open ≡ false) (lives : IsLive (state g held)) (undone : IsRolledBack (g.view held.store) (g.view new)) where
   pub still_sound : IsTrue (g.view new).is_open → (schema : Schema) × IsSound schema (g.view new).committed
   still_sound opened =
-      let was = rolled_held (g.view held.store) (g.view new) undone (clean_of_open (g.view new) dirty opened) opened in
+      let was = rolled_held (g.view held.store) (g.view new) undone (clean_if_open (g.view new) dirty opened) opened in
       ((state g held).committed.schema, subst (IsSound (state g held).committed.schema) (sym was.1) (lives was.0).1)
 
   pub still_stands : (IsClean (g.view new) → HasCleanDisk (state g held)) → (runs : List Run) → StandsFor (state g held) runs → HasCommitted (g.view new) runs
   still_stands earlier runs has opened =
-      let clean = clean_of_open (g.view new) dirty opened in
+      let clean = clean_if_open (g.view new) dirty opened in
       let was = rolled_held (g.view held.store) (g.view new) undone clean opened in
       let is = has (earlier clean) was.0 in
       let trees : (g.view new).committed ≡ (state g held).now.trees = was.1 ∙ ap (λ (d : Database). d.trees) is.settled in

@@ -1,5 +1,5 @@
 -- What queries of the entries answer.
-use Rattle.kt_store.proofs.Common.{AreNumbered, Bool, Entry, Int, IsPermutation, IsPermutation-filter, IsPermutation-map, List, None, Null, Option, Row, Run, Some, Term, [], ap, append-nil, ap₂, arith, binary, col, cond, drop, entries_of, entry_row, entry_rows, false, filter, filter-append, flat_map, from_truth, holds, is_true, list_all, map, nat_tests, option_to_list, pos, refl, run_at, slice_get, subst, suc, sym, true, zero, ℕ, ◌&&◌, ◌++◌, ◌+◌, ◌<◌, ◌==◌, ◌∙◌, ◌∷◌, ◌≡◌, ◌≢◌}
+use Rattle.kt_store.proofs.Common.{AreNumbered, Bool, Entry, Int, IsPermutation, IsPermutation-filter, IsPermutation-map, List, None, Null, Option, Row, Run, Some, Term, [], all-map, ap, append-nil, ap₂, arith, binary, col, drop, entries_of, entry_row, entry_rows, false, filter, filter-append, filter-map, filter_none, filter_same, flat_map, from_truth, holds, is_true, list_all, map, map-map, map_same, nat_tests, option_to_list, pos, refl, run_at, slice_get, subst, suc, sym, true, zero, ℕ, ◌&&◌, ◌++◌, ◌+◌, ◌<◌, ◌==◌, ◌∙◌, ◌∷◌, ◌≡◌, ◌≢◌}
 use Rattle.kt_store.proofs.SqlFacts.{is}
 use Rattle.kt_store.proofs.Values.{same_test}
 
@@ -10,13 +10,9 @@ back row = Null ∷ row
 module _ {X : Type 0} (stored all : List Row) (are : IsPermutation all (map (drop 1) stored)) (passes : Row → Bool) (show : Row → X)
     (same_passes : (r : Row) → passes r ≡ passes (back (drop 1 r))) (same_show : (r : Row) → show r ≡ show (back (drop 1 r))) where
   without_id : (rows : List Row) → map show (filter passes rows) ≡ map (λ r. show (back r)) (filter (λ r. passes (back r)) (map (drop 1) rows))
-  without_id [] = refl
-  without_id (r ∷ rows) = rw (sym (same_passes r)) (go (passes r) (without_id rows))
-    where
-      go : (b : Bool) → map show (filter passes rows) ≡ map (λ r. show (back r)) (filter (λ r. passes (back r)) (map (drop 1) rows)) → map show (cond b (r ∷ filter passes rows) (filter passes rows))
-          ≡ map (λ r. show (back r)) (cond b (drop 1 r ∷ filter (λ r. passes (back r)) (map (drop 1) rows)) (filter (λ r. passes (back r)) (map (drop 1) rows)))
-      go true more = ap₂ (λ x xs. x ∷ xs) (same_show r) more
-      go false more = more
+  without_id rows =
+      ap (map show) (filter_same passes (λ r. passes (back (drop 1 r))) same_passes rows) ∙ map_same show (λ r. show (back (drop 1 r))) same_show (filter (λ r. passes (back (drop 1 r))) rows)
+      ∙ sym (map-map (λ r. show (back r)) (drop 1) (filter (λ r. passes (back (drop 1 r))) rows)) ∙ ap (map (λ r. show (back r))) (sym (filter-map (λ r. passes (back r)) (drop 1) rows))
 
   pub of_stored : IsPermutation (map (λ r. show (back r)) (filter (λ r. passes (back r)) all)) (map show (filter passes stored))
   of_stored = subst (λ l. IsPermutation (map (λ r. show (back r)) (filter (λ r. passes (back r)) all)) l) (sym (without_id stored))
@@ -44,22 +40,14 @@ of_one test rows shown (suc k) here apart runs h = one_from test rows shown (suc
 -- the entries of one run, of those of all
 module _ (test : Row → Bool) (keep : Entry → Bool) (n : ℕ) (each : (m : ℕ) (e : Entry) → test (entry_row m e) ≡ (m == n) && keep e) where
   hit : (m : ℕ) → m ≡ n → (es : List Entry) → filter test (map (entry_row m) es) ≡ map (entry_row n) (filter keep es)
-  hit m is [] = refl
-  hit m is (e ∷ es) =
+  hit m is es =
       let same : (m == n) ≡ true = grind (arith, nat_tests, is) in
-      let tested : test (entry_row m e) ≡ keep e = rw (each m e, same) refl in
-      rw tested (go (keep e) (hit m is es))
-    where
-      go : (b : Bool) → filter test (map (entry_row m) es) ≡ map (entry_row n) (filter keep es) → cond b (entry_row m e ∷ filter test (map (entry_row m) es)) (filter test (map (entry_row m) es)) ≡ map (entry_row n) (cond b (e ∷ filter keep es) (filter keep es))
-      go true more = ap₂ (λ x xs. x ∷ xs) (ap (λ k. entry_row k e) is) more
-      go false more = more
+      filter-map test (entry_row m) es ∙ ap (map (entry_row m)) (filter_same (λ e. test (entry_row m e)) keep (λ e. rw (each m e, same) refl) es) ∙ ap (λ k. map (entry_row k) (filter keep es)) is
 
   miss : (m : ℕ) → m ≢ n → (es : List Entry) → filter test (map (entry_row m) es) ≡ []
-  miss m apart [] = refl
-  miss m apart (e ∷ es) =
+  miss m apart es =
       let other : (m == n) ≡ false = grind (arith, nat_tests, apart) in
-      let tested : test (entry_row m e) ≡ false = rw (each m e, other) refl in
-      rw tested (miss m apart es)
+      filter_none test (map (entry_row m) es) (all-map (λ r. test r ≡ false) (entry_row m) (λ e. rw (each m e, other) refl) es)
 
 pub of_run : (test : Row → Bool) (keep : Entry → Bool) (n : ℕ) (runs : List Run) → ((m : ℕ) (e : Entry) → test (entry_row m e) ≡ (m == n) && keep e) → AreNumbered 1 runs
     → filter test (entry_rows runs) ≡ map (entry_row n) (filter keep (entries_of (run_at runs n)))

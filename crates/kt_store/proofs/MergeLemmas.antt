@@ -1,5 +1,5 @@
 -- Entries with their pairs, by the rows of both.
-use Rattle.kt_store.proofs.Common.{AllByRecursion, Bool, CaseOutputs, Entry, Int, IsAscending, IsEntry, IsPair, List, Row, Variable, [], all_map, ap, append-nil, append_assoc, arith, as_shown, ascending-map, column, drop, entry_columns, false, get_or, inl, inr, length, map, map-id, map-map, output_columns, outputs_of, pair_columns, pairs_shown, pos, refl, shown_columns, subst, suc, sym, take, true, width_of, with_pairs, zero, ℕ, ◌++◌, ◌<◌, ◌∙◌, ◌∷◌, ◌≡◌, ◌≢◌, ◌≤◌, ◌⊎◌}
+use Rattle.kt_store.proofs.Common.{AllByRecursion, Bool, CaseOutputs, Entry, Int, IsAscending, IsEntry, IsPair, List, Row, Variable, [], all_map, all_weaker, ap, append-nil, append_assoc, arith, as_shown, ascending-map, column, drop, entry_columns, false, get_or, inl, inr, length, map, map-id, map-map, output_columns, outputs_of, pair_columns, pairs_shown, pos, refl, shown_columns, subst, suc, sym, take, true, width_of, with_pairs, zero, ℕ, ◌++◌, ◌<◌, ◌∙◌, ◌∷◌, ◌≡◌, ◌≢◌, ◌≤◌, ◌⊎◌}
 
 abbrev pub Later : ℕ → List Entry → Type 0
 Later p others = AllByRecursion (λ (e : Entry). p < e.position) others
@@ -107,13 +107,9 @@ none_shown (e ∷ es) = none_shown es
 pub all_shown : (es : List Entry) → pairs_shown es ≡ pairs_shown (map (with_pairs true) es)
 all_shown es = ap pairs_shown (sym (map-id es))
 
-bare_sound : (es : List Entry) → AllByRecursion IsEntry es → AllByRecursion (λ e. IsEntry (with_pairs false e)) es
-bare_sound [] sound = tt
-bare_sound (e ∷ es) sound = (record { program = sound.0.program; case_name = sound.0.case_name; reason = sound.0.reason; passed = sound.0.passed; meta = tt }, bare_sound es sound.1)
-
 pub still_sound : (pairs : Bool) (es : List Entry) → AllByRecursion IsEntry es → AllByRecursion IsEntry (map (with_pairs pairs) es)
 still_sound true es sound = all_map IsEntry (with_pairs true) es sound
-still_sound false es sound = all_map IsEntry (with_pairs false) es (bare_sound es sound)
+still_sound false es sound = all_map IsEntry (with_pairs false) es (all_weaker IsEntry (λ e. IsEntry (with_pairs false e)) (λ e s. record { program = s.program; case_name = s.case_name; reason = s.reason; passed = s.passed; meta = tt }) es sound)
 
 pub still_up : (pairs : Bool) (es : List Entry) → IsAscending (λ (a b : Entry). a.position < b.position) es → IsAscending (λ (a b : Entry). a.position < b.position) (map (with_pairs pairs) es)
 still_up true es up = ascending-map (λ (a b : Entry). a.position < b.position) (with_pairs true) es up

@@ -19,13 +19,17 @@ pub passes_it : (n : ℤ) (x : Value) → passes (x ∷ Text (codes "schema") �
 unfolding binary value_cmp lib.Ieee.is_nan lib.Ieee.lt
 passes_it n x = refl
 
-one_shown : (n : ℤ) (rows : List Row) → map (drop 1) rows ≡ (Text (codes "schema") ∷ Int n ∷ []) ∷ [] → map shows (filter passes rows) ≡ (Int n ∷ []) ∷ []
-one_shown n [] h = absurd cc
-one_shown n ([] ∷ rows) h = absurd cc
-one_shown n ((x ∷ r) ∷ []) h =
+-- the row of the schema's number, whatever its rowid
+pub one_row : (n : ℤ) (rows : List Row) → map (drop 1) rows ≡ (Text (codes "schema") ∷ Int n ∷ []) ∷ [] → (x : Value) × (rows ≡ (x ∷ Text (codes "schema") ∷ Int n ∷ []) ∷ [])
+one_row n [] is = absurd cc
+one_row n ([] ∷ rows) is = absurd cc
+one_row n ((x ∷ r) ∷ []) is =
     let same : r ≡ Text (codes "schema") ∷ Int n ∷ [] = cc in
-    subst (λ l. map shows (filter passes ((x ∷ l) ∷ [])) ≡ (Int n ∷ []) ∷ []) (sym same) (rw (passes_it n x) refl)
-one_shown n ((x ∷ r) ∷ s ∷ rows) h = absurd cc
+    (x, ap (λ l. (x ∷ l) ∷ []) same)
+one_row n ((x ∷ r) ∷ s ∷ rows) is = absurd cc
+
+one_shown : (n : ℤ) (rows : List Row) → map (drop 1) rows ≡ (Text (codes "schema") ∷ Int n ∷ []) ∷ [] → map shows (filter passes rows) ≡ (Int n ∷ []) ∷ []
+one_shown n rows h = let it = one_row n rows h in subst (λ l. map shows (filter passes l) ≡ (Int n ∷ []) ∷ []) (sym it.1) (rw (passes_it n it.0) refl)
 
 pub tells_meta : (old new : State) (n : ℤ) (rows : List Row) → SaysNumber n old → Shown meta_text [] old new rows → rows ≡ (Int n ∷ []) ∷ []
 tells_meta old new n rows it h =

@@ -1,5 +1,5 @@
 -- When a run takes an entry; and runs stay numbered by place, and their entries ordered.
-use Rattle.kt_store.proofs.Common.{AllByRecursion, AreRuns, BadPosition, Bool, CanAdd, Entry, IsAscending, IsBareIfPassed, IsEntry, IsRun, List, None, RepeatedPosition, Run, RunClosed, Some, [], ap, arith, cases_Bool, cond, entries_of, false, has_position, inl, inr, insert_at, nat_le, nat_lt, nat_tests, or_parts, put_refusal, put_refusal_of, refl, run_at, slice_get_within, suc, sym, true, zero, ℕ, ◌+◌, ◌<◌, ◌==◌, ◌∙◌, ◌∷◌, ◌≡◌, ◌≤◌, Agrees, AreNumbered, AreOrdered, Began, Err, Finished, Heads, Ok, Option, Outline, Outputs, Put, StoreCall, all-append, all-slice_get, changed_by, finish, if◌then◌else◌, length, new_run, slice_get, with_entry, ◌++◌}
+use Rattle.kt_store.proofs.Common.{Agrees, AllByRecursion, AreNumbered, AreOrdered, AreRuns, BadPosition, Began, Bool, CanAdd, Entry, Err, Finished, Heads, IsAscending, IsBareIfPassed, IsEntry, IsRun, List, None, Ok, Option, Outline, Outputs, Put, RepeatedPosition, Run, RunClosed, Some, StoreCall, [], all-append, all-slice_get, ap, arith, cases_Bool, changed_by, cond, entries_of, false, finish, has_position, if◌then◌else◌, inl, inr, insert_at, length, nat_le, nat_lt, nat_tests, new_run, or_parts, put_refusal, put_refusal_of, refl, run_at, slice_get, slice_get_within, suc, sym, true, with_entry, zero, ℕ, ◌++◌, ◌+◌, ◌<◌, ◌==◌, ◌∙◌, ◌∷◌, ◌≡◌, ◌≤◌}
 use Rattle.kt_store.proofs.RunsByNumber.{entry_each, run_of}
 
 abbrev pub lower : Entry → Entry → Type 0

@@ -1,5 +1,5 @@
 -- A file that holds runs lists the schema of their tables, and what was taken of it has these runs.
-use Rattle.kt_store.proofs.Common.{AllByRecursion, AreOrdered, Bool, Current, Database, Err, FileStore, HasCleanDisk, HasCommitted, Held, HoldsAt, HoldsIn, HoldsRuns, IfOk, IfSome, Image, Int, IsClean, IsRun, Keeps, List, Lists, Looks, Ok, OpensOver, OpensRuns, Option, PageMap, Recovers, Result, Row, Run, Schema, Shape, Some, StandsFor, StoreFault, Table, Tables, Trees, Trees-set, Value, View, [], ap, ap₂, arith, catalog_tree, cond, entries_1, false, file_state, get_or, in_use, index_reals, inr, joined, layout_at, layout_of, length, lists_once, map, map-map, meets, meta_1, none-some, number_in, over_files, plain, plain_adopts, pos, props_1, recovers, recovers_once, refl, rowid, rows_at, same_Some, schema_2, shut_if_dirty_at, subst, sym, table_reals, true, unrooted, version_in, view, with_version, ℕ, ∥∥₁_elim, ◌%◌, ◌-◌, ◌<◌, ◌∙◌, ◌∷◌, ◌≡◌, ◌≢◌, ◌≤◌}
+use Rattle.kt_store.proofs.Common.{AllByRecursion, AreOrdered, Bool, Current, Database, Err, FileStore, HasCleanDisk, HasCommitted, Held, HoldsAt, HoldsIn, HoldsRuns, IfOk, IfSome, Image, Int, IsClean, IsRun, Keeps, List, Lists, Looks, Ok, OpensOver, OpensRuns, Option, PageMap, Recovers, Result, Row, Run, Schema, Shape, Some, StandsFor, StoreFault, Table, Tables, Trees, Trees-set, Value, View, [], ap, ap₂, arith, catalog_tree, clean_if_open, cond, entries_1, false, file_state, get_or, in_use, index_reals, inr, joined, layout_at, layout_of, length, lists_once, map, map-map, meets, meta_1, none-some, number_in, over_files, plain, plain_adopts, pos, props_1, recovers, recovers_once, refl, rowid, rows_at, same_Some, schema_2, shut_if_dirty_at, subst, sym, table_reals, true, unrooted, version_in, view, with_version, ℕ, ∥∥₁_elim, ◌%◌, ◌-◌, ◌<◌, ◌∙◌, ◌∷◌, ◌≡◌, ◌≢◌, ◌≤◌}
 use Rattle.std.specs.Result.{result_ok}
 use Rattle.sqlite_trees.specs.declared.store.Shape.TheVariants as kind
 use Rattle.sqlite_store.specs.declared.catalog.Wanted.{Wanted}
@@ -8,7 +8,6 @@ use Rattle.sqlite_store.proofs.AlikeLemmas.{same_file}
 use Rattle.sqlite_catalog.specs.Reading.{AreShaped}
 use Rattle.sqlite_disk.specs.declared.Disk.{Ghosts}
 use Rattle.sqlite_disk.specs.Events.{Event, replay}
-use Rattle.kt_store.proofs.EndLemmas.{clean_of_open}
 use Rattle.kt_store.specs.Files.{AreOver, Finds, Follows, IsOver}
 
 -- a result that was taken as an option
@@ -104,7 +103,7 @@ pub opens_runs : {D : Type 0} {g : Ghosts D} (image : Image) (old new : FileStor
 opens_runs image old new looks settled unbroken opens = record {
   stands = λ runs h. (
     λ opened.
-        let clean = clean_of_open (view new) (shut_if_dirty_at new) opened in
+        let clean = clean_if_open (view new) (shut_if_dirty_at new) opened in
         let held = looks.held clean opened in
         subst (Keeps runs) (settled ∙ sym held.1) ((opens (looks.clean clean)).holds runs h (unbroken (looks.clean clean))),
     h.2.3.valid.numbered,

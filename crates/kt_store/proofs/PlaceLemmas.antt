@@ -1,5 +1,5 @@
 -- What a cursor finds that goes over the places of a key, or to the last row.
-use Rattle.kt_store.proofs.Common.{AllByRecursion, AreNumbered, Backward, Int, IsAt, List, None, Places, Row, Run, Shows, Some, [], all-append, ap, append-nil, append_assoc, arith, begins, column, drop, entry_of, false, filter, from_key, has_rowid, in_columns, left_of, length, length-append, length-map, map, map-append, plain, pos, refl, reverse, reverse-append, reverse-reverse, rowid, run_row, slice_get, sought, subst, suc, sym, take, true, true≢false, unwrap_or, up_to_key, ℕ, ℤ, ◌++◌, ◌+◌, ◌∙◌, ◌∷◌, ◌≡◌}
+use Rattle.kt_store.proofs.Common.{AllByRecursion, AreNumbered, Backward, Int, IsAt, List, None, Places, Row, Run, Shows, Some, [], all-append, ap, append-nil, append_assoc, arith, begins, column, drop, entry_of, false, filter, from_key, has_rowid, in_columns, length, length-append, length-map, map, map-append, plain, pos, refl, reverse, reverse-append, reverse-reverse, rowid, run_row, slice_get, sought, subst, suc, sym, take, true, true≢false, up_to_key, ℕ, ℤ, ◌++◌, ◌+◌, ◌∙◌, ◌∷◌, ◌≡◌}
 use Rattle.sqlite_trees.specs.View.{View, Advances, with_cursor}
 use Rattle.sqlite_value.specs.declared.keys.Order.{Order}
 
@@ -134,10 +134,3 @@ sought_none old mid new o rows row is end = let e : Some (reverse (up_to_key o [
 
 pub sought_one : (old mid new : View) (o : Order) (rows : List Row) (row : Row) → mid ≡ with_cursor old 0 (sought o Backward [] rows) → Advances mid new 0 row true → (left : List Row) × (reverse (up_to_key o [] rows) ≡ row ∷ left)
 sought_one old mid new o rows row is one = (one.0, let e : Some (reverse (up_to_key o [] rows)) ≡ Some (row ∷ one.0) = sym (ap (λ (v : View). v.cursors 0) is) ∙ one.1 in cc)
-
--- what a cursor had left before it gave its next place, or was at its end
-pub left_none : (mid new : View) (row : Row) → Advances mid new 0 row false → left_of mid 0 ≡ []
-left_none mid new row end = ap (λ o. unwrap_or o []) end.0
-
-pub left_is : (mid new : View) (row : Row) → Advances mid new 0 row true → left_of mid 0 ≡ row ∷ left_of new 0
-left_is mid new row one = ap (λ o. unwrap_or o []) one.1 ∙ ap (λ l. row ∷ l) (sym (ap (λ (v : View). left_of v 0) one.2))

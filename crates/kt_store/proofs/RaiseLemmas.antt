@@ -1,5 +1,5 @@
 -- What the statements do that take schema 1 to schema 2.
-use Rattle.kt_store.proofs.Common.{AllByRecursion, Applies, AtPlace, Blob, Bool, Database, Does, Enforced, Equal, Executes, Ghosts, Given, Greater, Held, Int, Integer, IsDatabase, IsPermutation, IsPermutation-refl, IsTrue, Less, List, Mode, None, Null, Ok, OldTables, OnRows, Option, Ordering, Program, Real, Row, Run, RunInTurn, State, Tables, Tally, Task, Term, Text, Trees, Unique, Update, Value, [], agree, ap, are_fresh, arith, begun, binary, cast, clashes, codes, col, cond, create_props, differ, drop, edit_of, entry_rows, false, filter, first_key, has_rowid, have_rowids, id_in, ids_of, ints, is_eq, is_int, is_null, lit, map, match_ordering, meta_1, mode_of, not, one_permutation, one_step, passes, plain, pos, prop_rows, props, put_all, raise_statements, raise_text, refl, runs_as, schema_1, schema_2, slice_get, state, statement_of, subst, sym, taken_by, true, understood, value_cmp, value_cmp-Int, without_rowid, works, ℕ, ◌&&◌, ◌||◌, ◌∙◌, ◌∷◌, ◌≡◌}
+use Rattle.kt_store.proofs.Common.{AllByRecursion, Applies, AtPlace, Blob, Bool, Database, Does, Enforced, Equal, Executes, Ghosts, Given, Greater, Held, Int, Integer, IsDatabase, IsPermutation, IsPermutation-refl, IsTrue, Less, List, Mode, None, Null, Ok, OldTables, OnRows, Option, Ordering, Program, Real, Row, Run, RunInTurn, State, Tables, Tally, Task, Term, Text, Trees, Unique, Update, Value, [], agree, and_parts, ap, are_fresh, arith, begun, binary, cast, clashes, codes, col, cond, create_props, differ, drop, edit_of, entry_rows, false, filter, first_key, has_rowid, have_rowids, id_in, ids_of, int_is, ints, is_eq, is_int, is_null, lit, map, match_ordering, meta_1, mode_of, not, one_permutation, one_step, or_left, or_right, passes, plain, pos, prop_rows, props, put_all, raise_statements, raise_text, refl, runs_as, schema_1, schema_2, slice_get, state, statement_of, subst, sym, taken_by, true, understood, value_cmp, value_cmp-Int, without_rowid, works, ℕ, ◌&&◌, ◌||◌, ◌∙◌, ◌∷◌, ◌≡◌}
 use Rattle.kt_store.proofs.Values.{cast_null, cast_int, went}
 use Rattle.sqlite_rules.specs.Action.{Writes}
 use Rattle.sqlite.specs.State as told
@@ -7,7 +7,7 @@ use Rattle.kt_store.proofs.SqlFacts.{raise_query, raise_is}
 use Rattle.kt_store.proofs.InsertLemmas.{concluded}
 use Rattle.kt_store.proofs.CreateLemmas.{props_create, makes}
 use Rattle.kt_store.proofs.FinishLemmas.{updates}
-use Rattle.kt_store.proofs.MetaLemmas.{tests, passes_it}
+use Rattle.kt_store.proofs.MetaLemmas.{one_row, tests, passes_it}
 use Rattle.kt_store.proofs.PutLemmas.{no_pairs}
 use Rattle.kt_store.proofs.QueryLemmas.{answered, picked, show}
 
@@ -17,14 +17,6 @@ number_row x = x ∷ Text (codes "schema") ∷ Int (pos 1) ∷ []
 
 abbrev pub next_row : Value → Row
 next_row y = y ∷ Text (codes "schema") ∷ Int (pos 2) ∷ []
-
-pub one_row : (rows : List Row) → map (drop 1) rows ≡ (Text (codes "schema") ∷ Int (pos 1) ∷ []) ∷ [] → (x : Value) × (rows ≡ number_row x ∷ [])
-one_row [] is = absurd cc
-one_row ([] ∷ rows) is = absurd cc
-one_row ((x ∷ r) ∷ []) is =
-    let same : r ≡ Text (codes "schema") ∷ Int (pos 1) ∷ [] = cc in
-    (x, ap (λ l. (x ∷ l) ∷ []) same)
-one_row ((x ∷ r) ∷ s ∷ rows) is = absurd cc
 
 same_name : (x y : Value) → agree plain (1 ∷ []) (number_row x) (1 ∷ []) (next_row y) ≡ true
 unfolding binary value_cmp first_key lib.Ieee.is_nan lib.Ieee.lt
@@ -37,10 +29,6 @@ less_differs x y one two cmp = rw (one, two, cmp) refl
 greater_differs : (x y : Value) → is_null x ≡ false → is_null y ≡ false → value_cmp x y ≡ Greater → differ x y ≡ true
 unfolding binary
 greater_differs x y one two cmp = rw (one, two, cmp) refl
-
-either_true : (a b : Bool) → b ≡ true → (a || (b || false)) ≡ true
-either_true true b is = refl
-either_true false b is = rw is refl
 
 -- a row that clashes does not pass
 refuted : (b rest : Bool) → (not (true && b) && rest) ≡ true → ¬ (b ≡ true)
@@ -61,7 +49,7 @@ module _ (db : Trees) (x y : Value) (unique : IsUnique db) (one : is_null x ≡ 
   never_behind : value_cmp x y ≡ Greater → ¬ (db 0 ≡ next_row y ∷ number_row x ∷ [])
   never_behind cmp is =
       let rows = subst (AllByRecursion (λ row. passes Unique schema_2 db meta_1 row ≡ true)) is unique in
-      let clash : clashes plain (1 ∷ []) (db 0) (next_row y) ≡ true = ap (λ l. clashes plain (1 ∷ []) l (next_row y)) is ∙ either_true _ _ (rw (same_name x y, greater_differs x y one two cmp) refl) in
+      let clash : clashes plain (1 ∷ []) (db 0) (next_row y) ≡ true = ap (λ l. clashes plain (1 ∷ []) l (next_row y)) is ∙ or_right _ _ (or_left _ false (rw (same_name x y, greater_differs x y one two cmp) refl)) in
       refuted (clashes plain (1 ∷ []) (db 0) (next_row y)) _ rows.0 clash
 
   never_beside : (o : Ordering) → value_cmp x y ≡ o → (not (is_eq o || false) && true) ≡ true → ¬ (db 0 ≡ match_ordering o (number_row x ∷ next_row y ∷ []) (next_row y ∷ []) (next_row y ∷ number_row x ∷ []))
@@ -76,11 +64,7 @@ abbrev Alone : Trees → Type 0
 Alone db = map (drop 1) (db 0) ≡ (Text (codes "schema") ∷ Int (pos 2) ∷ []) ∷ []
 
 some_int : (y : Value) → (is_int y && true) ≡ true → is_null y ≡ false
-some_int Null h = absurd (let e : false ≡ true = h in cc)
-some_int (Int n) h = refl
-some_int (Real r) h = refl
-some_int (Text t) h = refl
-some_int (Blob b) h = refl
+some_int y h = ap is_null (int_is y (and_parts (is_int y) true h).0)
 
 -- the old row is gone, or was never there beside the new one
 pub alone : (db : Trees) (x : Value) (gone : Bool) → has_rowid (id_in x) (number_row x) ≡ gone → IsUnique db → have_rowids (next_row (cast Integer x) ∷ []) ≡ true
@@ -146,7 +130,7 @@ raised_all a b c i j runs has one two =
     let first = makes schema_1 create_props props props_create a b i has.schema one in
     let text = statement_of raise_text (understood schema_2 raise_text) in
     let w : told.Writes b c None (Update 0 raise_program) text [] j = runs_as raise_text [] b c schema_2 first.schema_is (Update 0 raise_program) raise_is.0 raise_is.1 j two in
-    let row = one_row (a.now.trees 0) has.marked in
+    let row = one_row (pos 1) (a.now.trees 0) has.marked in
     let marked : b.now.trees 0 ≡ number_row row.0 ∷ [] = first.others.0 ∙ row.1 in
     let did = raise_writes row.0 b.now c.now first.schema_is marked b.step_limit (mode_of b) text w.tally refl w.changed in
     let none : c.now.trees 5 ≡ [] = did.1.tables.1.1.1.0 (λ e. cc) ∙ first.empty in (

@@ -1,5 +1,5 @@
 -- What the queries for one run and for all runs answer.
-use Rattle.kt_store.proofs.Common.{AreNumbered, Binary, Bool, Compare, Eq, Ghosts, Held, Int, IsPermutation, List, None, Option, Row, Run, ShowsOf, Some, Term, Trees, [], ap, ap₂, arith, binary, cases_lt, col, column, eval, false, filter, filter-map, filter_same, flag, flat_map, holds, inl, inr, is_eq, is_some, is_true, last_run, length, length_permutation, list_all, map, nat_lt, nat_tests, one_permutation, option_map, option_to_list, pos, reads_as, refl, rowid, run_at, run_row, run_text, schema_2, slice_get, slice_get_past, state, subst, suc, sym, true, unsigned_abs, value_cmp, zero, ℕ, ◌&&◌, ◌<◌, ◌∙◌, ◌∷◌, ◌≡◌, ◌≢◌, ◌≤◌, AllByRecursion, IsAscending, IsStore, Less, Shown, State, ascending, get_or, head_columns, map-map, output, output_cmp, runs_text, take, ◌++◌}
+use Rattle.kt_store.proofs.Common.{AllByRecursion, AreNumbered, Binary, Bool, Compare, Eq, Ghosts, Held, Int, IsAscending, IsPermutation, IsStore, Less, List, None, Option, Row, Run, Shown, ShowsOf, Some, State, Term, Trees, [], ap, ap₂, arith, ascending, binary, cases_lt, col, column, eval, false, filter, filter-map, filter_same, flag, flat_map, get_or, head_columns, holds, inl, inr, is_eq, is_some, is_true, last_run, length, length_permutation, list_all, map, map-map, nat_lt, nat_tests, nil_from_length, one_permutation, option_map, option_to_list, output, output_cmp, pos, reads_as, refl, rowid, run_at, run_row, run_text, runs_text, schema_2, slice_get, slice_get_past, state, subst, suc, sym, take, true, unsigned_abs, value_cmp, zero, ℕ, ◌&&◌, ◌++◌, ◌<◌, ◌∙◌, ◌∷◌, ◌≡◌, ◌≢◌, ◌≤◌}
 use Rattle.kt_store.proofs.EntryLemmas.{and_true, of_one, truth, all_pass}
 use Rattle.kt_store.proofs.SqlFacts.{is, run_is, runs_select_is, runs_query}
 use Rattle.kt_store.proofs.Values.{same_test, some_mapped, below}
@@ -38,12 +38,8 @@ picked_run n key params key_is runs h =
 abbrev pub head_row : Run → Row
 head_row r = Int (pos r.total) ∷ Int (flag r.finished) ∷ []
 
-none_left : (rows : List Row) → length rows ≡ 0 → rows ≡ []
-none_left [] h = refl
-none_left (r ∷ rows) h = absurd (omega (arith, h))
-
 at_most_one : (o : Option Run) (rows : List Row) → IsPermutation (map head_row (option_to_list o)) rows → rows ≡ map head_row (option_to_list o)
-at_most_one None rows h = none_left rows (length_permutation [] rows h)
+at_most_one None rows h = nil_from_length rows (length_permutation [] rows h)
 at_most_one (Some r) rows h = one_permutation (head_row r) rows h
 
 shown_rows : (trees : Trees) (n : ℕ) (o : Option Run) (rows : List Row)

@@ -1,5 +1,5 @@
 -- What is shown of the rows that a cursor finds, and how a store that is only read serves.
-use Rattle.kt_store.proofs.Common.{Agrees, AreNumbered, AreWide, CaseOutputs, Entry, Err, Ghosts, HasRuns, HoldsCommit, IfErr, IfOk, IsStoreFault, Keeps, List, Looks, NoRun, None, Ok, Option, Outlasts, Outputs, Result, Row, Run, Serves, Shows, Some, StandAt, StoreCall, StoreFault, Trees, Variable, [], all-get_or, ap, ap₂, arith, by_trees, changed_by, column, drop, entry_at, entry_columns, entry_row, false, filter, flat_map, get_or, has_rowid, head_columns, in_columns, length, length-map, map, map-append, map-map, option_to_list, outputs_of, pair_columns, pair_rows, pair_rows_from, pairs_shown, places_2, pos, readings, refl, run_at, run_row, subst, suc, sym, true, ℕ, ◌++◌, ◌<◌, ◌∙◌, ◌∷◌, ◌≡◌, ◌≤◌, ◌⊎◌}
+use Rattle.kt_store.proofs.Common.{Agrees, AreNumbered, AreWide, CaseOutputs, Entry, Err, Ghosts, HasRuns, HoldsCommit, IfErr, IfOk, IsStoreFault, Keeps, List, Looks, NoRun, None, Ok, Option, Outlasts, Outputs, Result, Row, Run, Serves, Shows, Some, StandAt, StoreCall, StoreFault, Trees, Variable, [], all-get_or, ap, ap₂, arith, by_trees, changed_by, column, drop, entry_at, entry_columns, entry_row, false, filter, flat_map, get_or, has_rowid, head_columns, in_columns, length, length-map, map, map-append, map-map, map_same, option_to_list, outputs_of, pair_columns, pair_rows, pair_rows_from, pairs_shown, places_2, pos, readings, refl, run_at, run_row, subst, suc, sym, true, ℕ, ◌++◌, ◌<◌, ◌∙◌, ◌∷◌, ◌≡◌, ◌≤◌, ◌⊎◌}
 use Rattle.sqlite_trees.specs.View.{View, Finds, IsClean, KeepsSchema}
 use Rattle.kt_store.proofs.EntryLemmas.{back}
 use Rattle.kt_store.proofs.RunLemmas.{found_run}
@@ -10,11 +10,8 @@ abbrev pub LeavesRowid : List ℕ → Type 0
 LeavesRowid columns = (r : Row) → in_columns columns r ≡ in_columns columns (back (drop 1 r))
 
 pub seen : (columns : List ℕ) → LeavesRowid columns → (mine shown : List Row) → Shows columns mine shown → shown ≡ map (λ r. in_columns columns (back r)) mine
-seen columns leaves mine shown h = h.2 ∙ go h.0 ∙ ap (map (λ r. in_columns columns (back r))) h.1
-  where
-    go : (rows : List Row) → map (in_columns columns) rows ≡ map (λ r. in_columns columns (back r)) (map (drop 1) rows)
-    go [] = refl
-    go (r ∷ rows) = ap₂ (λ x xs. x ∷ xs) (leaves r) (go rows)
+seen columns leaves mine shown h =
+    h.2 ∙ map_same (in_columns columns) (λ r. in_columns columns (back (drop 1 r))) leaves h.0 ∙ sym (map-map (λ r. in_columns columns (back r)) (drop 1) h.0) ∙ ap (map (λ r. in_columns columns (back r))) h.1
 
 abbrev pub entry_places : List ℕ
 entry_places = 2 ∷ 3 ∷ 4 ∷ 5 ∷ 6 ∷ 7 ∷ 8 ∷ []

@@ -1,5 +1,5 @@
 -- What a statement leaves of a connection that stands for runs.
-use Rattle.kt_store.proofs.Common.{Command, CommitsBy, Compiled, Database, Err, Error, Executes, ExecutesIn, FailsToQuery, FailsToShow, Ghosts, HasCleanDisk, Held, Holds, IsDatabase, IsLive, IsNotRun, IsPlain, IsRolledBack, IsSettled, IsStore, IsTrue, IsUnchanged, IsUndone, Keeps, KeepsEither, KeepsOld, Leaves, List, None, Option, Rests, Row, Run, RunsCommand, Schema, Some, State, Survives, Tables, Trees, ap, append-nil, arith, cases_Bool, command_of, false, inl, inr, shows_rows, state, statement_of, subst, subst₂, survives_then, sym, unchanged_then, understood, ℕ, ◌∙◌, ◌≡◌}
+use Rattle.kt_store.proofs.Common.{Command, CommitsBy, Compiled, Database, Err, Error, FailsToQuery, FailsToShow, Ghosts, HasCleanDisk, Held, Holds, IsDatabase, IsLive, IsNotRun, IsPlain, IsRolledBack, IsSettled, IsStore, IsTrue, IsUnchanged, IsUndone, Keeps, KeepsEither, KeepsOld, Leaves, List, None, Option, Rests, Row, Run, RunsCommand, Schema, Some, State, Survives, Tables, Trees, ap, append-nil, arith, command_of, inl, inr, state, statement_of, subst, subst₂, survives_then, sym, unchanged_then, understood, ℕ, ◌∙◌, ◌≡◌}
 use Rattle.sqlite_schema.specs.declared.command.Returning.{Returning}
 use Rattle.sqlite.specs.State.{MayCommit}
 
@@ -12,14 +12,6 @@ not_run old new sql params e (inr h) = inr h.3
 command_refused : (old new : State) (sql : List ℕ) (c : Compiled) (params : Row) (e : Error) → RunsCommand old new sql c params (Err e) → Rests old new
 command_refused old new sql c params e (inl h) = inl h.1
 command_refused old new sql c params e (inr h) = inr h.3
-
-pub refused : (old new : State) (sql : List ℕ) (params : Row) (e : Error) → Executes sql params old new (Err e) → Rests old new
-unfolding ExecutesIn
-refused old new sql params e (inl h) = not_run old new sql params e h
-refused old new sql params e (inr h) = elim (cases_Bool (shows_rows false h.0)) [
-  | inl shows ↦ inl (rw shows at h.2).1
-  | inr runs ↦ command_refused old new sql h.0 _ e (rw runs at h.2)
-]
 
 show_refused : (old new : State) (sql : List ℕ) (c : Compiled) (params : Row) (e : Error) (what : Option Returning) → FailsToShow old new sql c params e what → Rests old new
 show_refused old new sql c params e None h = inl h.3

@@ -1,5 +1,5 @@
-use Rattle.kt_store.proofs.Common.{IsClean, IsSound, IsTrue, ListsTables, OpensRuns, SaysIn, Schema, image_of, over_files, pos, refl, schema_2, shut_if_dirty_at, subst, sym, view, ◌∙◌}
-use Rattle.kt_store.proofs.EndLemmas.{clean_of_open, looked_settled}
+use Rattle.kt_store.proofs.Common.{IsClean, IsSound, IsTrue, ListsTables, OpensRuns, SaysIn, Schema, clean_if_open, image_of, over_files, pos, refl, schema_2, shut_if_dirty_at, subst, sym, view, ◌∙◌}
+use Rattle.kt_store.proofs.EndLemmas.{looked_settled}
 use Rattle.kt_store.proofs.OpeningLemmas.{if_some, opens_runs}
 use Rattle.kt_store.proofs.opening.known.Goals as goal
 
@@ -26,7 +26,7 @@ returns-clause-says g c =
     let says = (rw c.in_ok-last.ensures.1 at c.says_2-is_ours.ensures.says) refl in
     if_some (λ r. IsTrue (view r).is_open → SaysIn (pos 2) (view r).committed) c.over.result c.ok.result c.ok.ensures.value (λ r done.
     subst (λ s. IsTrue (view s).is_open → SaysIn (pos 2) (view s).committed) (sym ((rw done at c.over.ensures.same) ∙ c.in_ok-last.ensures.0)) (λ opened.
-    let clean = clean_of_open (view new) (shut_if_dirty_at new) opened in
+    let clean = clean_if_open (view new) (shut_if_dirty_at new) opened in
     subst (SaysIn (pos 2)) (c.in_ok-store.ensures.settled ∙ sym (c.says_2-is_ours.ensures.looks.held clean opened).1) (says clean)))
 
 pub returns-clause-tested : goal.returns-clause-tested

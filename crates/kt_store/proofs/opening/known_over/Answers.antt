@@ -1,6 +1,5 @@
-use Rattle.kt_store.proofs.Common.{HoldsAt, HoldsDatabase, HoldsIn, HoldsRuns, IsFile, IsSound, IsTrue, Keeps, ListsRuns, Recovers, Trees, Trees-set, ap, ap₂, are_clean, arith, clean_of, cond-true, file_trees, image, image_of, kept_schema, no_doubt, no_trees, pool_files, recovers_once, refl, same_image, schema_2, seen_image, settled_at, shut_if_dirty_at, state_of, subst, subst₂, sym, wanted_by, ∥∥₁_elim, ◌%◌, ◌∙◌, ◌≡◌, ◌≢◌}
+use Rattle.kt_store.proofs.Common.{HoldsAt, HoldsDatabase, HoldsIn, HoldsRuns, IsFile, IsSound, IsTrue, Keeps, ListsRuns, Recovers, Trees, Trees-set, ap, ap₂, are_clean, arith, clean_if_open, clean_of, cond-true, file_trees, image, image_of, kept_schema, no_doubt, no_trees, pool_files, recovers_once, refl, same_image, schema_2, seen_image, settled_at, shut_if_dirty_at, state_of, subst, subst₂, sym, wanted_by, ∥∥₁_elim, ◌%◌, ◌∙◌, ◌≡◌, ◌≢◌}
 use Rattle.kt_store.proofs.EditLemmas.{sound_in}
-use Rattle.kt_store.proofs.EndLemmas.{clean_of_open}
 use Rattle.sqlite_store.specs.FileStore.{state, view}
 use Rattle.kt_store.proofs.OpeningLemmas.{without_sums}
 use Rattle.kt_store.proofs.opening.known_over.Given.{Over}
@@ -68,7 +67,7 @@ pub returns-clause-sound : goal.returns-clause-sound
 returns-clause-sound g c opens =
     let at = (goal.at.returns-clause-sound g c).In_ok-mid in
     let store = c.in_ok-store.store in
-    let loose = clean_of_open (view store) (shut_if_dirty_at store) opens in
+    let loose = clean_if_open (view store) (shut_if_dirty_at store) opens in
     let ready = c.in_ok-store.ensures.ready in
     let size = (state_of c.in_ok-fresh.fresh).page_size in
     let lists = listed g at (c.in_ok-store.ensures.honest (clean_of _ loose)) in

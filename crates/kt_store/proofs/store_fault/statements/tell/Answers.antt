@@ -1,5 +1,5 @@
-use Rattle.kt_store.proofs.Common.{CommitsBy, Executes, MayTell, Ok, [], arith, bound, state, subst}
-use Rattle.kt_store.proofs.StepLemmas.{not_run, refused, rests_then, prepare_then}
+use Rattle.kt_store.proofs.Common.{CommitsBy, Executes, MayTell, Ok, [], arith, bound, fails_whole, false, state, subst}
+use Rattle.kt_store.proofs.StepLemmas.{not_run, rests_then, prepare_then}
 use Rattle.kt_store.proofs.store_fault.statements.tell.Goals as goal
 
 pub returns-in-Err-clause-rests : goal.returns-in-Err-clause-rests
@@ -23,7 +23,7 @@ returns-in-Ok-execute-clause-survives g c =
 pub returns-clause-rests : goal.returns-clause-rests
 returns-clause-rests g c clean =
     let it = c.in-Ok.ensures.ok (omega (arith, clean, c.execute.ensures.survives.clean)) in
-    rests_then _ _ _ it.1 (refused _ _ c.in-Ok.statement.text _ c.in-Err-execute.error (c.in-Err-execute.ensures.runs clean))
+    rests_then _ _ _ it.1 (fails_whole _ _ false c.in-Ok.statement.text _ c.in-Err-execute.error (c.in-Err-execute.ensures.runs clean))
 
 pub returns-clause-survives : goal.returns-clause-survives
 returns-clause-survives g c =

@@ -1,6 +1,7 @@
 use Rattle.kt_store.proofs.Common.{AllByRecursion, CountsUnder, IsClean, IsShaped, List, Looks, Row, View, ap, arith, begins, false, left_of, rules, subst, sym, take, true, ◌∙◌, ◌≡◌}
+use Rattle.sqlite_exec.proofs.CheckLemmas.{ended, stepped}
 use Rattle.kt_store.proofs.SeenLemmas.{looks_then}
-use Rattle.kt_store.proofs.PlaceLemmas.{left_is, left_none, passed_all, passed_one}
+use Rattle.kt_store.proofs.PlaceLemmas.{passed_all, passed_one}
 use Rattle.kt_store.proofs.store_fault.trees.count_under.Given.{Over}
 use Rattle.kt_store.proofs.store_fault.trees.count_under.Goals.{In_ok-next}
 use Rattle.kt_store.proofs.store_fault.trees.count_under.Goals as goal
@@ -20,12 +21,12 @@ all_counted g c clean none cs mine has =
 
 pub returns-then-not-branch-clause-counted : goal.returns-then-not-branch-clause-counted
 returns-then-not-branch-clause-counted g c clean =
-    let none = left_none (g.S.Store.view c.places.store) (g.S.Store.view c.next.new.self) c.next.new.row (rw c.if-not-branch.true at (c.in_ok-next.ensures.ok clean)) in
+    let none = ended (g.S.Store.view c.places.store) (g.S.Store.view c.next.new.self) 0 c.next.new.row (rw c.if-not-branch.true at (c.in_ok-next.ensures.ok clean)) in
     all_counted g (goal.at.returns-then-not-branch-clause-counted g c).In_ok-next clean (subst (λ (l : List Row). AllByRecursion (λ e. begins c.args.key.now e ≡ false) (take 1 l)) (sym none) tt)
 
 pub returns-then-ne-clause-counted : goal.returns-then-ne-clause-counted
 returns-then-ne-clause-counted g c clean =
-    let one = left_is (g.S.Store.view c.places.store) (g.S.Store.view c.next.new.self) c.next.new.row (rw c.if-not-branch.false at (c.in_ok-next.ensures.ok clean)) in
+    let one = stepped (g.S.Store.view c.places.store) (g.S.Store.view c.next.new.self) 0 c.next.new.row (rw c.if-not-branch.false at (c.in_ok-next.ensures.ok clean)) in
     let past : begins c.args.key.now c.next.new.row ≡ false = search rules in
     all_counted g (goal.at.returns-then-ne-clause-counted g c).In_ok-next clean (subst (λ (l : List Row). AllByRecursion (λ e. begins c.args.key.now e ≡ false) (take 1 l)) (sym one) (past, tt))
 
@@ -41,6 +42,6 @@ places-preserved g c =
           let was = c.places.invariant.2 (step.clean clean) in
           (was.0, (c.in_ok-next.ensures.moves clean).same ∙ ap (λ (v : View). record v { cursors = new.cursors }) was.1),
       λ clean.
-          let one = left_is mid new c.next.new.row (rw c.if-not-branch.false at (c.in_ok-next.ensures.ok clean)) in
+          let one = stepped mid new 0 c.next.new.row (rw c.if-not-branch.false at (c.in_ok-next.ensures.ok clean)) in
           passed_one c.args.key.now c.next.new.row _ (left_of mid 0) (left_of new 0) c.places.count one hit (c.places.invariant.3 (step.clean clean)),
     )
