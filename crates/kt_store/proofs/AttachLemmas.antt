@@ -41,6 +41,13 @@ known_due (Current runs) fault has h = h (inr refl)
 known_due (Older runs) fault has h = h (inl refl)
 known_due (Numbered n) fault has h = tt
 
+-- what holds of an empty database, and of each that has a number, holds of all
+by_number : (P : Was → Type 0) → P Blank → ((was : Was) → HasNumber was → P was) → (was : Was) → P was
+by_number P blank rest Blank = blank
+by_number P blank rest (Current runs) = rest (Current runs) tt
+by_number P blank rest (Older runs) = rest (Older runs) tt
+by_number P blank rest (Numbered n) = rest (Numbered n) tt
+
 -- where the disk never was clean, nothing is known
 module _ (old new : State) (never : ¬ HasCleanDisk new) (nothing : Survives old new (λ (db : Trees). ⊥)) where
   more : (P : Trees → Type 0) → Survives old new P
@@ -105,16 +112,12 @@ module _ (old mid new : State) (first : Survives old mid (λ (db : Trees). ⊥))
       none was has is clean opened = absurd (filled was has is clean)
 
       pub create_takes : (IsEmpty mid → Takes Blank mid new) → (was : Was) → IsOf was old → Takes was old new
-      create_takes t Blank is = takes_after Blank (t (still_of Blank is))
-      create_takes t (Current runs) is = not_taken (Keeps []) (filled (Current runs) tt is) (t (none (Current runs) tt is)).2 (Current runs)
-      create_takes t (Older runs) is = not_taken (Keeps []) (filled (Older runs) tt is) (t (none (Older runs) tt is)).2 (Older runs)
-      create_takes t (Numbered n) is = not_taken (Keeps []) (filled (Numbered n) tt is) (t (none (Numbered n) tt is)).2 (Numbered n)
+      create_takes t = by_number (λ was. IsOf was old → Takes was old new) (λ is. takes_after Blank (t (still_of Blank is)))
+          (λ was has is. not_taken (Keeps []) (filled was has is) (t (none was has is)).2 was)
 
       pub create_refuses : (fault : StoreFault) → (IsEmpty mid → Refuses Blank mid new fault) → (was : Was) → IsOf was old → Refuses was old new fault
-      create_refuses fault r Blank is = refuses_after fault Blank (r (still_of Blank is))
-      create_refuses fault r (Current runs) is = not_refused (Keeps []) (filled (Current runs) tt is) (r (none (Current runs) tt is)).1 fault (Current runs)
-      create_refuses fault r (Older runs) is = not_refused (Keeps []) (filled (Older runs) tt is) (r (none (Older runs) tt is)).1 fault (Older runs)
-      create_refuses fault r (Numbered n) is = not_refused (Keeps []) (filled (Numbered n) tt is) (r (none (Numbered n) tt is)).1 fault (Numbered n)
+      create_refuses fault r = by_number (λ was. IsOf was old → Refuses was old new fault) (λ is. refuses_after fault Blank (r (still_of Blank is)))
+          (λ was has is. not_refused (Keeps []) (filled was has is) (r (none was has is)).1 fault was)
 
     -- tables are taken only where there are some
     module _ (filled : mid.now.schema.tables ≢ []) where
@@ -122,16 +125,13 @@ module _ (old mid new : State) (first : Survives old mid (λ (db : Trees). ⊥))
       empty_never is clean = filled (empty_blank old mid earlier same is clean)
 
       pub take_takes : ((was : Was) → HasNumber was → IsOf was mid → Takes was mid new) → (was : Was) → IsOf was old → Takes was old new
-      take_takes t Blank is = not_taken (λ _. ⊥) (empty_never is) (t (Current []) tt (λ clean opened. absurd (empty_never is clean))).2 Blank
-      take_takes t (Current runs) is = takes_after (Current runs) (t (Current runs) tt (still_of (Current runs) is))
-      take_takes t (Older runs) is = takes_after (Older runs) (t (Older runs) tt (still_of (Older runs) is))
-      take_takes t (Numbered n) is = takes_after (Numbered n) (t (Numbered n) tt (still_of (Numbered n) is))
+      take_takes t = by_number (λ was. IsOf was old → Takes was old new) (λ is. not_taken (λ _. ⊥) (empty_never is) (t (Current []) tt (λ clean opened. absurd (empty_never is clean))).2 Blank)
+          (λ was has is. takes_after was (t was has (still_of was is)))
 
       pub take_refuses : (fault : StoreFault) → ((was : Was) → HasNumber was → IsOf was mid → Refuses was mid new fault) → (was : Was) → IsOf was old → Refuses was old new fault
-      take_refuses fault r Blank is = not_refused (λ _. ⊥) (empty_never is) (r (Current []) tt (λ clean opened. absurd (empty_never is clean))).1 fault Blank
-      take_refuses fault r (Current runs) is = refuses_after fault (Current runs) (r (Current runs) tt (still_of (Current runs) is))
-      take_refuses fault r (Older runs) is = refuses_after fault (Older runs) (r (Older runs) tt (still_of (Older runs) is))
-      take_refuses fault r (Numbered n) is = refuses_after fault (Numbered n) (r (Numbered n) tt (still_of (Numbered n) is))
+      take_refuses fault r = by_number (λ was. IsOf was old → Refuses was old new fault)
+          (λ is. not_refused (λ _. ⊥) (empty_never is) (r (Current []) tt (λ clean opened. absurd (empty_never is clean))).1 fault Blank)
+          (λ was has is. refuses_after fault was (r was has (still_of was is)))
 
     -- schema 1 is renewed only where that is its number
     none_older : ¬ HasCleanDisk mid → StandsInOld mid []

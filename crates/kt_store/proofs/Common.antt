@@ -5,6 +5,7 @@ pub use Rattle.std.proofs.lemmas.Bool.{and_parts, both_ways, cases_Bool, cases_e
 pub use Rattle.std.proofs.lemmas.Bool.Decides.{nat_tests}
 pub use Rattle.std.proofs.lemmas.Int.{ints, to_z-of_z, to_z_pos}
 pub use Rattle.std.proofs.lemmas.List.{append_assoc, drop_more, length-map, map-append, map-id, nil_from_length, reverse-append, reverse-reverse, take_all, take_more}
+pub use Rattle.std.proofs.lemmas.List.Concat.{flat_map_single}
 pub use Rattle.std.proofs.lemmas.List.Elements.{filter-append, filter_passes, recursion_from_All}
 pub use Rattle.std.proofs.lemmas.List.Sorted.{IsPermutation-append_comm, IsPermutation-append_left, IsPermutation-append_right, IsPermutation-cons, IsPermutation-map, IsPermutation-middle, IsPermutation-refl, IsPermutation-sym, IsPermutation-trans, length_permutation}
 pub use Rattle.std.proofs.lemmas.Option.{none-some, same_Some, slice_get-map, slice_get_past, slice_get_read, slice_get_within}

@@ -155,17 +155,17 @@ then_both Equal Equal = refl
 then_both Equal Greater = refl
 then_both Greater d = refl
 
-same_run : (n : ℕ) (r : Row) → begins (run_key n) (entry_of cs r) ≡ begins (run_key n) (entry_of cs (back (drop 1 r)))
-same_run n [] = refl
-same_run n (x ∷ r) = refl
+same_run : (columns : List ℕ) (n : ℕ) (r : Row) → begins (run_key n) (entry_of (1 ∷ columns) r) ≡ begins (run_key n) (entry_of (1 ∷ columns) (back (drop 1 r)))
+same_run columns n [] = refl
+same_run columns n (x ∷ r) = refl
 
 same_entry : (n p : ℕ) (r : Row) → begins (entry_key n p) (entry_of cs r) ≡ begins (entry_key n p) (entry_of cs (back (drop 1 r)))
 same_entry n p [] = refl
 same_entry n p (x ∷ r) = refl
 
-in_run : (n m : ℕ) (e : Entry) → begins (run_key n) (entry_of cs (back (entry_row m e))) ≡ (m == n) && true
+in_run : (columns : List ℕ) (n m : ℕ) (r : Row) → begins (run_key n) (entry_of (1 ∷ columns) (back (Int (pos m) ∷ r))) ≡ (m == n)
 unfolding first_key
-in_run n m e = ap is_eq (then-Equal (value_cmp (Int (pos m)) (Int (pos n)))) ∙ same_test m n ∙ sym (and_true (m == n))
+in_run columns n m r = ap is_eq (then-Equal (value_cmp (Int (pos m)) (Int (pos n)))) ∙ same_test m n
 
 at_place : (n p m : ℕ) (e : Entry) → begins (entry_key n p) (entry_of cs (back (entry_row m e))) ≡ (m == n) && (e.position == p)
 unfolding first_key
@@ -184,8 +184,8 @@ module _ (runs : List Run) (trees : Trees) (k : Keeps runs trees) (shaped : IsSh
 
   pub places_of_run : Places cs (run_key n) (map (entry_row n) es) (trees 3) (trees 4)
   places_of_run =
-      places cs (run_key n) (entry_rows runs) (map (entry_row n) es) (trees 3) (trees 4) are (same_run n)
-      (of_run (λ r. begins (run_key n) (entry_of cs (back r))) (λ e. true) n runs (in_run n) k.3.valid.numbered ∙ ap (map (entry_row n)) (all_pass es))
+      places cs (run_key n) (entry_rows runs) (map (entry_row n) es) (trees 3) (trees 4) are (same_run (2 ∷ []) n)
+      (of_run (λ r. begins (run_key n) (entry_of cs (back r))) (λ e. true) n runs (λ m e. in_run (2 ∷ []) n m (drop 1 (entry_row m e)) ∙ sym (and_true (m == n))) k.3.valid.numbered ∙ ap (map (entry_row n)) (all_pass es))
       (rise n es (up_of runs n k.3.valid)) shaped indexed up
 
   pub place_of_entry : (p : ℕ) → Places cs (entry_key n p) (map (entry_row n) (filter (λ (e : Entry). e.position == p) es)) (trees 3) (trees 4)
@@ -208,14 +208,6 @@ module _ (n : ℕ) where
   unfolding first_key
   by_place p k j v w h a b = rw (equal n, equal p, below k j h) refl
 
-same_pair : (n : ℕ) (r : Row) → begins (run_key n) (entry_of cs3 r) ≡ begins (run_key n) (entry_of cs3 (back (drop 1 r)))
-same_pair n [] = refl
-same_pair n (x ∷ r) = refl
-
-pair_in_run : (n m p k : ℕ) (v : Variable) → begins (run_key n) (entry_of cs3 (back (pair_row m p k v))) ≡ (m == n)
-unfolding first_key
-pair_in_run n m p k v = ap is_eq (then-Equal (value_cmp (Int (pos m)) (Int (pos n)))) ∙ same_test m n
-
 pub places_of_pairs : (runs : List Run) (trees : Trees) → Keeps runs trees → IsShaped Table (trees 5) → IsIndex plain (trees 6) → (n : ℕ)
     → Places cs3 (run_key n) (flat_map (pair_rows n) (entries_of (run_at runs n))) (trees 5) (trees 6)
 places_of_pairs runs trees k shaped up n =
@@ -224,5 +216,5 @@ places_of_pairs runs trees k shaped up n =
     let indexed : IsPermutation (map (entry_of cs3) (trees 5)) (trees 6) =
     subst (λ (t : Trees). IsPermutation (map (entry_of cs3) (t 5)) (t 6)) (sym k.2)
     (subst (λ (s : Schema). AllByRecursion (λ i. IsIndexOf i.columns (k.0.trees i.table) (k.0.trees i.tree)) s.indexes) k.3.schema k.1.obeys.indexed).1.1.0 in
-    places cs3 (run_key n) (prop_rows runs) (flat_map (pair_rows n) es) (trees 5) (trees 6) are (same_pair n)
-    (of_pairs (λ r. begins (run_key n) (entry_of cs3 (back r))) n runs (pair_in_run n) k.3.valid.numbered) (risen cs3 refl (flat_map (pair_rows n) es) (pairs_rise n (Below cs3) (by_position n) (by_place n) es (up_of runs n k.3.valid))) shaped indexed up
+    places cs3 (run_key n) (prop_rows runs) (flat_map (pair_rows n) es) (trees 5) (trees 6) are (same_run (2 ∷ 3 ∷ []) n)
+    (of_pairs (λ r. begins (run_key n) (entry_of cs3 (back r))) n runs (λ m p k v. in_run (2 ∷ 3 ∷ []) n m (drop 1 (pair_row m p k v))) k.3.valid.numbered) (risen cs3 refl (flat_map (pair_rows n) es) (pairs_rise n (Below cs3) (by_position n) (by_place n) es (up_of runs n k.3.valid))) shaped indexed up

@@ -1,5 +1,5 @@
 -- How calls end that write the trees of a store: committed, or gone back to the last commit.
-use Rattle.kt_store.proofs.Common.{Agrees, Bool, Database, Ended, Err, Ghosts, HasCleanDisk, HasCommitted, HasRuns, Held, HoldsCommit, IsLive, IsSettledStore, IsSound, IsTrue, Keeps, KeepsOne, List, Lists, Looks, Ok, Outlasts, Result, Run, Schema, Serves, StandAt, StandsFor, StoreCall, StoreFault, Trees, Wrote, ap, catalog_tree, changed_by, clean_if_open, false, inl, inr, is_err, lists_once, places_2, readings, refl, runs_file, schema_2, state, subst, sym, true, true≢false, ◌∙◌, ◌∷◌, ◌≡◌}
+use Rattle.kt_store.proofs.Common.{Agrees, Database, Ended, Err, Ghosts, HasCleanDisk, HasCommitted, HasRuns, Held, HoldsCommit, IsLive, IsSettledStore, IsSound, IsTrue, Keeps, KeepsOne, List, Lists, Looks, Ok, Outlasts, Result, Run, Schema, Serves, StandAt, StandsFor, StoreCall, StoreFault, Trees, Wrote, ap, catalog_tree, changed_by, clean_if_open, false, inl, inr, is_err, lists_once, places_2, readings, refl, runs_file, schema_2, state, subst, sym, true, true≢false, ◌∙◌, ◌∷◌, ◌≡◌}
 use Rattle.sqlite_trees.specs.View.{View, IsClean, IsRolledBack}
 use Rattle.kt_store.specs.declared.places.Places.{Places}
 use Rattle.kt_store.proofs.SeenLemmas.{read_serves}
@@ -7,18 +7,17 @@ use Rattle.kt_store.proofs.ServeLemmas.{IsWrite}
 use Rattle.kt_store.proofs.EditLemmas.{schema_is}
 use Rattle.kt_store.proofs.Numbered.{numbers_changed, ordered_changed}
 
--- a store that is not broken is open, by its law
-pub open_of : (is_open is_broken : Bool) → (is_open ≡ false → IsTrue is_broken) → is_broken ≡ false → IsTrue is_open
-open_of true is_broken law sound = refl
-open_of false is_broken law sound = absurd (true≢false (sym (law refl) ∙ sound))
-
 module _ (old new : View) (back : IsRolledBack old new) (clean : IsClean new) where
   pub rolled_held : HoldsCommit old new
   rolled_held opened = ((back.kept clean).was_open opened, (back.kept clean).committed opened)
 
+-- a store that is not broken is open, by its law
+open_if_sound : (v : View) → (v.is_open ≡ false → IsTrue v.is_broken) → v.is_broken ≡ false → IsTrue v.is_open
+open_if_sound v law sound = elim v.is_open as (λ b. (b ≡ false → IsTrue v.is_broken) → IsTrue b) [ true ↦ λ _. refl | false ↦ λ shut. absurd (true≢false (sym (shut refl) ∙ sound)) ] law
+
 -- what a store that is settled shows obeys its schema
 pub sound_of : (v : View) (schema : Schema) → (v.is_open ≡ false → IsTrue v.is_broken) → IsSettledStore v schema → IsClean v → v.is_broken ≡ false → IsSound schema v.trees
-sound_of v schema law is clean sound = subst (IsSound schema) (sym (is.settled clean sound)) (is.sound (open_of v.is_open v.is_broken law sound))
+sound_of v schema law is clean sound = subst (IsSound schema) (sym (is.settled clean sound)) (is.sound (open_if_sound v law sound))
 
 -- and its tables stand where they are found by name
 pub stand_at : (v : View) (schema : Schema) (places : Places) → (v.is_open ≡ false → IsTrue v.is_broken) → IsSettledStore v schema × (schema ≡ schema_2 → places ≡ places_2) → StandAt places v
@@ -26,7 +25,7 @@ stand_at v schema places law is clean sound runs keeps = is.1 (schema_is schema 
 
 -- and is what it stands for
 pub has_runs : (v : View) (schema : Schema) → (v.is_open ≡ false → IsTrue v.is_broken) → IsSettledStore v schema → (runs : List Run) → HasCommitted v runs → HasRuns v runs
-has_runs v schema law is runs has clean sound = subst (Keeps runs) (sym (is.settled clean sound)) (has (open_of v.is_open v.is_broken law sound))
+has_runs v schema law is runs has clean sound = subst (Keeps runs) (sym (is.settled clean sound)) (has (open_if_sound v law sound))
 
 -- what was only read is settled
 pub looked_settled : {S : Type 0} (g : Ghosts S) (old new : S) (schema : Schema) → ((g.view new).is_clean ≡ false → (g.view new).is_open ≡ false) → Looks g old new → IsSettledStore (g.view old) schema → IsSettledStore (g.view new) schema
@@ -83,7 +82,7 @@ module _ {S : Type 0} (g : Ghosts S) (dirty : (s : S) → (g.view s).is_clean �
           earlier = λ runs h late. wrote.clean (ended.clean late);
           agrees = λ runs h late. done.agrees runs (has runs h) (ended.clean late);
           crash = λ runs may h. writes.lasts x runs may old new (λ late trees found.
-              let opened = open_of (g.view new).is_open (g.view new).is_broken (shut new) (ended.done late).0 in
+              let opened = open_if_sound (g.view new) (shut new) (ended.done late).0 in
               inl (subst (Keeps (change runs)) (sym (settles new trees opened found ∙ (ended.done late).1)) (rows (Ok x) done refl runs h (ended.clean late))));
         }
     ended_served written (Err e) wrote ended = record {

@@ -1,11 +1,11 @@
 -- What the UPDATE of `finish` does.
-use Rattle.kt_store.proofs.Common.{Answers, Applies, AreNumbered, AtPlace, Bool, Database, Does, Enforced, Given, Int, IsPermutation, Less, List, Mode, None, Null, Ok, OnRows, Option, Program, Row, Run, Some, Tables, Tally, Task, Trees, Update, Updates, Written, [], ap, arith, col, done_row, edit_of, false, filter, finish, ids_of, is_eq, lit, map, nat_tests, not, one_permutation, one_step, option_to_list, pos, put_all, put_row, refl, rowid, run_at, run_row, runs_1, schema_2, slice_get, subst, suc, sym, taken_by, true, value_cmp, without_rowid, works, zero, ℕ, ◌+◌, ◌<◌, ◌==◌, ◌∙◌, ◌∷◌, ◌≡◌}
+use Rattle.kt_store.proofs.Common.{Answers, Applies, AreNumbered, AtPlace, Bool, Database, Does, Enforced, Given, Int, IsPermutation, Less, List, Mode, None, Null, Ok, OnRows, Option, Program, Row, Run, Some, Tables, Tally, Task, Trees, Update, Updates, Written, [], ap, arith, col, done_row, edit_of, false, filter, filter_all, finish, ids_of, is_eq, lit, map, nat_tests, not, one_permutation, one_step, option_to_list, pos, put_all, put_row, refl, rowid, run_at, run_row, runs_1, schema_2, slice_get, subst, suc, sym, taken_by, true, value_cmp, without_rowid, works, zero, ℕ, ◌+◌, ◌<◌, ◌==◌, ◌∙◌, ◌∷◌, ◌≡◌}
 use Rattle.sqlite_rules.specs.Action.{Writes}
 use Rattle.kt_store.proofs.SqlFacts.{finish_query, is}
 use Rattle.kt_store.proofs.InsertLemmas.{concluded}
 use Rattle.kt_store.proofs.RunLemmas.{picked_run}
 use Rattle.kt_store.proofs.QueryLemmas.{answered, picked, show}
-use Rattle.kt_store.proofs.RunsByNumber.{number_at}
+use Rattle.kt_store.proofs.RunsByNumber.{all_above, number_at}
 use Rattle.kt_store.proofs.Values.{above, below, cast_int, cast_null, equal, same_value, went}
 
 abbrev pub finish_program : Program
@@ -49,10 +49,7 @@ abbrev lacks : ℕ → Row → Bool
 lacks n r = not (is_eq (value_cmp (rowid r) (Int (pos n))))
 
 all_stay : (from n : ℕ) (runs : List Run) → AreNumbered from runs → n < from → filter (lacks n) (map run_row runs) ≡ map run_row runs
-all_stay from n [] h low = refl
-all_stay from n (r ∷ runs) h low =
-    let stays : lacks n (run_row r) ≡ true = ap (λ o. not (is_eq o)) (above r.number n (omega (arith, h.0))) in
-    rw stays (ap (λ l. run_row r ∷ l) (all_stay (suc from) n runs h.1 (omega arith)))
+all_stay from n runs h low = filter_all (lacks n) (map run_row runs) (all_above (λ r. lacks n r ≡ true) n from runs (λ r past. ap (λ o. not (is_eq o)) (above r.number n past)) h low)
 
 goes_first : (from n : ℕ) (new : Row) (runs : List Run) → AreNumbered from runs → rowid new ≡ Int (pos n) → n < from → put_row new (map run_row runs) ≡ new ∷ map run_row runs
 goes_first from n new [] h id low = refl

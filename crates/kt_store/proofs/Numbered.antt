@@ -1,5 +1,5 @@
 -- When a run takes an entry; and runs stay numbered by place, and their entries ordered.
-use Rattle.kt_store.proofs.Common.{Agrees, AllByRecursion, AreNumbered, AreOrdered, AreRuns, BadPosition, Began, Bool, CanAdd, Entry, Err, Finished, Heads, IsAscending, IsBareIfPassed, IsEntry, IsRun, List, None, Ok, Option, Outline, Outputs, Put, RepeatedPosition, Run, RunClosed, Some, StoreCall, [], all-append, all-slice_get, ap, arith, cases_Bool, changed_by, cond, entries_of, false, finish, has_position, if◌then◌else◌, inl, inr, insert_at, length, nat_le, nat_lt, nat_tests, new_run, or_parts, put_refusal, put_refusal_of, refl, run_at, slice_get, slice_get_within, suc, sym, true, with_entry, zero, ℕ, ◌++◌, ◌+◌, ◌<◌, ◌==◌, ◌∙◌, ◌∷◌, ◌≡◌, ◌≤◌}
+use Rattle.kt_store.proofs.Common.{Agrees, AllByRecursion, AreNumbered, AreOrdered, AreRuns, BadPosition, Began, Bool, CanAdd, Entry, Err, Finished, Heads, IsAscending, IsBareIfPassed, IsEntry, IsRun, List, None, Ok, Option, Outline, Outputs, Put, RepeatedPosition, Run, RunClosed, Some, StoreCall, [], all-append, all-slice_get, all_weaker, ap, arith, cases_Bool, changed_by, cond, entries_of, false, finish, has_position, if◌then◌else◌, inl, inr, insert_at, length, nat_le, nat_lt, nat_tests, new_run, or_parts, put_refusal, put_refusal_of, refl, run_at, slice_get, slice_get_within, suc, sym, true, with_entry, zero, ℕ, ◌++◌, ◌+◌, ◌<◌, ◌==◌, ◌∙◌, ◌∷◌, ◌≡◌, ◌≤◌}
 use Rattle.kt_store.proofs.RunsByNumber.{entry_each, run_of}
 
 abbrev pub lower : Entry → Entry → Type 0
@@ -13,14 +13,10 @@ all_insert P e (x ∷ es) h hs = go (nat_lt e.position x.position) (all_insert P
     go true more = (h, (hs.0, hs.1))
     go false more = (hs.0, more)
 
-all_lower : (a b : Entry) (es : List Entry) → lower a b → AllByRecursion (lower b) es → AllByRecursion (lower a) es
-all_lower a b [] h hs = tt
-all_lower a b (x ∷ es) h hs = (omega (arith, h, hs.0), all_lower a b es h hs.1)
-
 pub ascends : (e : Entry) (es : List Entry) → IsAscending lower es → has_position e.position es ≡ false → IsAscending lower (insert_at e es)
 ascends e [] h free = (tt, tt)
 ascends e (x ∷ es) h free = elim (cases_Bool (nat_lt e.position x.position)) [
-  | inl before ↦ let low : lower e x = grind (arith, nat_tests, before) in rw before ((low, all_lower e x es low h.0), (h.0, h.1))
+  | inl before ↦ let low : lower e x = grind (arith, nat_tests, before) in rw before ((low, all_weaker (lower x) (lower e) (λ y above. omega (arith, low, above)) es h.0), (h.0, h.1))
   | inr after ↦
       let other = or_parts (x.position == e.position) (has_position e.position es) free in
       let high : lower x e = grind (arith, nat_tests, after, other.0) in

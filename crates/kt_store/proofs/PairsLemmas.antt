@@ -1,32 +1,28 @@
 -- What the query for the pairs of a run answers.
-use Rattle.kt_store.proofs.Common.{AllByRecursion, AreNumbered, Binary, Bool, Entry, Int, IsAscending, IsPermutation, IsStore, Less, List, None, Option, Output, Row, Run, Shown, Some, State, Variable, [], all-append, ap, append-nil, ap₂, arith, ascending, ascending-map, binary, col, drop, entries_of, false, filter, filter-append, flat_map, from_truth, is_true, map, map-append, map-map, nat_tests, option_to_list, output, output_cmp, pair_columns, pair_row, pair_rows, pair_rows_from, pairs_shown, pairs_text, pos, prop_rows, reads_as, refl, run_at, schema_2, subst, suc, true, ℕ, ◌&&◌, ◌++◌, ◌<◌, ◌==◌, ◌∙◌, ◌∷◌, ◌≡◌, ◌≢◌}
+use Rattle.kt_store.proofs.Common.{AllByRecursion, AreNumbered, Binary, Bool, Entry, Int, IsAscending, IsPermutation, IsStore, Less, List, None, Option, Output, Row, Run, Shown, Some, State, Variable, [], all-append, ap, append-nil, ap₂, arith, ascending, ascending-map, binary, col, drop, entries_of, false, filter, filter_all, filter_none, flat_map, from_truth, is_true, map, map-append, map-map, nat_tests, option_to_list, output, output_cmp, pair_columns, pair_row, pair_rows, pair_rows_from, pairs_shown, pairs_text, pos, prop_rows, reads_as, refl, run_at, schema_2, subst, suc, true, ℕ, ◌&&◌, ◌++◌, ◌<◌, ◌==◌, ◌∙◌, ◌∷◌, ◌≡◌, ◌≢◌, ◌≤◌}
 use Rattle.kt_store.proofs.SqlFacts.{pairs_select_is, pairs_query}
 use Rattle.kt_store.proofs.QueryLemmas.{answered_sorted}
 use Rattle.kt_store.proofs.EntryLemmas.{back, of_stored, of_one, and_true, truth, tests, passes, same_passes}
 use Rattle.kt_store.proofs.EntriesLemmas.{up_of}
 use Rattle.kt_store.proofs.Values.{below, equal, same_test}
 
+-- what holds of the row of each pair, from a place on
+all_from : (P : Row → Type 0) (n p k : ℕ) (vs : List Variable) → ((j : ℕ) (v : Variable) → k ≤ j → P (pair_row n p j v)) → AllByRecursion P (pair_rows_from n p k vs)
+all_from P n p k [] each = tt
+all_from P n p k (v ∷ vs) each = (each k v (omega arith), all_from P n p (suc k) vs (λ j w past. each j w (omega (arith, past))))
+
+all_rows : (P : Row → Type 0) (n : ℕ) (es : List Entry) → ((p k : ℕ) (v : Variable) → P (pair_row n p k v)) → AllByRecursion P (flat_map (pair_rows n) es)
+all_rows P n [] each = tt
+all_rows P n (e ∷ es) each = all-append P (pair_rows n e) (flat_map (pair_rows n) es) (all_from P n e.position 0 e.meta (λ j v _. each e.position j v)) (all_rows P n es each)
+
 -- the pairs of one run, of those of all
 module _ (test : Row → Bool) (n : ℕ) (each : (m p k : ℕ) (v : Variable) → test (pair_row m p k v) ≡ (m == n)) where
-  hit_pairs : (m : ℕ) → m ≡ n → (p k : ℕ) (vs : List Variable) → filter test (pair_rows_from m p k vs) ≡ pair_rows_from n p k vs
-  hit_pairs m same p k [] = refl
-  hit_pairs m same p k (v ∷ vs) =
-      let tested : test (pair_row m p k v) ≡ true = each m p k v ∙ grind (arith, nat_tests, same) in
-      rw tested (ap₂ (λ x xs. x ∷ xs) (ap (λ j. pair_row j p k v) same) (hit_pairs m same p (suc k) vs))
-
-  miss_pairs : (m : ℕ) → m ≢ n → (p k : ℕ) (vs : List Variable) → filter test (pair_rows_from m p k vs) ≡ []
-  miss_pairs m apart p k [] = refl
-  miss_pairs m apart p k (v ∷ vs) =
-      let tested : test (pair_row m p k v) ≡ false = each m p k v ∙ grind (arith, nat_tests, apart) in
-      rw tested (miss_pairs m apart p (suc k) vs)
-
   hit : (m : ℕ) → m ≡ n → (es : List Entry) → filter test (flat_map (pair_rows m) es) ≡ flat_map (pair_rows n) es
-  hit m same [] = refl
-  hit m same (e ∷ es) = filter-append test (pair_rows m e) (flat_map (pair_rows m) es) ∙ ap₂ (λ x y. x ++ y) (hit_pairs m same e.position 0 e.meta) (hit m same es)
+  hit m same es =
+      filter_all test (flat_map (pair_rows m) es) (all_rows (λ r. test r ≡ true) m es (λ p k v. each m p k v ∙ grind (arith, nat_tests, same))) ∙ ap (λ j. flat_map (pair_rows j) es) same
 
   miss : (m : ℕ) → m ≢ n → (es : List Entry) → filter test (flat_map (pair_rows m) es) ≡ []
-  miss m apart [] = refl
-  miss m apart (e ∷ es) = filter-append test (pair_rows m e) (flat_map (pair_rows m) es) ∙ ap₂ (λ x y. x ++ y) (miss_pairs m apart e.position 0 e.meta) (miss m apart es)
+  miss m apart es = filter_none test (flat_map (pair_rows m) es) (all_rows (λ r. test r ≡ false) m es (λ p k v. each m p k v ∙ grind (arith, nat_tests, apart)))
 
 pub of_pairs : (test : Row → Bool) (n : ℕ) (runs : List Run) → ((m p j : ℕ) (v : Variable) → test (pair_row m p j v) ≡ (m == n)) → AreNumbered 1 runs
     → filter test (prop_rows runs) ≡ flat_map (pair_rows n) (entries_of (run_at runs n))
@@ -41,21 +37,14 @@ of_pairs test n runs each h =
 -- the rows of pairs of entries by position rise in a relation that goes by their positions, and then by their places
 module _ (n : ℕ) (Rel : Row → Row → Type 0) (by_position : (p q k j : ℕ) (v w : Variable) → p < q → Rel (pair_row n p k v) (pair_row n q j w))
     (by_place : (p k j : ℕ) (v w : Variable) → k < j → Rel (pair_row n p k v) (pair_row n p j w)) where
-  later_places : (p k j : ℕ) (v : Variable) (vs : List Variable) → k < j → AllByRecursion (Rel (pair_row n p k v)) (pair_rows_from n p j vs)
-  later_places p k j v [] h = tt
-  later_places p k j v (w ∷ vs) h = (by_place p k j v w h, later_places p k (suc j) v vs (omega (arith, h)))
-
-  later_rows : (p q k j : ℕ) (v : Variable) (vs : List Variable) → p < q → AllByRecursion (Rel (pair_row n p k v)) (pair_rows_from n q j vs)
-  later_rows p q k j v [] h = tt
-  later_rows p q k j v (w ∷ vs) h = (by_position p q k j v w h, later_rows p q k (suc j) v vs h)
-
   later_entries : (p k : ℕ) (v : Variable) (es : List Entry) → AllByRecursion (λ (e : Entry). p < e.position) es → AllByRecursion (Rel (pair_row n p k v)) (flat_map (pair_rows n) es)
   later_entries p k v [] h = tt
-  later_entries p k v (e ∷ es) h = all-append (Rel (pair_row n p k v)) (pair_rows n e) (flat_map (pair_rows n) es) (later_rows p e.position k 0 v e.meta h.0) (later_entries p k v es h.1)
+  later_entries p k v (e ∷ es) h = all-append (Rel (pair_row n p k v)) (pair_rows n e) (flat_map (pair_rows n) es) (all_from (Rel (pair_row n p k v)) n e.position 0 e.meta (λ j w _. by_position p e.position k j v w h.0)) (later_entries p k v es h.1)
 
   rise_from : (p k : ℕ) (vs : List Variable) (rest : List Row) → ((j : ℕ) (v : Variable) → AllByRecursion (Rel (pair_row n p j v)) rest) → IsAscending Rel rest → IsAscending Rel (pair_rows_from n p k vs ++ rest)
   rise_from p k [] rest all up = up
-  rise_from p k (v ∷ vs) rest all up = (all-append (Rel (pair_row n p k v)) (pair_rows_from n p (suc k) vs) rest (later_places p k (suc k) v vs (omega arith)) (all k v), rise_from p (suc k) vs rest all up)
+  rise_from p k (v ∷ vs) rest all up =
+      (all-append (Rel (pair_row n p k v)) (pair_rows_from n p (suc k) vs) rest (all_from (Rel (pair_row n p k v)) n p (suc k) vs (λ j w past. by_place p k j v w past)) (all k v), rise_from p (suc k) vs rest all up)
 
   pub pairs_rise : (es : List Entry) → IsAscending (λ (a b : Entry). a.position < b.position) es → IsAscending Rel (flat_map (pair_rows n) es)
   pairs_rise [] up = tt

@@ -1,10 +1,6 @@
 -- What the INSERT of `put` does, and the rows of entries and of their pairs where an entry is added.
-use Rattle.kt_store.proofs.Common.{AllByRecursion, AreNumbered, Bool, Chosen, Enforced, Entry, Equal, Greater, HaveNoPairs, IsPermutation, IsPermutation-append_comm, IsPermutation-append_left, IsPermutation-append_right, IsPermutation-cons, IsPermutation-middle, IsPermutation-refl, IsPermutation-trans, Less, List, Ordering, Row, Run, Trees, [], ap, append_assoc, arith, cond, edit_of, entries_1, entry_row, entry_rows, false, flat_map, flat_map_same_on, insert_at, is_eq, is_taken, length, map, match_ordering, nat_lt, nat_tests, pair_rows, pair_rows_from, prop_rows, put_row, refl, rowid, schema_2, subst, subst₂, suc, sym, taken_by, true, value_cmp, value_rows, with_entry, works, zero, ℕ, ◌++◌, ◌+◌, ◌<◌, ◌==◌, ◌||◌, ◌∙◌, ◌∷◌, ◌≡◌}
-use Rattle.std.proofs.lemmas.List.Concat.{flat_map_single}
+use Rattle.kt_store.proofs.Common.{AllByRecursion, AreNumbered, Bool, Chosen, Enforced, Entry, Equal, Greater, HaveNoPairs, IsPermutation, IsPermutation-append_comm, IsPermutation-append_left, IsPermutation-append_right, IsPermutation-cons, IsPermutation-middle, IsPermutation-refl, IsPermutation-trans, Less, List, Ordering, Row, Run, Trees, [], ap, append_assoc, arith, cond, edit_of, entries_1, entry_row, entry_rows, false, flat_map, flat_map_same_on, flat_map_single, insert_at, is_eq, is_taken, length, map, match_ordering, nat_lt, nat_tests, pair_rows, pair_rows_from, prop_rows, put_row, refl, rowid, schema_2, subst, subst₂, suc, sym, taken_by, true, value_cmp, value_rows, with_entry, works, zero, ℕ, ◌++◌, ◌+◌, ◌<◌, ◌==◌, ◌||◌, ◌∙◌, ◌∷◌, ◌≡◌}
 use Rattle.kt_store.proofs.SqlFacts.{put_terms}
-
-swap_two : {X : Type 0} (a b : X) (xs : List X) → IsPermutation (a ∷ b ∷ xs) (b ∷ a ∷ xs)
-swap_two a b xs = IsPermutation-middle (a ∷ []) b xs
 
 -- a row with a rowid of its own goes in beside the others
 pub put_beside : (new : Row) (rows : List Row) → is_taken rows new ≡ false → IsPermutation (new ∷ rows) (put_row new rows)
@@ -13,7 +9,7 @@ put_beside new (r ∷ rows) free = go (value_cmp (rowid r) (rowid new)) free (pu
   where
     go : (o : Ordering) → (is_eq o || is_taken rows new) ≡ false → (is_taken rows new ≡ false → IsPermutation (new ∷ rows) (put_row new rows))
         → IsPermutation (new ∷ r ∷ rows) (match_ordering o (r ∷ put_row new rows) (new ∷ rows) (new ∷ r ∷ rows))
-    go Less free more = IsPermutation-trans _ _ _ (swap_two new r rows) (IsPermutation-cons r (new ∷ rows) (put_row new rows) (more free))
+    go Less free more = IsPermutation-trans _ _ _ (IsPermutation-middle (new ∷ []) r rows) (IsPermutation-cons r (new ∷ rows) (put_row new rows) (more free))
     go Equal free more = absurd (let e : true ≡ false = free in cc)
     go Greater free more = IsPermutation-refl (new ∷ r ∷ rows)
 

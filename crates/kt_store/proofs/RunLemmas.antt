@@ -1,5 +1,6 @@
 -- What the queries for one run and for all runs answer.
-use Rattle.kt_store.proofs.Common.{AllByRecursion, AreNumbered, Binary, Bool, Compare, Eq, Ghosts, Held, Int, IsAscending, IsPermutation, IsStore, Less, List, None, Option, Row, Run, Shown, ShowsOf, Some, State, Term, Trees, [], ap, ap₂, arith, ascending, binary, cases_lt, col, column, eval, false, filter, filter-map, filter_same, flag, flat_map, get_or, head_columns, holds, inl, inr, is_eq, is_some, is_true, last_run, length, length_permutation, list_all, map, map-map, nat_lt, nat_tests, nil_from_length, one_permutation, option_map, option_to_list, output, output_cmp, pos, reads_as, refl, rowid, run_at, run_row, run_text, runs_text, schema_2, slice_get, slice_get_past, state, subst, suc, sym, take, true, unsigned_abs, value_cmp, zero, ℕ, ◌&&◌, ◌++◌, ◌<◌, ◌∙◌, ◌∷◌, ◌≡◌, ◌≢◌, ◌≤◌}
+use Rattle.kt_store.proofs.Common.{AreNumbered, Binary, Bool, Compare, Eq, Ghosts, Held, Int, IsAscending, IsPermutation, IsStore, Less, List, None, Option, Row, Run, Shown, ShowsOf, Some, State, Term, Trees, [], ap, ap₂, arith, ascending, binary, cases_lt, col, column, eval, false, filter, filter-map, filter_same, flag, flat_map_single, get_or, head_columns, holds, inl, inr, is_eq, is_some, is_true, last_run, length, length_permutation, list_all, map, map-map, nat_lt, nat_tests, nil_from_length, one_permutation, option_map, option_to_list, output, output_cmp, pos, reads_as, refl, rowid, run_at, run_row, run_text, runs_text, schema_2, slice_get, slice_get_past, state, subst, suc, sym, take, true, unsigned_abs, value_cmp, zero, ℕ, ◌&&◌, ◌++◌, ◌<◌, ◌∙◌, ◌∷◌, ◌≡◌, ◌≢◌, ◌≤◌}
+use Rattle.kt_store.proofs.RunsByNumber.{all_above}
 use Rattle.kt_store.proofs.EntryLemmas.{and_true, of_one, truth, all_pass}
 use Rattle.kt_store.proofs.SqlFacts.{is, run_is, runs_select_is, runs_query}
 use Rattle.kt_store.proofs.Values.{same_test, some_mapped, below}
@@ -9,12 +10,8 @@ abbrev has_number : ℕ → Row → Bool
 has_number n row = is_eq (value_cmp (rowid row) (Int (pos n)))
 
 pub found_run : (n : ℕ) (runs : List Run) → AreNumbered 1 runs → filter (has_number n) (map run_row runs) ≡ map run_row (option_to_list (run_at runs n))
-found_run n runs h = ap (filter (has_number n)) (sym (alone runs)) ∙ of_one (has_number n) (λ r. run_row r ∷ []) (λ r. run_row r ∷ []) n here apart runs h ∙ alone (option_to_list (run_at runs n))
+found_run n runs h = ap (filter (has_number n)) (sym (flat_map_single run_row runs)) ∙ of_one (has_number n) (λ r. run_row r ∷ []) (λ r. run_row r ∷ []) n here apart runs h ∙ flat_map_single run_row (option_to_list (run_at runs n))
   where
-    alone : (rs : List Run) → flat_map (λ (r : Run). run_row r ∷ []) rs ≡ map run_row rs
-    alone [] = refl
-    alone (r ∷ rs) = ap (λ l. run_row r ∷ l) (alone rs)
-
     here : (r : Run) → r.number ≡ n → filter (has_number n) (run_row r ∷ []) ≡ run_row r ∷ []
     here r is = let same : has_number n (run_row r) ≡ true = same_test r.number n ∙ grind (arith, nat_tests, is) in rw same refl
 
@@ -117,13 +114,9 @@ lower x y = output_cmp runs_query (output runs_query (params_of x)) (output runs
 lower_runs : (r s : Run) → r.number < s.number → lower (run_row r) (run_row s)
 lower_runs r s h = rw (below r.number s.number h) refl
 
-all_lower : (r : Run) (from : ℕ) (runs : List Run) → AreNumbered from runs → r.number < from → AllByRecursion (lower (run_row r)) (map run_row runs)
-all_lower r from [] h low = tt
-all_lower r from (s ∷ runs) h low = (lower_runs r s (omega (arith, low, h.0)), all_lower r (suc from) runs h.1 (omega (arith, low)))
-
 rises : (from : ℕ) (runs : List Run) → AreNumbered from runs → IsAscending lower (map run_row runs)
 rises from [] h = tt
-rises from (r ∷ runs) h = (all_lower r (suc from) runs h.1 (omega (arith, h.0)), rises (suc from) runs h.1)
+rises from (r ∷ runs) h = (all_above (lower (run_row r)) r.number (suc from) runs (lower_runs r) h.1 (omega (arith, h.0)), rises (suc from) runs h.1)
 
 pub tells_heads : (old new : State) (runs : List Run) (rows : List Row) → IsStore old runs → Shown runs_text [] old new rows → rows ≡ map head_columns runs
 tells_heads old new runs rows has h =

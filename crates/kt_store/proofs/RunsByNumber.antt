@@ -1,10 +1,15 @@
 -- Runs by their numbers.
-use Rattle.kt_store.proofs.Common.{AllByRecursion, AreNumbered, AreRuns, Bool, Entry, IsRun, List, Run, Some, [], all-slice_get, ap, arith, cond, false, finish, insert_at, nat_tests, refl, run_at, slice_get, subst, suc, sym, true, with_entry, zero, ℕ, ◌+◌, ◌==◌, ◌∙◌, ◌∷◌, ◌≡◌}
+use Rattle.kt_store.proofs.Common.{AllByRecursion, AreNumbered, AreRuns, Bool, Entry, IsRun, List, Row, Run, Some, [], all-slice_get, ap, arith, cond, false, finish, insert_at, map, nat_tests, refl, run_at, run_row, slice_get, subst, suc, sym, true, with_entry, zero, ℕ, ◌+◌, ◌<◌, ◌==◌, ◌∙◌, ◌∷◌, ◌≡◌}
 
 pub number_at : (from k : ℕ) (runs : List Run) (r : Run) → AreNumbered from runs → slice_get runs k ≡ Some r → r.number ≡ from + k
 number_at from k [] r h there = absurd cc
 number_at from zero (x ∷ runs) r h there = let same : x ≡ r = cc in ap (λ (y : Run). y.number) (sym same) ∙ omega (arith, h.0)
 number_at from (suc k) (x ∷ runs) r h there = number_at (suc from) k runs r h.1 there ∙ omega arith
+
+-- what holds of the row of each run of a greater number
+pub all_above : (P : Row → Type 0) (n from : ℕ) (runs : List Run) → ((r : Run) → n < r.number → P (run_row r)) → AreNumbered from runs → n < from → AllByRecursion P (map run_row runs)
+all_above P n from [] each h low = tt
+all_above P n from (r ∷ runs) each h low = (each r (omega (arith, h.0, low)), all_above P n (suc from) runs each h.1 (omega (arith, low)))
 
 pub run_of : (run : ℕ) (runs : List Run) (r : Run) → AreRuns runs → run_at runs run ≡ Some r → IsRun r
 run_of zero runs r valid there = absurd cc
