@@ -1,5 +1,5 @@
 -- A run is finished.
-use Rattle.kt_store.proofs.Common.{AllByRecursion, Applies, AreRuns, Database, Does, Enforced, Entry, Ghosts, Given, HasCleanDisk, Held, Incomplete, Int, IsAscending, IsComplete, IsDatabase, IsPermutation, IsRun, IsStore, IsTrue, Keeps, List, MayTell, Mode, None, Ok, Option, Run, RunClosed, Some, StandsFor, Tables, Tally, Told, Trees, Update, [], ap, arith, done_row, drop, edit_of, entries_of, entry_row, entry_rows, false, finish, finish_refusal, finish_refusal_of, finish_text, flat_map, ids_of, length, map, nat_lt, nat_tests, pair_rows, pos, prop_rows, refl, run_at, runs_1, schema_2, state, subst, suc, sym, true, zero, ℕ, ◌++◌, ◌+◌, ◌<◌, ◌∙◌, ◌∷◌, ◌≡◌, ◌≤◌}
+use Rattle.kt_store.proofs.Common.{AllByRecursion, Applies, AreRuns, Database, Does, Enforced, Entry, Ghosts, Given, HasCleanDisk, Held, Incomplete, Int, IsAscending, IsComplete, IsDatabase, IsPermutation, IsRun, IsStore, IsTrue, Keeps, List, MayTell, Mode, None, Ok, Option, Run, RunClosed, Some, StandsFor, Tables, Tally, Told, Trees, Update, [], all_from, all_weaker, ap, arith, done_row, drop, edit_of, entries_of, entry_row, entry_rows, false, finish, finish_refusal, finish_refusal_of, finish_text, flat_map, ids_of, length, map, nat_lt, nat_tests, pair_rows, pos, prop_rows, refl, run_at, runs_1, schema_2, state, subst, suc, sym, true, zero, ℕ, ◌++◌, ◌+◌, ◌<◌, ◌∙◌, ◌∷◌, ◌≡◌, ◌≤◌}
 use Rattle.kt_store.proofs.RunsByNumber.{finish_each, finish_unseen, run_of}
 use Rattle.kt_store.proofs.SqlFacts.{finish_is}
 use Rattle.kt_store.proofs.FinishLemmas.{finish_program, finish_writes, finished_rows}
@@ -56,22 +56,14 @@ module _ {S : Type 0} (g : Ghosts S) (old new : Held S) (runs : List Run) (run :
   pub crash_finish : Closes → HasCleanDisk (state g new) → (trees : Trees) → MayTell g finish_text (Int (pos run) ∷ []) old trees → Keeps (finish run runs) trees
   crash_finish closes clean trees it = let f = closes (earlier clean) in crash_at run f.1 f.3 f.4 clean trees it
 
-all_from : (x : Entry) (es : List Entry) → AllByRecursion (λ (e : Entry). x.position < e.position) es → AllByRecursion (λ (e : Entry). suc x.position ≤ e.position) es
-all_from x [] h = tt
-all_from x (e ∷ es) h = (omega (arith, h.0), all_from x es h.1)
-
 -- positions that ascend below a bound are no more than it
 no_more : (from top : ℕ) (es : List Entry) → from ≤ top → AllByRecursion (λ (e : Entry). from ≤ e.position) es → IsAscending (λ (a b : Entry). a.position < b.position) es
     → AllByRecursion (λ (e : Entry). e.position < top) es → from + length es ≤ top
 no_more from top [] low above up below = omega (arith, low)
-no_more from top (e ∷ es) low above up below = omega (arith, above.0, no_more (suc e.position) top es (omega (arith, below.0)) (all_from e es up.0) up.1 below.1)
-
-all_zero : (es : List Entry) → AllByRecursion (λ (e : Entry). 0 ≤ e.position) es
-all_zero [] = tt
-all_zero (e ∷ es) = (omega arith, all_zero es)
+no_more from top (e ∷ es) low above up below = omega (arith, above.0, no_more (suc e.position) top es (omega (arith, below.0)) (all_weaker (λ (x : Entry). e.position < x.position) (λ (x : Entry). suc e.position ≤ x.position) (λ x h. omega (arith, h)) es up.0) up.1 below.1)
 
 pub at_most : (r : Run) → IsRun r → length r.entries ≤ r.total
-at_most r is = omega (arith, no_more 0 r.total r.entries (omega arith) (all_zero r.entries) is.ordered is.below)
+at_most r is = omega (arith, no_more 0 r.total r.entries (omega arith) (all_from (λ (e : Entry). 0 ≤ e.position) r.entries (λ e _. omega arith)) is.ordered is.below)
 
 module _ (runs : List Run) (run : ℕ) (r : Run) (there : run_at runs run ≡ Some r) where
   pub closed_already : r.finished ≡ true → finish_refusal runs run ≡ Some RunClosed

@@ -64,19 +64,15 @@ module _ {S : Type 0} (g : Ghosts S) (old new : Held S) (survives : Survives (st
   earlier : HasCleanDisk (state g new) → HasCleanDisk (state g old)
   earlier k = omega (arith, k, survives.clean)
 
-  pub asks_number : (HasCleanDisk (state g new) → Rests (state g old) (state g new)) → AsksNumber g old new
+  pub asks_number : ((n : ℤ) → SaysSchema n (state g old) → HasCleanDisk (state g new) → Rests (state g old) (state g new)) → AsksNumber g old new
   asks_number rests = record {
     earlier = earlier;
-    rests = λ n says clean. rests clean;
+    rests = rests;
     crash = λ n says. asked_leaves g old new earlier meta_text (says_plain n _ says) [] survives;
   }
 
   pub tells_number : (rows : List Row) → (HasCleanDisk (state g new) → Asked g meta_text [] old new rows) → AsksNumber g old new
-  tells_number rows asked = record {
-    earlier = earlier;
-    rests = λ n says clean. inl (asked_unchanged g old new earlier meta_text (says_plain n _ says) [] rows clean (asked clean));
-    crash = λ n says. asked_leaves g old new earlier meta_text (says_plain n _ says) [] survives;
-  }
+  tells_number rows asked = asks_number (λ n says clean. inl (asked_unchanged g old new earlier meta_text (says_plain n _ says) [] rows clean (asked clean)))
 
 pub says_two : (s : State) (runs : List Run) → StandsFor s runs → SaysSchema (pos 2) s
 says_two s runs has clean opened = record {

@@ -15,6 +15,15 @@ all_rows : (P : Row → Type 0) (n : ℕ) (es : List Entry) → ((p k : ℕ) (v 
 all_rows P n [] each = tt
 all_rows P n (e ∷ es) each = all-append P (pair_rows n e) (flat_map (pair_rows n) es) (all_from P n e.position 0 e.meta (λ j v _. each e.position j v)) (all_rows P n es each)
 
+-- what shows of each row the columns of its pair shows those of all
+pub all_columns : (f : Row → Row) (n : ℕ) → ((p k : ℕ) (v : Variable) → f (pair_row n p k v) ≡ pair_columns p v) → (es : List Entry) → map f (flat_map (pair_rows n) es) ≡ pairs_shown es
+all_columns f n is [] = refl
+all_columns f n is (e ∷ es) = map-append f (pair_rows n e) (flat_map (pair_rows n) es) ∙ ap₂ (λ x y. x ++ y) (from e.position 0 e.meta) (all_columns f n is es)
+  where
+    from : (p k : ℕ) (vs : List Variable) → map f (pair_rows_from n p k vs) ≡ map (pair_columns p) vs
+    from p k [] = refl
+    from p k (v ∷ vs) = ap₂ (λ x xs. x ∷ xs) (is p k v) (from p (suc k) vs)
+
 -- the pairs of one run, of those of all
 module _ (test : Row → Bool) (n : ℕ) (each : (m p k : ℕ) (v : Variable) → test (pair_row m p k v) ≡ (m == n)) where
   hit : (m : ℕ) → m ≡ n → (es : List Entry) → filter test (flat_map (pair_rows m) es) ≡ flat_map (pair_rows n) es
@@ -77,14 +86,6 @@ module _ (n : ℕ) where
   rises : (es : List Entry) → IsAscending (λ (a b : Entry). a.position < b.position) es → IsAscending lower (map shows (flat_map (pair_rows n) es))
   rises es h = ascending-map lower shows (flat_map (pair_rows n) es) (pairs_rise n (λ a b. lower (shows a) (shows b)) lower_positions lower_places es h)
 
-  columns_from : (p k : ℕ) (vs : List Variable) → map (λ r. (shows r).1) (pair_rows_from n p k vs) ≡ map (pair_columns p) vs
-  columns_from p k [] = refl
-  columns_from p k (v ∷ vs) = ap (λ l. pair_columns p v ∷ l) (columns_from p (suc k) vs)
-
-  columns : (es : List Entry) → map (λ r. (shows r).1) (flat_map (pair_rows n) es) ≡ pairs_shown es
-  columns [] = refl
-  columns (e ∷ es) = map-append (λ r. (shows r).1) (pair_rows n e) (flat_map (pair_rows n) es) ∙ ap₂ (λ x y. x ++ y) (columns_from e.position 0 e.meta) (columns es)
-
 pub tells_pairs : (old new : State) (runs : List Run) (n : ℕ) (rows : List Row) → IsStore old runs → Shown pairs_text (Int (pos n) ∷ []) old new rows → rows ≡ pairs_shown (entries_of (run_at runs n))
 tells_pairs old new runs n rows has h =
     let params : Row = Int (pos n) ∷ [] in
@@ -94,4 +95,4 @@ tells_pairs old new runs n rows has h =
     let of_one = of_pairs (λ r. passes params (back r)) n runs (each_pair n) has.tables.valid.numbered in
     let same = subst (λ l. IsPermutation l (map (out params) (filter (passes params) (old.now.trees 5)))) (ap (map (shows n)) of_one) from in
     answered_sorted 5 tests pairs_query.project ((col 1 2, ascending Binary) ∷ (col 1 3, ascending Binary) ∷ []) old.now.trees params rows reads.answer (map (shows n) (flat_map (pair_rows n) es)) same (rises n es (up_of runs n has.tables.valid))
-    ∙ map-map (λ (o : Output). o.1) (shows n) (flat_map (pair_rows n) es) ∙ columns n es
+    ∙ map-map (λ (o : Output). o.1) (shows n) (flat_map (pair_rows n) es) ∙ all_columns (λ r. (shows n r).1) n (λ p k v. refl) es

@@ -1,9 +1,10 @@
 -- What is shown of the rows that a cursor finds, and how a store that is only read serves.
-use Rattle.kt_store.proofs.Common.{Agrees, AreNumbered, AreWide, CaseOutputs, Entry, Err, Ghosts, HasRuns, HoldsCommit, IfErr, IfOk, IsStoreFault, Keeps, List, Looks, NoRun, None, Ok, Option, Outlasts, Outputs, Result, Row, Run, Serves, Shows, Some, StandAt, StoreCall, StoreFault, Trees, Variable, [], all-get_or, ap, ap₂, arith, by_trees, changed_by, column, drop, entry_at, entry_columns, entry_row, false, filter, flat_map, get_or, has_rowid, head_columns, in_columns, length, length-map, map, map-append, map-map, map_same, option_to_list, outputs_of, pair_columns, pair_rows, pair_rows_from, pairs_shown, places_2, pos, readings, refl, run_at, run_row, subst, suc, sym, true, ℕ, ◌++◌, ◌<◌, ◌∙◌, ◌∷◌, ◌≡◌, ◌≤◌, ◌⊎◌}
+use Rattle.kt_store.proofs.Common.{Agrees, AreNumbered, AreWide, CaseOutputs, Entry, Err, Ghosts, HasRuns, HoldsCommit, IfErr, IfOk, IsStoreFault, Keeps, List, Looks, NoRun, None, Ok, Option, Outlasts, Outputs, Result, Row, Run, Serves, Shows, Some, StandAt, StoreCall, StoreFault, Trees, [], all-get_or, all-map, ap, arith, by_trees, changed_by, column, drop, entry_at, entry_columns, entry_row, false, filter, flat_map, get_or, has_rowid, head_columns, in_columns, length, length-map, map, map-map, map_same, option_to_list, outputs_of, pair_rows, pairs_shown, places_2, pos, readings, refl, run_at, run_row, subst, sym, true, ℕ, ◌<◌, ◌∙◌, ◌∷◌, ◌≡◌, ◌≤◌, ◌⊎◌}
 use Rattle.sqlite_trees.specs.View.{View, Finds, IsClean, KeepsSchema}
 use Rattle.kt_store.proofs.EntryLemmas.{back}
 use Rattle.kt_store.proofs.RunLemmas.{found_run}
 use Rattle.kt_store.specs.declared.places.Places.{Places}
+use Rattle.kt_store.proofs.PairsLemmas.{all_columns}
 
 -- columns that leave the rowid out
 abbrev pub LeavesRowid : List ℕ → Type 0
@@ -30,16 +31,8 @@ pairs_leave (x ∷ r) = refl
 pub seen_entries : (n : ℕ) (es : List Entry) (shown : List Row) → Shows entry_places (map (entry_row n) es) shown → shown ≡ map entry_columns es
 seen_entries n es shown h = seen entry_places entries_leave _ shown h ∙ map-map (λ r. in_columns entry_places (back r)) (entry_row n) es
 
-one_entry : (n p k : ℕ) (vs : List Variable) → map (λ r. in_columns pair_places (back r)) (pair_rows_from n p k vs) ≡ map (pair_columns p) vs
-one_entry n p k [] = refl
-one_entry n p k (v ∷ vs) = ap (λ l. pair_columns p v ∷ l) (one_entry n p (suc k) vs)
-
-all_entries : (n : ℕ) (es : List Entry) → map (λ r. in_columns pair_places (back r)) (flat_map (pair_rows n) es) ≡ pairs_shown es
-all_entries n [] = refl
-all_entries n (e ∷ es) = map-append (λ r. in_columns pair_places (back r)) (pair_rows n e) (flat_map (pair_rows n) es) ∙ ap₂ (λ x y. x ++ y) (one_entry n e.position 0 e.meta) (all_entries n es)
-
 pub seen_pairs : (n : ℕ) (es : List Entry) (shown : List Row) → Shows pair_places (flat_map (pair_rows n) es) shown → shown ≡ pairs_shown es
-seen_pairs n es shown h = seen pair_places pairs_leave _ shown h ∙ all_entries n es
+seen_pairs n es shown h = seen pair_places pairs_leave _ shown h ∙ all_columns (λ r. in_columns pair_places (back r)) n (λ p k v. refl) es
 
 abbrev pub head_places : List ℕ
 head_places = 0 ∷ 2 ∷ 3 ∷ 4 ∷ []
@@ -84,8 +77,7 @@ one_wide n rows i y wide low is = subst (λ (l : Row). n ≤ length l) (sym is) 
 
 -- each has as many columns as were asked for
 pub all_wide : (columns : List ℕ) (rows : List Row) → AreWide (length columns) (map (in_columns columns) rows)
-all_wide columns [] = tt
-all_wide columns (r ∷ rows) = (omega (arith, length-map columns (column r)), all_wide columns rows)
+all_wide columns rows = all-map (λ (l : Row). length columns ≤ length l) (in_columns columns) (λ r. omega (arith, length-map columns (column r))) rows
 
 -- ---- how a store that is only read serves the calls of a store of runs
 

@@ -31,7 +31,7 @@ returns-clause-same g c n says clean =
     asked_unchanged g.S.Store c.args.conn.now c.ask.new.conn (λ k. omega (arith, k, c.ask.ensures.survives.clean)) meta_text (says_plain n _ says) [] c.in_ok-rows.rows.items clean (c.in_ok-rows.ensures.rows clean)
 
 pub returns-in_err-rows-clause-asks : goal.returns-in_err-rows-clause-asks
-returns-in_err-rows-clause-asks g c = asks_number g.S.Store c.args.conn.now c.ask.new.conn c.ask.ensures.survives (λ clean. c.in_err-rows.ensures.rests clean)
+returns-in_err-rows-clause-asks g c = asks_number g.S.Store c.args.conn.now c.ask.new.conn c.ask.ensures.survives (λ n says clean. c.in_err-rows.ensures.rests clean)
 
 pub returns-in_default-clause-asks : goal.returns-in_default-clause-asks
 returns-in_default-clause-asks g c = tells_number g.S.Store c.args.conn.now c.ask.new.conn c.ask.ensures.survives c.in_ok-rows.rows.items (λ clean. c.in_ok-rows.ensures.rows clean)
