@@ -30,10 +30,8 @@ IsDue (Numbered n) fault = ⊤
 IsDue _ fault = IsStoreFault fault
 
 pub all_due : (was : Was) (fault : StoreFault) → IsStoreFault fault → IsDue was fault
-all_due Blank fault h = h
-all_due (Current runs) fault h = h
-all_due (Older runs) fault h = h
 all_due (Numbered n) fault h = tt
+all_due _ fault h = h
 
 pub known_due : (was : Was) (fault : StoreFault) → HasNumber was → ((number_of was ≡ pos 1) ⊎ (number_of was ≡ pos 2) → IsStoreFault fault) → IsDue was fault
 known_due Blank fault has h = absurd has

@@ -47,14 +47,12 @@ module _ (p q s : Row → Bool) (e : Row) (es : List Row) where
   high a b c f g h = rw (a, b, c, f, g, h) refl
 
 not_least : (o : Ordering) → is_gt o ≡ true → not (is_lt o) ≡ true
-not_least Less h = cc
-not_least Equal h = cc
 not_least Greater h = refl
+not_least _ h = cc
 
 not_equal : (o : Ordering) → is_gt o ≡ true → is_eq o ≡ false
-not_equal Less h = cc
-not_equal Equal h = cc
 not_equal Greater h = refl
+not_equal _ h = cc
 
 module _ (key : Row) where
   abbrev least : Row → Bool

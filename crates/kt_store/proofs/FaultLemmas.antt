@@ -1,5 +1,5 @@
 -- What a refusal is reported as.
-use Rattle.kt_store.proofs.Common.{Err, IfErr, IfOk, IsErrAnd, IsNoMemory, IsStoreFault, NoMemory, Ok, OnErr, OnOk, Result, Store, StoreFault, subst, sym, ◌≡◌}
+use Rattle.kt_store.proofs.Common.{Err, IfErr, IfOk, IsErrAnd, IsNoMemory, IsStoreFault, NoMemory, Ok, OnErr, OnOk, Result, StoreFault, subst, sym, ◌≡◌}
 use Rattle.kt_store.specs.Inner.Fault.{IsFailure, IsShort}
 use Rattle.kt_store.specs.declared.store_fault.Trouble.{Trouble}
 use Rattle.kt_store.specs.declared.store_fault.Trouble.TheVariants.{NoMemory as Short, Failed}
@@ -44,7 +44,6 @@ fault_of B C P (Err e) f = f
 -- a lack of memory is a fault of the store
 pub starved : (fault : StoreFault) → IsNoMemory fault → IsStoreFault fault
 starved (NoMemory refusal) h = tt
-starved (Store statement) h = absurd h
 starved _ h = absurd h
 
 -- what is known of each fault is known of the one that is handed on

@@ -21,12 +21,10 @@ passes_it n x = refl
 
 -- the row of the schema's number, whatever its rowid
 pub one_row : (n : ℤ) (rows : List Row) → map (drop 1) rows ≡ (Text (codes "schema") ∷ Int n ∷ []) ∷ [] → (x : Value) × (rows ≡ (x ∷ Text (codes "schema") ∷ Int n ∷ []) ∷ [])
-one_row n [] is = absurd cc
-one_row n ([] ∷ rows) is = absurd cc
 one_row n ((x ∷ r) ∷ []) is =
     let same : r ≡ Text (codes "schema") ∷ Int n ∷ [] = cc in
     (x, ap (λ l. (x ∷ l) ∷ []) same)
-one_row n ((x ∷ r) ∷ s ∷ rows) is = absurd cc
+one_row n _ is = absurd cc
 
 one_shown : (n : ℤ) (rows : List Row) → map (drop 1) rows ≡ (Text (codes "schema") ∷ Int n ∷ []) ∷ [] → map shows (filter passes rows) ≡ (Int n ∷ []) ∷ []
 one_shown n rows h = let it = one_row n rows h in subst (λ l. map shows (filter passes l) ≡ (Int n ∷ []) ∷ []) (sym it.1) (rw (passes_it n it.0) refl)

@@ -1,5 +1,5 @@
 -- When a run takes an entry; and runs stay numbered by place, and their entries ordered.
-use Rattle.kt_store.proofs.Common.{Agrees, AllByRecursion, AreNumbered, AreOrdered, AreRuns, BadPosition, Began, Bool, CanAdd, Entry, Err, Finished, Heads, IsAscending, IsBareIfPassed, IsEntry, IsRun, List, None, Ok, Option, Outline, Outputs, Put, RepeatedPosition, Run, RunClosed, Some, StoreCall, [], all-append, all-slice_get, all_weaker, ap, arith, cases_Bool, changed_by, cond, entries_of, false, finish, has_position, if◌then◌else◌, inl, inr, insert_at, length, nat_le, nat_lt, nat_tests, new_run, or_parts, put_refusal, put_refusal_of, refl, run_at, slice_get, slice_get_within, suc, sym, true, with_entry, zero, ℕ, ◌++◌, ◌+◌, ◌<◌, ◌==◌, ◌∙◌, ◌∷◌, ◌≡◌, ◌≤◌}
+use Rattle.kt_store.proofs.Common.{Agrees, AllByRecursion, AreNumbered, AreOrdered, AreRuns, BadPosition, Began, Bool, CanAdd, Entry, Finished, IsAscending, IsBareIfPassed, IsEntry, IsRun, List, None, Ok, Option, Put, RepeatedPosition, Run, RunClosed, Some, StoreCall, [], all-append, all-slice_get, all_weaker, ap, arith, cases_Bool, changed_by, cond, entries_of, false, finish, has_position, if◌then◌else◌, inl, inr, insert_at, length, nat_le, nat_lt, nat_tests, new_run, or_parts, put_refusal, put_refusal_of, refl, run_at, slice_get, slice_get_within, suc, sym, true, with_entry, zero, ℕ, ◌++◌, ◌+◌, ◌<◌, ◌==◌, ◌∙◌, ◌∷◌, ◌≡◌, ◌≤◌}
 use Rattle.kt_store.proofs.RunsByNumber.{entry_each, run_of}
 
 abbrev pub lower : Entry → Entry → Type 0
@@ -92,24 +92,17 @@ numbers_finish k n (r ∷ runs) h = numbers_of n r (record r { finished = true }
 -- and so they do after each call
 pub numbers_changed : (call : StoreCall) (runs : List Run) → AreNumbered 1 runs → AreNumbered 1 (changed_by call runs)
 numbers_changed (Began total moment (Ok number)) runs h = numbers_new runs total moment h
-numbers_changed (Began total moment (Err fault)) runs h = h
 numbers_changed (Put number e (Ok done)) runs h = numbers_entry number e 1 runs h
-numbers_changed (Put number e (Err fault)) runs h = h
 numbers_changed (Finished number (Ok done)) runs h = numbers_finish number 1 runs h
-numbers_changed (Finished number (Err fault)) runs h = h
-numbers_changed (Heads answer) runs h = h
-numbers_changed (Outline number pairs answer) runs h = h
-numbers_changed (Outputs number position answer) runs h = h
+numbers_changed _ runs h = h
 
 -- a run that takes an entry has none at its position
 free_of : (r : Run) (e : Entry) → put_refusal_of (Some r) e ≡ None → has_position e.position r.entries ≡ false
 free_of r e = by r.finished (nat_le r.total e.position) (has_position e.position r.entries)
   where
     by : (closed past here : Bool) → (if closed then Some RunClosed else if past then Some BadPosition else if here then Some RepeatedPosition else None) ≡ None → here ≡ false
-    by true past here h = absurd cc
-    by false true here h = absurd cc
-    by false false true h = absurd cc
     by false false false h = refl
+    by _ _ _ h = absurd cc
 
 abbrev IsOrdered : Run → Type 0
 IsOrdered r = IsAscending (λ (a b : Entry). a.position < b.position) r.entries
@@ -132,12 +125,7 @@ ordered_finish k (r ∷ runs) o = by (r.number == k) (ordered_finish k runs o.1)
 -- the entries stay ordered after a call whose answer agrees with the runs
 pub ordered_changed : (call : StoreCall) (runs : List Run) → AreNumbered 1 runs → AreOrdered runs → Agrees runs call → AreOrdered (changed_by call runs)
 ordered_changed (Began total moment (Ok number)) runs h o a = all-append _ runs (new_run runs total moment ∷ []) o (tt, tt)
-ordered_changed (Began total moment (Err fault)) runs h o a = o
 ordered_changed (Put zero e (Ok done)) runs h o a = absurd cc
 ordered_changed (Put (suc k) e (Ok done)) runs h o a = ordered_entry k e runs h o a
-ordered_changed (Put number e (Err fault)) runs h o a = o
 ordered_changed (Finished number (Ok done)) runs h o a = ordered_finish number runs o
-ordered_changed (Finished number (Err fault)) runs h o a = o
-ordered_changed (Heads answer) runs h o a = o
-ordered_changed (Outline number pairs answer) runs h o a = o
-ordered_changed (Outputs number position answer) runs h o a = o
+ordered_changed _ runs h o a = o

@@ -30,15 +30,9 @@ as_found log db (p, q) = ap₂ (λ (l d : List ℕ). let r : Image = record { lo
 -- the items of a list of seven
 pub seven : {X : Type 0} (xs : List X) (a b c d e f g : X) → 7 ≤ length xs → length xs < 8 → a ≡ get_or xs 0 a → b ≡ get_or xs 1 b → c ≡ get_or xs 2 c → d ≡ get_or xs 3 d → e ≡ get_or xs 4 e → f ≡ get_or xs 5 f → g ≡ get_or xs 6 g
     → xs ≡ a ∷ b ∷ c ∷ d ∷ e ∷ f ∷ g ∷ []
-seven [] a b c d e f g long short p q r s t u v = absurd (omega (arith, long))
-seven (x0 ∷ []) a b c d e f g long short p q r s t u v = absurd (omega (arith, long))
-seven (x0 ∷ x1 ∷ []) a b c d e f g long short p q r s t u v = absurd (omega (arith, long))
-seven (x0 ∷ x1 ∷ x2 ∷ []) a b c d e f g long short p q r s t u v = absurd (omega (arith, long))
-seven (x0 ∷ x1 ∷ x2 ∷ x3 ∷ []) a b c d e f g long short p q r s t u v = absurd (omega (arith, long))
-seven (x0 ∷ x1 ∷ x2 ∷ x3 ∷ x4 ∷ []) a b c d e f g long short p q r s t u v = absurd (omega (arith, long))
-seven (x0 ∷ x1 ∷ x2 ∷ x3 ∷ x4 ∷ x5 ∷ []) a b c d e f g long short p q r s t u v = absurd (omega (arith, long))
 seven (x0 ∷ x1 ∷ x2 ∷ x3 ∷ x4 ∷ x5 ∷ x6 ∷ []) a b c d e f g long short p q r s t u v = rw (p, q, r, s, t, u, v) refl
 seven (x0 ∷ x1 ∷ x2 ∷ x3 ∷ x4 ∷ x5 ∷ x6 ∷ x7 ∷ xs) a b c d e f g long short p q r s t u v = absurd (omega (arith, short))
+seven _ a b c d e f g long short p q r s t u v = absurd (omega (arith, long))
 
 -- the rowids of the objects
 abbrev pub ids : List Value

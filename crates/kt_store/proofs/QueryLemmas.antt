@@ -1,5 +1,5 @@
 -- What a query of one table answers.
-use Rattle.kt_store.proofs.Common.{Bool, Int, IsAnswerAs, IsAscending, IsPermutation, IsPermutation-map, IsPermutation-trans, IsSureAnswer, Less, List, None, Null, Output, Query, Row, Term, Trees, [], ap, ascending-map, cond, end, eval_all, false, filter, flat_map, holds, inner, list_all, lit, map, map-map, matches_as, nat_le, negsuc, output, output_cmp, overlay, pos, refl, sorted_unique, subst, sym, true, unwrap_or, ℕ, ◌++◌, ◌^◌, ◌∙◌, ◌∷◌, ◌≡◌}
+use Rattle.kt_store.proofs.Common.{Bool, Int, IsAnswerAs, IsAscending, IsPermutation, IsPermutation-map, IsPermutation-refl, IsPermutation-trans, IsSureAnswer, Less, List, None, Null, Output, Query, Row, Term, Trees, [], ap, ascending-map, cond, end, eval_all, false, filter, flat_map, holds, inner, list_all, lit, map, map-map, matches_as, nat_le, negsuc, output, output_cmp, overlay, pos, refl, sorted_unique, subst, sym, true, unwrap_or, ℕ, ◌++◌, ◌^◌, ◌∙◌, ◌∷◌, ◌≡◌}
 use Rattle.sqlite_value.specs.declared.keys.Key.{Key}
 use Rattle.sqlite_sql.proofs.QueryLemmas.{output_cmp_total}
 
@@ -50,16 +50,15 @@ module _ (t : ℕ) (tests project : List Term) (order : List (Term × Key)) (db 
     answered = subst (λ l. IsPermutation l rows) (map-map (λ (o : Output). o.1) (λ r. output q (params ∷ r ∷ [])) picked)
         (subst (λ l. IsPermutation (map (λ (o : Output). o.1) (outputs picked)) l) (sym a.shown) (IsPermutation-map (λ (o : Output). o.1) (outputs picked) a.ordered (subst (λ k. IsPermutation k a.ordered) kept a.same)))
 
-    -- and in this order, where ORDER BY has no ties
-    pub answered_in_order : IsAscending (λ x y. output_cmp q (output q (params ∷ x ∷ [])) (output q (params ∷ y ∷ [])) ≡ Less) picked → rows ≡ map show picked
-    answered_in_order rises =
-        let ordered : a.ordered ≡ outputs picked = sorted_unique (output_cmp q) (output_cmp_total q) (outputs picked) a.ordered (ascending-map (λ x y. output_cmp q x y ≡ Less) (λ r. output q (params ∷ r ∷ [])) picked rises)
-        (subst (λ k. IsPermutation k a.ordered) kept a.same) a.sorted in
-        a.shown ∙ ap (map (λ (o : Output). o.1)) ordered ∙ map-map (λ (o : Output). o.1) (λ r. output q (params ∷ r ∷ [])) picked
-
     -- the rows in an order without ties, wherever it is from
     pub answered_sorted : (outs : List Output) → IsPermutation outs (outputs picked) → IsAscending (λ x y. output_cmp q x y ≡ Less) outs → rows ≡ map (λ (o : Output). o.1) outs
     answered_sorted outs same rises =
         let ordered : a.ordered ≡ outs = sorted_unique (output_cmp q) (output_cmp_total q) outs a.ordered rises
         (IsPermutation-trans _ _ _ same (subst (λ k. IsPermutation k a.ordered) kept a.same)) a.sorted in
         a.shown ∙ ap (map (λ (o : Output). o.1)) ordered
+
+    -- and in their own order, where ORDER BY has no ties
+    pub answered_in_order : IsAscending (λ x y. output_cmp q (output q (params ∷ x ∷ [])) (output q (params ∷ y ∷ [])) ≡ Less) picked → rows ≡ map show picked
+    answered_in_order rises =
+        answered_sorted (outputs picked) (IsPermutation-refl (outputs picked)) (ascending-map (λ x y. output_cmp q x y ≡ Less) (λ r. output q (params ∷ r ∷ [])) picked rises)
+        ∙ map-map (λ (o : Output). o.1) (λ r. output q (params ∷ r ∷ [])) picked

@@ -1,5 +1,5 @@
 -- How the tables of a database serve the calls of a store, and what a crash leaves.
-use Rattle.kt_store.proofs.Common.{Agrees, Began, Changes, Entry, Err, Finished, Ghosts, HasCleanDisk, Heads, Held, IfErr, IfOk, IsErrAnd, IsStoreFault, Keeps, KeepsOne, KeepsRuns, Leaves, List, Looked, MayChange, Ok, OnErr, OnOk, Outlasts, Outline, Outputs, Put, Reads, Result, Run, RunHead, Serves, StandsFor, State, StoreCall, StoreFault, Survives, Trees, [], arith, changed_by, finish, inl, inr, new_run, refl, results, state, subst, survives_then, survives_weaker, sym, with_entry, ℕ, ◌++◌, ◌∷◌, ◌≡◌}
+use Rattle.kt_store.proofs.Common.{Agrees, Began, Changes, Entry, Err, Finished, Ghosts, HasCleanDisk, Heads, Held, IfErr, IfOk, IsErrAnd, IsStoreFault, Keeps, KeepsOne, KeepsRuns, Leaves, List, Looked, MayChange, Ok, OnErr, OnOk, Outlasts, Put, Reads, Result, Run, RunHead, Serves, StandsFor, State, StoreCall, StoreFault, Survives, Trees, [], arith, changed_by, finish, inl, inr, new_run, refl, results, state, subst, survives_then, survives_weaker, sym, with_entry, ℕ, ◌++◌, ◌∷◌, ◌≡◌}
 use Rattle.kt_store.proofs.AskLemmas.{was_clean}
 use Rattle.kt_store.proofs.Numbered.{numbers_changed, ordered_changed}
 
@@ -37,14 +37,9 @@ module _ {R : Type 0} (LeavesOne : R → List (List Run) → Type 0) where
 -- what is known of each crash is known after each call
 pub always_outlasts : {R : Type 0} (Leaves : R → List (List Run) → Type 0) → ((s : R) (may : List (List Run)) → Leaves s may) → (call : StoreCall) (runs : List Run) (may : List (List Run)) (old new : R) → Outlasts Leaves call runs may old new
 always_outlasts Leaves h (Began total moment (Ok number)) runs may old new = h new _
-always_outlasts Leaves h (Began total moment (Err fault)) runs may old new = λ _. h new _
 always_outlasts Leaves h (Put number e (Ok done)) runs may old new = h new _
-always_outlasts Leaves h (Put number e (Err fault)) runs may old new = λ _. h new _
 always_outlasts Leaves h (Finished number (Ok done)) runs may old new = h new _
-always_outlasts Leaves h (Finished number (Err fault)) runs may old new = λ _. h new _
-always_outlasts Leaves h (Heads answer) runs may old new = λ _. h new _
-always_outlasts Leaves h (Outline number pairs answer) runs may old new = λ _. h new _
-always_outlasts Leaves h (Outputs number position answer) runs may old new = λ _. h new _
+always_outlasts Leaves h _ runs may old new = λ _. h new _
 
 -- a crash leaves what it left before, if nothing was called
 pub survives_self : (s : State) → Survives s s (λ (db : Trees). ⊥)
