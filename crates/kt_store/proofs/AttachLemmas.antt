@@ -39,13 +39,6 @@ known_due (Current runs) fault has h = h (inr refl)
 known_due (Older runs) fault has h = h (inl refl)
 known_due (Numbered n) fault has h = tt
 
--- what holds of an empty database, and of each that has a number, holds of all
-by_number : (P : Was → Type 0) → P Blank → ((was : Was) → HasNumber was → P was) → (was : Was) → P was
-by_number P blank rest Blank = blank
-by_number P blank rest (Current runs) = rest (Current runs) tt
-by_number P blank rest (Older runs) = rest (Older runs) tt
-by_number P blank rest (Numbered n) = rest (Numbered n) tt
-
 -- where the disk never was clean, nothing is known
 module _ (old new : State) (never : ¬ HasCleanDisk new) (nothing : Survives old new (λ (db : Trees). ⊥)) where
   more : (P : Trees → Type 0) → Survives old new P
@@ -110,12 +103,12 @@ module _ (old mid new : State) (first : Survives old mid (λ (db : Trees). ⊥))
       none was has is clean opened = absurd (filled was has is clean)
 
       pub create_takes : (IsEmpty mid → Takes Blank mid new) → (was : Was) → IsOf was old → Takes was old new
-      create_takes t = by_number (λ was. IsOf was old → Takes was old new) (λ is. takes_after Blank (t (still_of Blank is)))
-          (λ was has is. not_taken (Keeps []) (filled was has is) (t (none was has is)).2 was)
+      create_takes t Blank is = takes_after Blank (t (still_of Blank is))
+      create_takes t was is = not_taken (Keeps []) (filled was tt is) (t (none was tt is)).2 was
 
       pub create_refuses : (fault : StoreFault) → (IsEmpty mid → Refuses Blank mid new fault) → (was : Was) → IsOf was old → Refuses was old new fault
-      create_refuses fault r = by_number (λ was. IsOf was old → Refuses was old new fault) (λ is. refuses_after fault Blank (r (still_of Blank is)))
-          (λ was has is. not_refused (Keeps []) (filled was has is) (r (none was has is)).1 fault was)
+      create_refuses fault r Blank is = refuses_after fault Blank (r (still_of Blank is))
+      create_refuses fault r was is = not_refused (Keeps []) (filled was tt is) (r (none was tt is)).1 fault was
 
     -- tables are taken only where there are some
     module _ (filled : mid.now.schema.tables ≢ []) where
@@ -123,13 +116,12 @@ module _ (old mid new : State) (first : Survives old mid (λ (db : Trees). ⊥))
       empty_never is clean = filled (empty_blank old mid earlier same is clean)
 
       pub take_takes : ((was : Was) → HasNumber was → IsOf was mid → Takes was mid new) → (was : Was) → IsOf was old → Takes was old new
-      take_takes t = by_number (λ was. IsOf was old → Takes was old new) (λ is. not_taken (λ _. ⊥) (empty_never is) (t (Current []) tt (λ clean opened. absurd (empty_never is clean))).2 Blank)
-          (λ was has is. takes_after was (t was has (still_of was is)))
+      take_takes t Blank is = not_taken (λ _. ⊥) (empty_never is) (t (Current []) tt (λ clean opened. absurd (empty_never is clean))).2 Blank
+      take_takes t was is = takes_after was (t was tt (still_of was is))
 
       pub take_refuses : (fault : StoreFault) → ((was : Was) → HasNumber was → IsOf was mid → Refuses was mid new fault) → (was : Was) → IsOf was old → Refuses was old new fault
-      take_refuses fault r = by_number (λ was. IsOf was old → Refuses was old new fault)
-          (λ is. not_refused (λ _. ⊥) (empty_never is) (r (Current []) tt (λ clean opened. absurd (empty_never is clean))).1 fault Blank)
-          (λ was has is. refuses_after fault was (r was has (still_of was is)))
+      take_refuses fault r Blank is = not_refused (λ _. ⊥) (empty_never is) (r (Current []) tt (λ clean opened. absurd (empty_never is clean))).1 fault Blank
+      take_refuses fault r was is = refuses_after fault was (r was tt (still_of was is))
 
     -- schema 1 is renewed only where that is its number
     none_older : ¬ HasCleanDisk mid → StandsInOld mid []

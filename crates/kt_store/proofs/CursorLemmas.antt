@@ -147,11 +147,8 @@ abbrev entry_key : ℕ → ℕ → Row
 entry_key n p = Int (pos n) ∷ Int (pos p) ∷ []
 
 then_both : (c d : Ordering) → is_eq (ordering_then c (ordering_then d Equal)) ≡ is_eq c && is_eq d
-then_both Less d = refl
 then_both Equal Less = refl
-then_both Equal Equal = refl
-then_both Equal Greater = refl
-then_both Greater d = refl
+then_both _ _ = refl
 
 same_run : (columns : List ℕ) (n : ℕ) (r : Row) → begins (run_key n) (entry_of (1 ∷ columns) r) ≡ begins (run_key n) (entry_of (1 ∷ columns) (back (drop 1 r)))
 same_run columns n [] = refl

@@ -1,5 +1,5 @@
 -- What the statements do that take schema 1 to schema 2.
-use Rattle.kt_store.proofs.Common.{AllByRecursion, Applies, AtPlace, Blob, Bool, Database, Does, Enforced, Equal, Executes, Ghosts, Given, Greater, Held, Int, Integer, IsDatabase, IsPermutation, IsPermutation-refl, IsTrue, Less, List, Mode, None, Null, Ok, OldTables, OnRows, Option, Ordering, Program, Real, Row, Run, RunInTurn, State, Tables, Tally, Task, Term, Text, Trees, Unique, Update, Value, [], agree, and_parts, ap, are_fresh, arith, begun, binary, cast, clashes, codes, col, cond, create_props, differ, drop, edit_of, entry_rows, false, filter, first_key, has_rowid, have_rowids, id_in, ids_of, int_is, ints, is_eq, is_int, is_null, lit, map, match_ordering, meta_1, mode_of, not, one_permutation, one_step, or_left, or_right, passes, plain, pos, prop_rows, props, put_all, raise_statements, raise_text, refl, runs_as, schema_1, schema_2, slice_get, state, statement_of, subst, sym, taken_by, true, understood, value_cmp, value_cmp-Int, without_rowid, works, ℕ, ◌&&◌, ◌||◌, ◌∙◌, ◌∷◌, ◌≡◌}
+use Rattle.kt_store.proofs.Common.{AllByRecursion, Applies, AtPlace, Bool, Database, Does, Enforced, Equal, Executes, Ghosts, Given, Greater, Held, Int, Integer, IsDatabase, IsPermutation, IsPermutation-refl, IsTrue, Less, List, Mode, None, Null, Ok, OldTables, OnRows, Option, Ordering, Program, Row, Run, RunInTurn, State, Tables, Tally, Task, Term, Text, Trees, Unique, Update, Value, [], agree, and_parts, ap, are_fresh, arith, begun, binary, cast, clashes, codes, col, cond, create_props, differ, drop, edit_of, entry_rows, false, filter, first_key, has_rowid, have_rowids, id_in, ids_of, int_is, ints, is_eq, is_int, is_null, lit, map, match_ordering, meta_1, mode_of, not, one_permutation, one_step, or_left, or_right, passes, plain, pos, prop_rows, props, put_all, raise_statements, raise_text, refl, runs_as, schema_1, schema_2, slice_get, state, statement_of, subst, sym, taken_by, true, understood, value_cmp, value_cmp-Int, without_rowid, works, ℕ, ◌&&◌, ◌||◌, ◌∙◌, ◌∷◌, ◌≡◌}
 use Rattle.kt_store.proofs.Values.{cast_null, cast_int, went}
 use Rattle.sqlite_rules.specs.Action.{Writes}
 use Rattle.sqlite.specs.State as told
@@ -72,9 +72,7 @@ pub alone : (db : Trees) (x : Value) (gone : Bool) → has_rowid (id_in x) (numb
 alone db x true is unique keyed fresh rows = ap (map (drop 1)) rows
 alone db Null false is unique keyed fresh rows = absurd (let e : (is_int Null && true) ≡ true = subst (λ y. (is_int y && true) ≡ true) cast_null keyed in let f : false ≡ true = e in cc)
 alone db (Int n) false is unique keyed fresh rows = absurd (let e : true ≡ false = sym (ap is_eq (value_cmp-Int n n) ∙ grind (arith, ints)) ∙ is in cc)
-alone db (Real r) false is unique keyed fresh rows = absurd (never_beside db (Real r) (cast Integer (Real r)) unique refl (some_int _ keyed) (value_cmp (Real r) (cast Integer (Real r))) refl fresh rows)
-alone db (Text t) false is unique keyed fresh rows = absurd (never_beside db (Text t) (cast Integer (Text t)) unique refl (some_int _ keyed) (value_cmp (Text t) (cast Integer (Text t))) refl fresh rows)
-alone db (Blob b) false is unique keyed fresh rows = absurd (never_beside db (Blob b) (cast Integer (Blob b)) unique refl (some_int _ keyed) (value_cmp (Blob b) (cast Integer (Blob b))) refl fresh rows)
+alone db x false is unique keyed fresh rows = absurd (never_beside db x (cast Integer x) unique refl (some_int _ keyed) (value_cmp x (cast Integer x)) refl fresh rows)
 
 -- ---- what the statements do that take schema 1 to schema 2
 
