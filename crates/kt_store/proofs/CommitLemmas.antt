@@ -98,3 +98,7 @@ module _ {S : Type 0} (g : Ghosts S) (statements : List Statement) (old new : He
   pub commit_crash : Survives (state g old) (state g new) (Keeps more)
   commit_crash = survives_weaker (state g old) (state g new) (MayCommit g statements old) (Keeps more)
       (λ clean db it. let all = made (early clean) it.0 it.1 in ((state g it.0).now, all.1, it.2, all.0)) survives
+
+  pub commit_takes : ((db : Trees) → IsTrue (state g new).is_open → (state g new).may_leave db → db ≡ (state g new).committed.trees) → (HasCleanDisk (state g new) → Commits g statements old new)
+      → StandsFor (state g new) more × Leaves (state g new) (Keeps more) × Survives (state g old) (state g new) (Keeps more)
+  commit_takes law done = (commit_stands done, commit_lasts law done, commit_crash)

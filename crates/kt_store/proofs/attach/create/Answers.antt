@@ -1,5 +1,5 @@
 use Rattle.kt_store.proofs.Common.{[], arith, inl, inr, make_statements, no_schema, refl, ◌≡◌}
-use Rattle.kt_store.proofs.CommitLemmas.{undone_holds, commit_stands, commit_lasts, commit_crash}
+use Rattle.kt_store.proofs.CommitLemmas.{undone_holds, commit_crash, commit_takes}
 use Rattle.kt_store.proofs.CreateLemmas.{made_in}
 use Rattle.kt_store.proofs.FaultLemmas.{if_trouble}
 use Rattle.kt_store.proofs.SqlFacts.{mark_is}
@@ -17,9 +17,5 @@ returns-in_err-commit-clause-refused g c empty =
     ))
 
 pub returns-clause-taken : goal.returns-clause-taken
-returns-clause-taken g c empty = (
-  commit_stands g.S.Store make_statements c.args.conn.now c.commit.new.conn [] c.commit.ensures.crash (λ clean left ran. made_in g.S.Store c.args.conn.now left (λ opened. (empty clean opened).tables) ran) (λ clean. c.in_ok-commit.ensures.done clean),
-  commit_lasts g.S.Store make_statements c.args.conn.now c.commit.new.conn [] c.commit.ensures.crash (λ clean left ran. made_in g.S.Store c.args.conn.now left (λ opened. (empty clean opened).tables) ran)
-      (λ db opened may. g.met.S.Store.settled c.commit.new.conn.store db opened may) (λ clean. c.in_ok-commit.ensures.done clean),
-  commit_crash g.S.Store make_statements c.args.conn.now c.commit.new.conn [] c.commit.ensures.crash (λ clean left ran. made_in g.S.Store c.args.conn.now left (λ opened. (empty clean opened).tables) ran),
-)
+returns-clause-taken g c empty = commit_takes g.S.Store make_statements c.args.conn.now c.commit.new.conn [] c.commit.ensures.crash (λ clean left ran. made_in g.S.Store c.args.conn.now left (λ opened. (empty clean opened).tables) ran)
+    (λ db opened may. g.met.S.Store.settled c.commit.new.conn.store db opened may) (λ clean. c.in_ok-commit.ensures.done clean)

@@ -1,5 +1,5 @@
 use Rattle.kt_store.proofs.Common.{OldTables, arith, inl, inr, raise_statements, refl, state}
-use Rattle.kt_store.proofs.CommitLemmas.{undone_holds, commit_stands, commit_lasts, commit_crash}
+use Rattle.kt_store.proofs.CommitLemmas.{undone_holds, commit_crash, commit_takes}
 use Rattle.kt_store.proofs.RaiseLemmas.{raised_in}
 use Rattle.kt_store.proofs.FaultLemmas.{if_trouble}
 use Rattle.kt_store.proofs.SqlFacts.{raise_is}
@@ -21,9 +21,5 @@ returns-in_err-commit-clause-refused g c runs has =
     ))
 
 pub returns-clause-taken : goal.returns-clause-taken
-returns-clause-taken g c runs has = (
-  commit_stands g.S.Store raise_statements c.args.conn.now c.commit.new.conn runs c.commit.ensures.crash (λ clean left ran. raised_in g.S.Store c.args.conn.now left runs (λ opened. (has clean opened).tables) ran) (λ clean. c.in_ok-commit.ensures.done clean),
-  commit_lasts g.S.Store raise_statements c.args.conn.now c.commit.new.conn runs c.commit.ensures.crash (λ clean left ran. raised_in g.S.Store c.args.conn.now left runs (λ opened. (has clean opened).tables) ran)
-      (λ db opened may. g.met.S.Store.settled c.commit.new.conn.store db opened may) (λ clean. c.in_ok-commit.ensures.done clean),
-  commit_crash g.S.Store raise_statements c.args.conn.now c.commit.new.conn runs c.commit.ensures.crash (λ clean left ran. raised_in g.S.Store c.args.conn.now left runs (λ opened. (has clean opened).tables) ran),
-)
+returns-clause-taken g c runs has = commit_takes g.S.Store raise_statements c.args.conn.now c.commit.new.conn runs c.commit.ensures.crash (λ clean left ran. raised_in g.S.Store c.args.conn.now left runs (λ opened. (has clean opened).tables) ran)
+    (λ db opened may. g.met.S.Store.settled c.commit.new.conn.store db opened may) (λ clean. c.in_ok-commit.ensures.done clean)
