@@ -22,13 +22,10 @@ same_name : (x y : Value) → agree plain (1 ∷ []) (number_row x) (1 ∷ []) (
 unfolding binary value_cmp first_key lib.Ieee.is_nan lib.Ieee.lt
 same_name x y = refl
 
-less_differs : (x y : Value) → is_null x ≡ false → is_null y ≡ false → value_cmp x y ≡ Less → differ x y ≡ true
+differs : (x y : Value) (o : Ordering) → is_null x ≡ false → is_null y ≡ false → value_cmp x y ≡ o → is_eq o ≡ false → differ x y ≡ true
 unfolding binary
-less_differs x y one two cmp = rw (one, two, cmp) refl
-
-greater_differs : (x y : Value) → is_null x ≡ false → is_null y ≡ false → value_cmp x y ≡ Greater → differ x y ≡ true
-unfolding binary
-greater_differs x y one two cmp = rw (one, two, cmp) refl
+differs x y Equal one two cmp apart = absurd (let e : true ≡ false = apart in cc)
+differs x y o one two cmp apart = rw (one, two, cmp) refl
 
 -- a row that clashes does not pass
 refuted : (b rest : Bool) → (not (true && b) && rest) ≡ true → ¬ (b ≡ true)
@@ -43,13 +40,13 @@ module _ (db : Trees) (x y : Value) (unique : IsUnique db) (one : is_null x ≡ 
   never_before : value_cmp x y ≡ Less → ¬ (db 0 ≡ number_row x ∷ next_row y ∷ [])
   never_before cmp is =
       let rows = subst (AllByRecursion (λ row. passes Unique schema_2 db meta_1 row ≡ true)) is unique in
-      let clash : clashes plain (1 ∷ []) (db 0) (next_row y) ≡ true = ap (λ l. clashes plain (1 ∷ []) l (next_row y)) is ∙ rw (same_name x y, less_differs x y one two cmp) refl in
+      let clash : clashes plain (1 ∷ []) (db 0) (next_row y) ≡ true = ap (λ l. clashes plain (1 ∷ []) l (next_row y)) is ∙ rw (same_name x y, differs x y Less one two cmp refl) refl in
       refuted (clashes plain (1 ∷ []) (db 0) (next_row y)) _ rows.1.0 clash
 
   never_behind : value_cmp x y ≡ Greater → ¬ (db 0 ≡ next_row y ∷ number_row x ∷ [])
   never_behind cmp is =
       let rows = subst (AllByRecursion (λ row. passes Unique schema_2 db meta_1 row ≡ true)) is unique in
-      let clash : clashes plain (1 ∷ []) (db 0) (next_row y) ≡ true = ap (λ l. clashes plain (1 ∷ []) l (next_row y)) is ∙ or_right _ _ (or_left _ false (rw (same_name x y, greater_differs x y one two cmp) refl)) in
+      let clash : clashes plain (1 ∷ []) (db 0) (next_row y) ≡ true = ap (λ l. clashes plain (1 ∷ []) l (next_row y)) is ∙ or_right _ _ (or_left _ false (rw (same_name x y, differs x y Greater one two cmp refl) refl)) in
       refuted (clashes plain (1 ∷ []) (db 0) (next_row y)) _ rows.0 clash
 
   never_beside : (o : Ordering) → value_cmp x y ≡ o → (not (is_eq o || false) && true) ≡ true → ¬ (db 0 ≡ match_ordering o (number_row x ∷ next_row y ∷ []) (next_row y ∷ []) (next_row y ∷ number_row x ∷ []))

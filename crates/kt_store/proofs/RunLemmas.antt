@@ -58,13 +58,14 @@ tells_run g new runs n rows it =
 abbrev pub head : Run → ℕ × ℕ
 head r = (r.total, unsigned_abs (flag r.finished))
 
-pub none_there : (o : Option Run) (rows : List Row) → rows ≡ map head_row (option_to_list o) → slice_get rows 0 ≡ None → None ≡ option_map head o
-none_there None rows are none = refl
-none_there (Some r) rows are none = absurd (let e : Some (head_row r) ≡ None = sym (ap (λ l. slice_get l 0) are) ∙ none in cc)
+-- a first row is that of the run
+pub none_there : (f : Run → Row) (o : Option Run) (rows : List Row) → rows ≡ map f (option_to_list o) → slice_get rows 0 ≡ None → o ≡ None
+none_there f None rows are none = refl
+none_there f (Some r) rows are none = absurd (let e : Some (f r) ≡ None = sym (ap (λ l. slice_get l 0) are) ∙ none in cc)
 
-pub some_there : (o : Option Run) (rows : List Row) (row : Row) → rows ≡ map head_row (option_to_list o) → slice_get rows 0 ≡ Some row → (r : Run) × (o ≡ Some r) × (row ≡ head_row r)
-some_there None rows row are some = absurd (let e : None ≡ Some row = sym (ap (λ l. slice_get l 0) are) ∙ some in cc)
-some_there (Some r) rows row are some = let e : Some (head_row r) ≡ Some row = sym (ap (λ l. slice_get l 0) are) ∙ some in let same : row ≡ head_row r = cc in (r, refl, same)
+pub some_there : (f : Run → Row) (o : Option Run) (rows : List Row) (row : Row) → rows ≡ map f (option_to_list o) → slice_get rows 0 ≡ Some row → (r : Run) × (o ≡ Some r) × (row ≡ f r)
+some_there f None rows row are some = absurd (let e : None ≡ Some row = sym (ap (λ l. slice_get l 0) are) ∙ some in cc)
+some_there f (Some r) rows row are some = let e : Some (f r) ≡ Some row = sym (ap (λ l. slice_get l 0) are) ∙ some in let same : row ≡ f r = cc in (r, refl, same)
 
 -- a number that was read from the column that tells whether a run is finished
 pub flag_read : (n : ℕ) (finished : Bool) → Int (pos n) ≡ Int (flag finished) → n ≡ unsigned_abs (flag finished)

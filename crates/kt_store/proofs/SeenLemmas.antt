@@ -1,8 +1,8 @@
 -- What is shown of the rows that a cursor finds, and how a store that is only read serves.
-use Rattle.kt_store.proofs.Common.{Agrees, AreNumbered, AreWide, CaseOutputs, Entry, Err, Ghosts, HasRuns, HoldsCommit, IfErr, IfOk, IsStoreFault, Keeps, List, Looks, NoRun, None, Ok, Option, Outlasts, Outputs, Result, Row, Run, Serves, Shows, Some, StandAt, StoreCall, StoreFault, Trees, [], all-get_or, all-map, ap, arith, by_trees, changed_by, column, drop, entry_at, entry_columns, entry_row, false, filter, flat_map, get_or, has_rowid, head_columns, in_columns, length, length-map, map, map-map, map_same, option_to_list, outputs_of, pair_rows, pairs_shown, places_2, pos, readings, refl, run_at, run_row, subst, sym, true, ℕ, ◌<◌, ◌∙◌, ◌∷◌, ◌≡◌, ◌≤◌, ◌⊎◌}
+use Rattle.kt_store.proofs.Common.{Agrees, AreNumbered, AreWide, CaseOutputs, Entry, Err, Ghosts, HasRuns, HoldsCommit, IfErr, IfOk, IsStoreFault, Keeps, List, Looks, NoRun, None, Ok, Outlasts, Outputs, Result, Row, Run, Serves, Shows, Some, StandAt, StoreCall, StoreFault, Trees, [], all-get_or, all-map, ap, arith, by_trees, changed_by, column, drop, entry_at, entry_columns, entry_row, false, filter, flat_map, get_or, has_rowid, head_columns, in_columns, length, length-map, map, map-map, map_same, outputs_of, pair_rows, pairs_shown, places_2, pos, readings, refl, run_at, run_row, subst, sym, true, ℕ, ◌<◌, ◌∙◌, ◌∷◌, ◌≡◌, ◌≤◌, ◌⊎◌}
 use Rattle.sqlite_trees.specs.View.{View, Finds, IsClean, KeepsSchema}
 use Rattle.kt_store.proofs.EntryLemmas.{back}
-use Rattle.kt_store.proofs.RunLemmas.{found_run}
+use Rattle.kt_store.proofs.RunLemmas.{found_run, none_there, some_there}
 use Rattle.kt_store.specs.declared.places.Places.{Places}
 use Rattle.kt_store.proofs.PairsLemmas.{all_columns}
 
@@ -46,18 +46,11 @@ rows_of_runs places runs trees keeps is = ap (λ (p : Places). trees p.runs.tree
 
 -- a run is found by its rowid
 pub there_is : (runs : List Run) (n : ℕ) (table : List Row) (row : Row) → AreNumbered 1 runs → table ≡ map run_row runs → Finds table (pos n) row true → (r : Run) × (run_at runs n ≡ Some r) × (row ≡ run_row r)
-there_is runs n table row numbered are found = go (run_at runs n) (sym (found_run n runs numbered) ∙ ap (filter (has_rowid (pos n))) (sym are) ∙ found)
-  where
-    go : (o : Option Run) → map run_row (option_to_list o) ≡ row ∷ [] → (r : Run) × (o ≡ Some r) × (row ≡ run_row r)
-    go None is = absurd cc
-    go (Some r) is = (r, refl, let same : row ≡ run_row r = cc in same)
+there_is runs n table row numbered are found =
+    some_there run_row (run_at runs n) (row ∷ []) row (sym (sym (found_run n runs numbered) ∙ ap (filter (has_rowid (pos n))) (sym are) ∙ found)) refl
 
 pub there_is_none : (runs : List Run) (n : ℕ) (table : List Row) (row : Row) → AreNumbered 1 runs → table ≡ map run_row runs → Finds table (pos n) row false → run_at runs n ≡ None
-there_is_none runs n table row numbered are found = go (run_at runs n) (sym (found_run n runs numbered) ∙ ap (filter (has_rowid (pos n))) (sym are) ∙ found)
-  where
-    go : (o : Option Run) → map run_row (option_to_list o) ≡ [] → o ≡ None
-    go None is = refl
-    go (Some r) is = absurd cc
+there_is_none runs n table row numbered are found = none_there run_row (run_at runs n) [] (sym (sym (found_run n runs numbered) ∙ ap (filter (has_rowid (pos n))) (sym are) ∙ found)) refl
 
 -- what was only read still has its runs
 pub still_has : {S : Type 0} (g : Ghosts S) (old new : S) → Looks g old new → (runs : List Run) → HasRuns (g.view old) runs → HasRuns (g.view new) runs
