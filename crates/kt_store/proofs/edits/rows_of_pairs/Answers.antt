@@ -1,4 +1,4 @@
-use Rattle.kt_store.proofs.Common.{AllByRecursion, IsPair, Row, [], all_more, ap, ap₂, arith, map, pair_row, pair_rows_from, rules, subst, suc, sym, take, take_all, unnumbered, ◌++◌, ◌+◌, ◌∙◌, ◌∷◌, ◌≡◌}
+use Rattle.kt_store.proofs.Common.{IsPair, Row, [], all_more, ap, ap₂, arith, map, pair_row, pair_rows_from, rules, suc, sym, take, unnumbered, ◌++◌, ◌+◌, ◌∙◌, ◌∷◌, ◌≡◌}
 use Rattle.kt_store.proofs.EditLemmas.{pairs_taken}
 use Rattle.kt_store.proofs.edits.rows_of_pairs.Goals as goal
 
@@ -16,13 +16,3 @@ loop-pair-preserved c =
       pushed ∙ ap₂ (λ (l : _) (x : Row). l ++ x ∷ []) c.loop-pair.invariant.1 row ∙ sym taken ∙ ap (λ k. map unnumbered (pair_rows_from c.args.run c.args.position 0 (take k vs))) next,
       all_more IsPair vs i v (omega (arith, c.loop-pair-test.true)) c.pair-item.is c.loop-pair.invariant.2 c.in_ok-row.ensures.texts,
     )
-
-pub returns-clause-rows : goal.returns-clause-rows
-returns-clause-rows c =
-    let all = take_all c.loop-pair.pair-index c.args.pairs.now (omega (arith, c.loop-pair-test.false)) in
-    c.loop-pair.invariant.1 ∙ ap (λ l. map unnumbered (pair_rows_from c.args.run c.args.position 0 l)) all
-
-pub returns-clause-texts : goal.returns-clause-texts
-returns-clause-texts c =
-    let all = take_all c.loop-pair.pair-index c.args.pairs.now (omega (arith, c.loop-pair-test.false)) in
-    subst (AllByRecursion IsPair) all c.loop-pair.invariant.2

@@ -10,6 +10,3 @@ pub returns-clause-all : goal.returns-clause-all
 returns-clause-all g c runs has clean = IfOk-weaker c.query.result _ _ (λ rows are.
     let it = rw c.int.ensures at are in
     tells_entries (state g.S.Store it.mid) (state g.S.Store c.query.new.conn) runs c.args.run rows.items it.stored it.shown) (c.query.ensures.shown runs has clean)
-
-pub returns-clause-valid : goal.returns-clause-valid
-returns-clause-valid g c runs has clean = IfOk-weaker c.query.result _ _ (λ rows are. are.stored.tables.valid) (c.query.ensures.shown runs has clean)

@@ -1,10 +1,6 @@
-use Rattle.kt_store.proofs.Common.{[], ap, arith, get_or, head_columns, head_of, length, length-map, map, refl, rules, subst, suc, sym, take, take_all, ◌++◌, ◌+◌, ◌<◌, ◌∙◌, ◌∷◌, ◌≡◌}
+use Rattle.kt_store.proofs.Common.{[], ap, arith, get_or, head_columns, head_of, length, length-map, map, refl, rules, subst, suc, sym, take, ◌++◌, ◌+◌, ◌<◌, ◌∙◌, ◌∷◌, ◌≡◌}
 use Rattle.kt_store.proofs.RunLemmas.{one_more}
-use Rattle.kt_store.proofs.SeenLemmas.{one_wide}
 use Rattle.kt_store.proofs.heads.heads_in.Goals as goal
-
-pub head_in-requires : goal.head_in-requires
-head_in-requires c = one_wide 4 c.args.rows.now c.loop-row.row-index c.row-item.result c.requires (omega (arith, c.loop-row-test.true)) c.row-item.is
 
 pub loop-row-preserved : goal.loop-row-preserved
 loop-row-preserved c runs are =
@@ -15,6 +11,3 @@ loop-row-preserved c runs are =
     let more : map head_of (take (suc c.loop-row.row-index) runs) ≡ c.loop-row.heads.items ++ c.in_ok-head.head ∷ [] = it.2 ∙ rw (head, c.loop-row.invariant runs are) refl in
     let place : suc c.loop-row.row-index ≡ c.loop-row.row-index + 1 = omega arith in
     pushed ∙ sym more ∙ ap (λ k. map head_of (take k runs)) place
-
-pub returns : goal.returns
-returns c = record { heads = λ runs are. c.loop-row.invariant runs are ∙ ap (map head_of) (take_all c.loop-row.row-index runs (omega (arith, c.loop-row-test.false, ap length are, length-map runs head_columns))) }

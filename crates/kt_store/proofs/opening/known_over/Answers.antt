@@ -74,12 +74,6 @@ returns-clause-sound g c opens =
     let all = c.requires.held size lists.pages (subst (λ i. Recovers size i lists.pages) (seen g at) lists.found) lists.lists in
     subst (IsSound schema_2) ready.clean (sound_in all.0 (view store).trees ((returns-clause-opens g c loose).holds all.0 (all.1, ∣ all.2 ∣₁, all.3) (ready.sound loose)))
 
-pub returns-clause-settled : goal.returns-clause-settled
-returns-clause-settled g c = c.in_ok-store.ensures.ready.clean
-
-pub returns-clause-unbroken : goal.returns-clause-unbroken
-returns-clause-unbroken g c = c.in_ok-store.ensures.ready.sound
-
 -- the files recover to pages that list the tables
 pub returns-clause-lists : goal.returns-clause-lists
 returns-clause-lists g c clean =

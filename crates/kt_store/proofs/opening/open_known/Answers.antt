@@ -1,10 +1,6 @@
-use Rattle.kt_store.proofs.Common.{IfSome, IsClean, IsOfRuns, ListsTables, OpensRuns, subst, sym, view}
+use Rattle.kt_store.proofs.Common.{IfSome, IsClean, IsOfRuns, ListsTables, subst, sym, view}
 use Rattle.kt_store.proofs.OpeningLemmas.{as_found}
 use Rattle.kt_store.proofs.opening.open_known.Goals as goal
-
-pub returns-clause-opens : goal.returns-clause-opens
-returns-clause-opens g c =
-    subst (λ i. IfSome c.known.result (OpensRuns i)) (as_found g.S.Start.log g.S.Start.db c.in_ok-files.ensures.fresh) c.known.ensures.opens
 
 pub returns-clause-lists : goal.returns-clause-lists
 returns-clause-lists g c =

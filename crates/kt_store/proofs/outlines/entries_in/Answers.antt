@@ -1,20 +1,11 @@
-use Rattle.kt_store.proofs.Common.{Entry, List, [], ap, arith, as_shown, drop, get_or, length, length-map, map, map-append, pair_columns, pair_count, pairs_shown, rules, shown_columns, subst, suc, sym, take, take_all, ◌++◌, ◌+◌, ◌<◌, ◌∙◌, ◌∷◌, ◌≡◌}
-use Rattle.kt_store.proofs.MergeLemmas.{Later, at, enough, entry_position}
-use Rattle.kt_store.proofs.SeenLemmas.{one_wide}
+use Rattle.kt_store.proofs.Common.{Entry, List, [], ap, arith, as_shown, drop, get_or, length, length-map, map, map-append, pair_columns, pair_count, pairs_shown, rules, shown_columns, subst, suc, sym, take, ◌++◌, ◌+◌, ◌<◌, ◌∙◌, ◌∷◌, ◌≡◌}
+use Rattle.kt_store.proofs.MergeLemmas.{Later, at, entry_position}
 use Rattle.kt_store.proofs.outlines.entries_in.Goals as goal
 
 -- the pairs of one more entry
 counted : (es : List Entry) (e : Entry) → pair_count (es ++ e ∷ []) ≡ pair_count es + length e.meta
 counted [] e = omega arith
 counted (x ∷ es) e = ap (λ n. length x.meta + n) (counted es e) ∙ omega arith
-
-pub small_in-requires : goal.small_in-requires
-small_in-requires c = omega (arith, enough c.args.whole _ (one_wide _ c.args.rows.now c.loop-row.row-index c.row-item.result c.requires.rows (omega (arith, c.loop-row-test.true)) c.row-item.is))
-
-pub entry_in-requires : goal.entry_in-requires
-entry_in-requires c =
-    let wide = one_wide _ c.args.rows.now c.loop-row.row-index c.row-item.result c.requires.rows (omega (arith, c.loop-row-test.true)) c.row-item.is in
-    record { parts = enough c.args.whole _ wide; outputs = wide }
 
 pub loop-row-preserved : goal.loop-row-preserved
 loop-row-preserved c = (
@@ -44,6 +35,3 @@ loop-row-preserved c = (
     ap length c.in_ok-entry.ensures.pairs,
   ),
 )
-
-pub returns-clause-entries : goal.returns-clause-entries
-returns-clause-entries c es sound up are pairs = (c.loop-row.invariant.0 es sound up are pairs).0 ∙ ap (map (as_shown c.args.whole)) (take_all c.loop-row.row-index es (omega (arith, c.loop-row-test.false, ap length are, length-map es (shown_columns c.args.whole))))

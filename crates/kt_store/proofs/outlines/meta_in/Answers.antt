@@ -2,12 +2,6 @@ use Rattle.kt_store.proofs.Common.{AreWide, [], ap, arith, length, length-append
 use Rattle.kt_store.proofs.MergeLemmas.{one_read, all_read, no_more}
 use Rattle.kt_store.proofs.outlines.meta_in.Goals as goal
 
-pub number_in-requires : goal.number_in-requires
-number_in-requires c = omega (arith, (subst (AreWide 3) c.in-Some.ensures.cases.0 c.loop-row.invariant.1).0)
-
-pub pair_in-requires : goal.pair_in-requires
-pair_in-requires c = (subst (AreWide 3) c.in-Some.ensures.cases.0 c.loop-row.invariant.1).0
-
 pub returns-then-branch-from-clause-meta : goal.returns-then-branch-from-clause-meta
 returns-then-branch-from-clause-meta c vs others sound later are =
     let it = c.loop-row.invariant.0 vs others sound later are in

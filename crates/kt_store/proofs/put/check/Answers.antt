@@ -1,6 +1,6 @@
 use Rattle.kt_store.proofs.Common.{arith, inr, sym, ◌∙◌}
 use Rattle.kt_store.proofs.AskLemmas.{looked-then, was_clean}
-use Rattle.kt_store.proofs.Numbered.{refused_closed, refused_past, refused_repeated, taken}
+use Rattle.kt_store.proofs.Numbered.{refused_closed, refused_past, taken}
 use Rattle.kt_store.proofs.put.check.Goals as goal
 
 pub returns-then-finished-clause-refused : goal.returns-then-finished-clause-refused
@@ -12,13 +12,6 @@ pub returns-then-from-total-clause-refused : goal.returns-then-from-total-clause
 returns-then-from-total-clause-refused g c runs has clean =
     let it = c.in_ok-total.ensures.found runs has clean in
     inr (refused_past runs c.args.run c.args.entry.now it.0 it.1 (sym it.3 ∙ c.if-finished.false) (omega (arith, c.if-from-total.true, c.from.ensures, it.2)))
-
-pub returns-then-branch-clause-refused : goal.returns-then-branch-clause-refused
-returns-then-branch-clause-refused g c runs has clean =
-    let stands = c.look.ensures.looked.stands runs has in
-    let early = was_clean c.there.ensures.looked runs stands clean in
-    let it = c.in_ok-total.ensures.found runs has early in
-    inr (refused_repeated runs c.args.run c.args.entry.now it.0 it.1 (sym it.3 ∙ c.if-finished.false) (omega (arith, c.if-from-total.false, c.from.ensures, it.2)) (sym (c.in_ok-there.ensures.found runs stands clean) ∙ c.if-branch.true))
 
 pub returns-clause-taken : goal.returns-clause-taken
 returns-clause-taken g c runs has clean passed =

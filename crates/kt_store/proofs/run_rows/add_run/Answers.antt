@@ -1,7 +1,5 @@
-use Rattle.kt_store.proofs.Common.{HasCleanDisk, IsDatabase, IsStore, IsTrue, Keeps, List, MayChange, Run, SFits, StandsFor, Tables, [], ap, arith, last_run, length, new_run, pos, rules, state, suc, survives_weaker, to_z-of_z, unsigned_abs, w64, ◌++◌, ◌<◌, ◌∙◌, ◌∷◌, ◌≡◌}
+use Rattle.kt_store.proofs.Common.{HasCleanDisk, IsDatabase, IsStore, IsTrue, Keeps, List, MayChange, Run, SFits, StandsFor, [], ap, arith, last_run, length, new_run, pos, rules, state, suc, survives_weaker, to_z-of_z, unsigned_abs, w64, ◌++◌, ◌<◌, ◌∙◌, ◌∷◌, ◌≡◌}
 use Rattle.kt_store.proofs.BeginLemmas.{told_begin, crash_begin, leaves_commit}
-use Rattle.kt_store.proofs.FaultLemmas.{on_err}
-use Rattle.kt_store.proofs.StepLemmas.{rests_hold}
 use Rattle.kt_store.proofs.SqlFacts.{begin_is}
 use Rattle.kt_store.proofs.run_rows.add_run.Given.{Over}
 use Rattle.kt_store.proofs.run_rows.add_run.Goals.{After-tell, In_ok-tell}
@@ -42,6 +40,3 @@ returns-clause-added g c = record {
 
 pub returns-clause-crash : goal.returns-clause-crash
 returns-clause-crash g c = crash g (goal.at.returns-clause-crash g c).After-tell
-
-pub returns-in_err-tell-clause-kept : goal.returns-in_err-tell-clause-kept
-returns-in_err-tell-clause-kept g c = on_err c.from_residual.result (λ runs has. rests_hold (λ db. Tables db runs) (state g.S.Store c.args.conn.now) (state g.S.Store c.tell.new.conn) has (λ k. omega (arith, k, c.tell.ensures.survives.clean)) c.in_err-tell.ensures.rests)

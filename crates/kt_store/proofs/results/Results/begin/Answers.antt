@@ -1,4 +1,4 @@
-use Rattle.kt_store.proofs.Common.{Began, Err, Ok, StoreFull, inl, inr, last_run, length, refl, ◌<◌}
+use Rattle.kt_store.proofs.Common.{Began, Err, Ok, inl, last_run, length, ◌<◌}
 use Rattle.kt_store.proofs.ServeLemmas.{begin_writes, seen_at, troubled_at, write_refused, write_called}
 use Rattle.kt_store.proofs.results.Results.begin.Goals as goal
 
@@ -6,11 +6,6 @@ pub returns-in_err-is_full : goal.returns-in_err-is_full
 returns-in_err-is_full g c =
     troubled_at g.S.Store (λ r. Began c.args.total c.args.moment r) c.self.inside.conn c.args.self.now c.is_full.new.conn c.self.view_is c.from_residual.result c.from_residual.ensures.1
     (λ e failed. write_refused g.S.Store _ _ (begin_writes _ c.args.total c.args.moment) c.self.inside.conn c.is_full.new.conn c.is_full.ensures.looked e (λ runs has clean. inl failed))
-
-pub returns-then-branch : goal.returns-then-branch
-returns-then-branch g c =
-    seen_at g.S.Store (Began c.args.total c.args.moment (Err StoreFull)) c.self.inside.conn c.args.self.now c.is_full.new.conn c.self.view_is
-    (write_refused g.S.Store _ _ (begin_writes _ c.args.total c.args.moment) c.self.inside.conn c.is_full.new.conn c.is_full.ensures.looked StoreFull (λ runs has clean. inr (refl, (c.in_ok-is_full.ensures.full runs has clean).0 c.if-branch.true)))
 
 pub returns-in_err-add_run : goal.returns-in_err-add_run
 returns-in_err-add_run g c =

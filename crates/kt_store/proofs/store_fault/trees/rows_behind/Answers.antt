@@ -12,15 +12,6 @@ returns-then-not-branch-clause-all g c clean cs mine has =
     let p = has (subst (λ s. IsShaped s (old.trees table.tree)) (c.are_shaped.ensures.table (search rules)) (order table.tree)) (subst (λ s. IsShaped s (old.trees table.index)) (c.are_shaped.ensures.index (search rules)) (order table.index)) in
     lemma.halfway_end c.args.columns.now cs c.args.key.now mine _ _ p _ c.places.rows.items (c.places.invariant.3 early cs mine p) (rw c.if-not-branch.true at (c.in_ok-next_row.ensures.goes clean))
 
-pub returns-in_err-next_row-clause-looks : goal.returns-in_err-next_row-clause-looks
-returns-in_err-next_row-clause-looks g c = looks_then g.S.Store _ _ _ c.places.invariant.2 c.next_row.ensures.looks
-
-pub returns-then-not-branch-clause-looks : goal.returns-then-not-branch-clause-looks
-returns-then-not-branch-clause-looks g c = looks_then g.S.Store _ _ _ c.places.invariant.2 c.next_row.ensures.looks
-
-pub returns-in_err-add_shown-clause-looks : goal.returns-in_err-add_shown-clause-looks
-returns-in_err-add_shown-clause-looks g c = looks_then g.S.Store _ _ _ c.places.invariant.2 c.next_row.ensures.looks
-
 pub places-preserved : goal.places-preserved
 places-preserved g c = (
   search rules,
