@@ -1,7 +1,7 @@
 use Rattle.kt_sched.proofs.Common.{sym, ◌∙◌, ap, subst, Result, err_from_is_err_and, Totals, counted, Ran}
 use Rattle.kt_sched.specs.declared.run_fault.RunFault.{RunFault}
 use Rattle.kt_sched.proofs.Loop.{loop_can_count, loop_end, loop_failed, loop_first, loop_may_start, loop_may_wait, loop_put, loop_runs, loop_start, loop_storable}
-use Rattle.kt_sched.proofs.Exits.{loop_idle, ran_not, ran_short, ran_well}
+use Rattle.kt_sched.proofs.Exits.{ran_not, ran_short, ran_well}
 use Rattle.kt_sched.proofs.run.run_cases.Goals as goal
 use Rattle.kt_sched.proofs.run.run_cases.Goals.{in-None, in-Some}
 
@@ -75,6 +75,3 @@ returns-in-Done-clause-ran g c =
       | in-None w ↦ subst T (sym w.result-is) (ran_well c.requires.plan c.loop-i.invariant e.next e.follows w.in-None.is)
       | in-Some w ↦ subst T (sym w.result-is) (ran_short c.requires.plan c.loop-i.invariant e.next e.follows w.in-Some.cause w.in-Some.is)
     ]
-
-pub returns-in-Done-clause-idle : goal.returns-in-Done-clause-idle
-returns-in-Done-clause-idle g c = loop_idle c.requires.plan c.loop-i.invariant c.in-Done.ensures.next c.in-Done.ensures.follows

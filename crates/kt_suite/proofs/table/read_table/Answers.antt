@@ -1,6 +1,6 @@
-use Rattle.std.proofs.Common.{Result, Ok, Err, rules, ◌≡◌, ◌+◌, ◌∷◌, length, drop, sym, ap, ◌∙◌, drop_of_length-le}
+use Rattle.std.proofs.Common.{Result, Ok, Err, rules, ◌≡◌, ◌+◌, ◌∷◌, drop, sym, ap, ◌∙◌}
 use Rattle.kt_suite.proofs.Common.{drop_more, Pair, SuiteCause, ProgramTable, table_with, definition}
-use Rattle.kt_suite.proofs.TableLoops.{table_next, table_stops, table_all}
+use Rattle.kt_suite.proofs.TableLoops.{table_next, table_stops}
 use Rattle.kt_suite.proofs.table.read_table.Goals as goal
 
 pub returns-in-Err : goal.returns-in-Err
@@ -18,6 +18,3 @@ loop-pair-preserved c =
     let e : drop i xs ≡ c.pair-item.result ∷ drop (i + 1) xs = drop_more xs i _ c.loop-pair-test.true ∙ ap (λ (x : Pair). x ∷ drop (i + 1) xs) (sym c.pair-item.is) in
     let h : ◌≡◌ {A = Result ProgramTable SuiteCause} (Ok c.in-Ok.next) (table_with c.loop-pair.invariant.before (definition c.pair-item.result)) = search rules in
     table_next _ _ _ _ _ _ e c.loop-pair.invariant h
-
-pub returns : goal.returns
-returns c = table_all _ _ _ (ap length (drop_of_length-le c.args.pairs.now c.loop-pair-test.false)) c.loop-pair.invariant

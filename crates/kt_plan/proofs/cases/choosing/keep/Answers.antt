@@ -1,8 +1,5 @@
-use Rattle.kt_plan.proofs.Picking.{passed, picked}
+use Rattle.kt_plan.proofs.Picking.{picked}
 use Rattle.kt_plan.proofs.cases.choosing.keep.Goals as goal
-
-pub returns-in-None : goal.returns-in-None
-returns-in-None c = λ filters rest h. passed filters c.args.candidate rest c.args.place c.args.cases.now c.args.places.now c.in-None.ensures h
 
 pub returns-in_ok-push-in-Some : goal.returns-in_ok-push-in-Some
 returns-in_ok-push-in-Some c = λ filters rest h.

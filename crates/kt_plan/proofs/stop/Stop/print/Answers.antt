@@ -2,10 +2,6 @@ use Rattle.std.proofs.Common.{◌∙◌}
 use Rattle.kt_plan.proofs.Common.{encode}
 use Rattle.kt_plan.proofs.stop.Stop.print.Goals as goal
 
-pub returns-in-NoMemory : goal.returns-in-NoMemory
-unfolding encode
-returns-in-NoMemory g c = rw c.in-NoMemory.is (rw c.as_bytes.ensures.value at c.emit.ensures)
-
 pub returns-in-UnreadConfiguration : goal.returns-in-UnreadConfiguration
 unfolding encode
 returns-in-UnreadConfiguration g c = rw c.in-UnreadConfiguration.is c.emit-in-UnreadConfiguration.ensures

@@ -13,12 +13,3 @@ returns c =
 pub invariant_of-self : goal.invariant_of-self
 invariant_of-self c =
     let v = c.self.invariant in (v.0, v.1, _, (returns c).stands v.0 v.1 v.2 (subst (Stands v.0 v.1 v.2) c.self.view_is v.3))
-
-pub after_end-stage-requires : goal.after_end-stage-requires
-after_end-stage-requires c = (end_fits c.self.view_is c.self.invariant c.args.ended c.requires.runs c.replace_stage-was.ensures).0
-
-pub active_after-self-inside-requires-clause-less : goal.active_after-self-inside-requires-clause-less
-active_after-self-inside-requires-clause-less c = λ v. (end_fits c.self.view_is c.self.invariant c.args.ended c.requires.runs c.replace_stage-was.ensures).1
-
-pub replace_stage-taken-requires : goal.replace_stage-taken-requires
-replace_stage-taken-requires c = (end_fits c.self.view_is c.self.invariant c.args.ended c.requires.runs c.replace_stage-was.ensures).2
