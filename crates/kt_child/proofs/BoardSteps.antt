@@ -6,6 +6,7 @@ use Rattle.kt_child.specs.Driving.Board.{killed, later, paused, polled}
 use Rattle.kt_child.proofs.Chains.{chain_append}
 use Rattle.kt_child.proofs.Outcomes.{goes_on}
 use Rattle.kt_child.proofs.CaseSteps.{Left}
+use Rattle.std.proofs.lemmas.List.{map-append}
 use Rattle.std.proofs.lemmas.Option.{same_Some}
 
 -- a child with these answers
@@ -13,21 +14,12 @@ abbrev answering : Watched → List Heard → Alive
 answering k heard = record { case = k.case; limit = k.limit; heard = heard }
 
 -- the children after a start, and the cases that are owed
-pub alive_started : (b : ChildrenState) (job : Job) (c : Case) (answer : StartAnswer)
-    → alive_of (state_after_start b (spawned (limit_of job c.role) c) answer).children ≡ alive_after (alive_of b.children) job c answer
-alive_started b job c (RefusedFor cause) = refl
-alive_started b job c (StartedAt moment) = by b.children
-  where
-    k : Watched
-    k = spawned (limit_of job c.role) c
-
-    by : (ks : List Watched) → alive_of (ks ++ k ∷ []) ≡ alive_of ks ++ answering k [] ∷ []
-    by [] = refl
-    by (x ∷ ks) = ap (λ t. answering x (answered x.limit x.watch) ∷ t) (by ks)
-
-pub pending_started : (b : ChildrenState) (k : Watched) (answer : StartAnswer) → (state_after_start b k answer).pending ≡ b.pending
-pending_started b k (StartedAt moment) = refl
-pending_started b k (RefusedFor cause) = refl
+pub board_started : (b after : ChildrenState) (job : Job) (c : Case) (answer : StartAnswer)
+    → after ≡ state_after_start b (spawned (limit_of job c.role) c) answer
+    → (alive_of after.children ≡ alive_after (alive_of b.children) job c answer) × (after.pending ≡ b.pending)
+board_started b after job c (RefusedFor cause) e = rw e (refl, refl)
+board_started b after job c (StartedAt moment) e =
+    rw e (map-append (λ (x : Watched). answering x (answered x.limit x.watch)) b.children (spawned (limit_of job c.role) c ∷ []), refl)
 
 -- what is heard by children behind another
 all_later : (a : Alive) (old new : List Alive) (calls : List Call) → Chain Hears old calls new → Chain Hears (a ∷ old) calls (a ∷ new)
@@ -51,31 +43,20 @@ poll_heard k others answer done = by (is_killed k.limit k.watch answer)
 
     by : (t : Bool) → Chain Hears (answering k H ∷ others) (if t then Poll (child_of k.case) answer ∷ Kill (child_of k.case) done ∷ [] else Poll (child_of k.case) answer ∷ [])
         (answering k (H ++ (if t then HeardPoll answer ∷ HeardKill done ∷ [] else HeardPoll answer ∷ [])) ∷ others)
-    by true = (
-      answering k (H ++ HeardPoll answer ∷ []) ∷ others,
-      polled (answering k H) others answer,
-      (
-        answering k ((H ++ HeardPoll answer ∷ []) ++ HeardKill done ∷ []) ∷ others,
-        killed (answering k (H ++ HeardPoll answer ∷ [])) others done,
-        ap (λ t. answering k t ∷ others) (sym (append_assoc H (HeardPoll answer ∷ []) (HeardKill done ∷ []))),
-      ),
-    )
-    by false = (answering k (H ++ HeardPoll answer ∷ []) ∷ others, polled (answering k H) others answer, refl)
+    by true = (_, polled (answering k H) others answer, (_, killed (answering k (H ++ HeardPoll answer ∷ [])) others done, simp append_assoc))
+    by false = (_, polled (answering k H) others answer, refl)
 
 -- a poll of the first child, which goes on, and what the others hear after it
 first_heard : (k : Watched) (ks : List Watched) (answer : Result Polled OsFault) (done : Bool) (more calls : List Call) (new : List Alive)
     → answered k.limit (advanced k).watch ≡ answered k.limit k.watch ++ heard_of k.limit k.watch answer done → calls ≡ asked k answer done ++ more
     → Chain Hears (alive_of ks) more new → Chain Hears (alive_of (k ∷ ks)) calls (answering k (answered k.limit (advanced k).watch) ∷ new)
 first_heard k ks answer done more calls new goes e h =
-    let now = answering k (answered k.limit (advanced k).watch) in
-    let C : List Call → Type 0 = λ t. Chain Hears (alive_of (k ∷ ks)) t (now ∷ new) in
-    let A : List Heard → Type 0 = λ t. Chain Hears (alive_of (k ∷ ks)) (asked k answer done) (answering k t ∷ alive_of ks) in
-    subst C (sym e)
-    (chain_append Hears (alive_of (k ∷ ks)) (now ∷ alive_of ks) (now ∷ new) (asked k answer done) more (subst A (sym goes) (poll_heard k (alive_of ks) answer done)) (all_later now (alive_of ks) new more h))
+    rw (e, goes) (chain_append Hears (alive_of (k ∷ ks)) (told k answer done ∷ alive_of ks) (told k answer done ∷ new) (asked k answer done) more
+    (poll_heard k (alive_of ks) answer done) (all_later (told k answer done) (alive_of ks) new more h))
 
 -- a turn
 turn_heard : (ks : List Watched) (calls : List Call) → All IsOn ks → PolledAll ks calls → Chain Hears (alive_of ks) calls (alive_of (map advanced ks)) × All IsOn (map advanced ks)
-turn_heard [] calls on h = let C : List Call → Type 0 = λ t. Chain Hears [] t [] in (subst C (sym h) refl, All-nil IsOn)
+turn_heard [] calls on h = (rw h refl, All-nil IsOn)
 turn_heard (k ∷ ks) calls on (answer, done, more, e, went, turn) =
     let is = All-head IsOn k ks on in
     let g = goes_on k.limit k.watch answer done is.0 went in
@@ -93,13 +74,8 @@ until_heard : (ks : List Watched) (place : ℕ) (calls : List Call) (outcome : O
     → OverAt ks calls (advanced_below place ks) place outcome
 until_heard [] place calls outcome on (before, last, e, none, over) = absurd over
 until_heard (k ∷ ks) zero calls outcome on (before, last, e, none, (answer, done, f, ended, row)) =
-    let C : List Call → Type 0 = λ t. Chain Hears (alive_of (k ∷ ks)) t (told k answer done ∷ alive_of ks) in (
-      told k answer done ∷ alive_of ks,
-      told k answer done,
-      (subst C (sym (e ∙ ap (λ t. t ++ last) none ∙ f)) (poll_heard k (alive_of ks) answer done), refl, row),
-      refl,
-      λ j h. ap (λ (t : Watched). t.case) (same_Some k j h),
-    )
+    let a = told k answer done in
+    rw (e, none, f) (a ∷ alive_of ks, a, (poll_heard k (alive_of ks) answer done, refl, row), refl, λ j h. ap (λ (t : Watched). t.case) (same_Some k j h))
 until_heard (k ∷ ks) (suc place) calls outcome on (before, last, e, (answer, done, more, f, went, turn), over) =
     let g = goes_on k.limit k.watch answer done (All-head IsOn k ks on).0 went in
     let r = until_heard ks place (more ++ last) outcome (All-tail IsOn k ks on) (more, last, refl, turn, over) in
@@ -123,10 +99,7 @@ pub waited_ends : (old new : ChildrenState) (calls : List Call) (e : Ended) → 
 waited_ends old new calls e on w next =
     let o = wait_heard old.children w.polls w.place w.outcome w.after on w.waited in
     let case : o.1.case ≡ w.over.case = o.4 w.over w.there in
-    let T : Outcome → Type 0 = λ t. IsOver (alive_of old.children) w.polls o.0 w.place o.1 t in
-    let L : Outcome → Type 0 = λ t. Leaves w.over.case w.rest t e in
-    let M : Case → Type 0 = λ t. Leaves t w.rest e.outcome e in
-    let W : Outcome → Type 0 = λ t. WaitedOn old.children w.polls w.place t w.after in (
+    let L : Outcome → Type 0 = λ t. Leaves w.over.case w.rest t e in (
       record {
         polls = w.polls;
         leaving = w.rest;
@@ -134,13 +107,13 @@ waited_ends old new calls e on w next =
         after = o.0;
         place = w.place;
         over = o.1;
-        told = subst T (sym w.left.10) o.2;
-        left = subst M (sym case) (subst L (sym w.left.10) w.left);
+        told = rw w.left.10 o.2;
+        left = rw case (subst L (sym w.left.10) w.left);
         alive = ap alive_of w.children ∙ sym o.3;
         owed = w.pending ∙ ap (λ t. pending_with t old.pending) (sym case);
         next = refl;
       },
       w.after,
-      subst W (sym w.left.10) w.waited,
+      rw w.left.10 w.waited,
       w.children,
     )

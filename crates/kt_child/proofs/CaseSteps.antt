@@ -1,7 +1,9 @@
 -- The cases of children, which no poll changes.
 use Rattle.std.proofs.Common.{◌≡◌, ℕ, zero, suc, List, [], ◌∷◌, ◌++◌, Some, map, slice_get, refl, sym, ◌∙◌, ap, remove}
 use Rattle.kt_child.proofs.Common.{Outcome, Ended, Watched, ChildrenState, Call, Leaves, cases_of, WaitedOn, advanced, advanced_below, last_turn, pending_with, whole_turn}
-use Rattle.std.proofs.lemmas.Option.{same_Some}
+use Rattle.std.specs.Option.{option_map}
+use Rattle.std.proofs.lemmas.Option.{slice_get-map}
+use Rattle.indexmap.proofs.SetLemmas.{map-remove}
 
 pub cases_below : (n : ℕ) (ks : List Watched) → cases_of (advanced_below n ks) ≡ cases_of ks
 cases_below zero ks = refl
@@ -19,16 +21,11 @@ cases_waited _ _ _ _ _ (whole_turn ks after turn more done place outcome all wai
 
 -- without the child at a place
 pub cases_remove : (ks : List Watched) (i : ℕ) → cases_of (remove ks i) ≡ remove (cases_of ks) i
-cases_remove [] zero = refl
-cases_remove [] (suc i) = refl
-cases_remove (k ∷ ks) zero = refl
-cases_remove (k ∷ ks) (suc i) = ap (λ t. k.case ∷ t) (cases_remove ks i)
+cases_remove ks i = map-remove (λ (k : Watched). k.case) ks i
 
 -- the case of the child at a place
 pub case_at : (ks : List Watched) (i : ℕ) (k : Watched) → slice_get ks i ≡ Some k → slice_get (cases_of ks) i ≡ Some k.case
-case_at [] i k e = let no : ⊥ = cc in absurd no
-case_at (x ∷ ks) zero k e = ap (λ t. Some t.case) (same_Some x k e)
-case_at (x ∷ ks) (suc i) k e = case_at ks i k e
+case_at ks i k e = slice_get-map (λ (x : Watched). x.case) ks i ∙ ap (option_map (λ (x : Watched). x.case)) e
 
 -- A wait that asks this and ends so leads from one state to another: its polls end with the child at a place, whose answers
 -- tell the outcome; what follows deals with the case of that child, and the child is not among the running ones then.

@@ -1,18 +1,12 @@
 -- Chains of questions, joined.
-use Rattle.std.proofs.Common.{◌≡◌, List, [], ◌∷◌, ◌++◌, Result, Ok, Err, refl, inl, inr, subst}
+use Rattle.std.proofs.Common.{◌≡◌, List, [], ◌∷◌, ◌++◌, Result, Ok, Err, refl, inl, inr}
 use Rattle.kt_child.proofs.Common.{Refused, OsFault, Chain, Call, Ask, Tried, cause_of}
 
 -- two chains, one after the other
 pub chain_append : {O : Type 0} (leads : O → Call → O → Type 0) (a b d : O) (xs ys : List Call)
     → Chain leads a xs b → Chain leads b ys d → Chain leads a (xs ++ ys) d
-chain_append leads a b d [] ys h k = let P : _ → Type 0 = λ s. Chain leads s ys d in subst P h k
+chain_append leads a b d [] ys h k = rw h at k
 chain_append leads a b d (x ∷ xs) ys h k = (h.0, h.1, chain_append leads h.0 b d xs ys h.2 k)
-
--- one more question that was done, before the others
-pub tried_more : (ask : Ask) (asks : List Ask) (calls : List Call) (r : Result (Unit {0}) Refused)
-    → Tried asks calls r → Tried (ask ∷ asks) (ask.call (Ok tt) ∷ calls) r
-tried_more ask asks calls (Ok done) h = (refl, h)
-tried_more ask asks calls (Err cause) h = inr (refl, h)
 
 -- these questions are asked from one state to another, with this result
 abbrev pub Tries : {O : Type 0} → (O → Call → O → Type 0) → O → List Ask → Result (Unit {0}) Refused → O → Type 0
@@ -21,7 +15,8 @@ Tries leads a asks r b = (calls : List Call) × Chain leads a calls b × Tried a
 -- one that was done, and then the others
 pub tries_more : {O : Type 0} (leads : O → Call → O → Type 0) (a b d : O) (ask : Ask) (asks : List Ask) (r : Result (Unit {0}) Refused)
     → leads a (ask.call (Ok tt)) b → Tries leads b asks r d → Tries leads a (ask ∷ asks) r d
-tries_more leads a b d ask asks r h (calls, chain, tried) = (ask.call (Ok tt) ∷ calls, (b, h, chain), tried_more ask asks calls r tried)
+tries_more leads a b d ask asks (Ok done) h (calls, chain, tried) = (ask.call (Ok tt) ∷ calls, (b, h, chain), (refl, tried))
+tries_more leads a b d ask asks (Err cause) h (calls, chain, tried) = (ask.call (Ok tt) ∷ calls, (b, h, chain), inr (refl, tried))
 
 -- one that failed
 pub tries_failed : {O : Type 0} (leads : O → Call → O → Type 0) (a b : O) (ask : Ask) (asks : List Ask) (fault : OsFault) (cause : Refused)

@@ -1,16 +1,16 @@
 -- How the children of the host stand, where one of them changes.
-use Rattle.std.proofs.Common.{◌≡◌, ◌==◌, ℕ, zero, suc, Bool, true, false, cond, Some, None, List, [], ◌∷◌, slice_get, refl, sym, ◌∙◌, ap, subst, IsSome}
+use Rattle.std.proofs.Common.{◌≡◌, ◌==◌, ℕ, zero, suc, Bool, true, false, cond, Option, Some, None, List, [], ◌∷◌, slice_get, refl, ◌∙◌, ap, subst}
 use Rattle.std.specs.Map.{lookup, values_of}
 use Rattle.std.specs.Option.{option_and_then}
 use Rattle.indexmap.specs.Layout.{set_value_at}
 use Rattle.kt_child.proofs.Common.{and_parts, Role, Body, Cleanup, same_role, Child, HostChild, same_child, Stand, Proceeds, AllProceed, AllStay, OthersStay, stand_in, stand_of}
 use Rattle.kt_child.proofs.CaseCounts.{same_position}
+use Rattle.std.proofs.lemmas.Option.{same_Some}
 
 same_role_is : (a b : Role) → same_role a b ≡ true → a ≡ b
 same_role_is Body Body e = refl
-same_role_is Body Cleanup e = let no : ⊥ = cc in absurd no
-same_role_is Cleanup Body e = let no : ⊥ = cc in absurd no
 same_role_is Cleanup Cleanup e = refl
+same_role_is a b e = absurd (cc)
 
 same_child_is : (a b : Child) → same_child a b ≡ true → a ≡ b
 same_child_is a b e =
@@ -24,9 +24,7 @@ pub all_stay : (child : Child) (old new : Child → Stand) → new child ≡ old
 all_stay child old new own others c = by (same_child child c) refl
   where
     by : (t : Bool) → same_child child c ≡ t → new c ≡ old c
-    by true e =
-        let here : child ≡ c = same_child_is child c e in
-        ap new (sym here) ∙ own ∙ ap old here
+    by true e = rw (← same_child_is child c e) own
     by false e = others c e
 
 proceeds_same : (a : Stand) → Proceeds a a
@@ -35,38 +33,34 @@ proceeds_same (Some None) = refl
 proceeds_same (Some (Some status)) = refl
 
 pub proceeds_by : (a b c d : Stand) → a ≡ c → b ≡ d → Proceeds c d → Proceeds a b
-proceeds_by a b c d e f p = subst (λ (t : Stand). Proceeds t b) (sym e) (subst (λ (t : Stand). Proceeds c t) (sym f) p)
+proceeds_by a b c d e f p = rw (e, f) p
 
 pub all_proceed_more : (a b c : Child → Stand) → AllProceed a b → AllProceed b c → AllProceed a c
 all_proceed_more a b c p q k = more (a k) (b k) (c k) (p k) (q k)
   where
     more : (a b c : Stand) → Proceeds a b → Proceeds b c → Proceeds a c
-    more None b c p q = subst (λ (t : Stand). Proceeds t c) p q
-    more (Some None) None c p q = let none : false ≡ true = p in let no : ⊥ = cc in absurd no
+    more (Some None) None c p q = let none : false ≡ true = p in absurd (cc)
     more (Some None) (Some None) c p q = q
-    more (Some None) (Some (Some status)) c p q = subst (λ (t : Stand). IsSome t) (sym q) refl
-    more (Some (Some status)) b c p q = subst (λ (t : Stand). Proceeds t c) p q
+    more (Some None) (Some (Some status)) c p q = rw q refl
+    more a b c p q = rw p at q
 
 module _ {P I O E : Type 0} where
+  proceeds_if : (b : Bool) (x y : HostChild P I O E) (l m : Option (HostChild P I O E)) → Proceeds (stand_of x) (stand_of y)
+      → Proceeds (option_and_then stand_of l) (option_and_then stand_of m)
+      → Proceeds (option_and_then stand_of (cond b (Some x) l)) (option_and_then stand_of (cond b (Some y) m))
+  proceeds_if true x y l m p q = p
+  proceeds_if false x y l m p q = q
+
   -- the child at a place proceeds
   pub all_proceed_set : (held : List (Child × HostChild P I O E)) (i : ℕ) (h w : HostChild P I O E) → slice_get (values_of held) i ≡ Some h
       → Proceeds (stand_of h) (stand_of w) → AllProceed (stand_in held) (stand_in (set_value_at held i w))
-  all_proceed_set [] i h w at p c = let no : ⊥ = cc in absurd no
-  all_proceed_set (x ∷ held) zero h w at p c = by (same_child c x.0)
-    where
-      Q : HostChild P I O E → Type 0
-      Q y = Proceeds (stand_of y) (stand_of w)
-
-      by : (b : Bool) → Proceeds (option_and_then stand_of (cond b (Some x.1) (lookup (same_child c) held))) (option_and_then stand_of (cond b (Some w) (lookup (same_child c) held)))
-      by true = let e : x.1 ≡ h = cc in subst Q (sym e) p
-      by false = proceeds_same _
-  all_proceed_set (x ∷ held) (suc i) h w at p c = by (same_child c x.0) (all_proceed_set held i h w at p c)
-    where
-      by : (b : Bool) → Proceeds (stand_in held c) (stand_in (set_value_at held i w) c)
-          → Proceeds (option_and_then stand_of (cond b (Some x.1) (lookup (same_child c) held)))
-          (option_and_then stand_of (cond b (Some x.1) (lookup (same_child c) (set_value_at held i w))))
-      by true q = proceeds_same _
-      by false q = q
+  all_proceed_set [] i h w at p c = absurd (cc)
+  all_proceed_set (x ∷ held) zero h w at p c =
+      proceeds_if (same_child c x.0) x.1 w (lookup (same_child c) held) (lookup (same_child c) held)
+      (rw (same_Some x.1 h at) p) (proceeds_same _)
+  all_proceed_set (x ∷ held) (suc i) h w at p c =
+      proceeds_if (same_child c x.0) x.1 x.1 (lookup (same_child c) held) (lookup (same_child c) (set_value_at held i w)) (proceeds_same _)
+      (all_proceed_set held i h w at p c)
 
   module _ {eq : Child → Child → Bool} (agrees : (a b : Child) → eq a b ≡ same_child a b) (old new : List (Child × HostChild P I O E)) (child : Child) where
     -- the child of a name changes, as a map says that compares names by this test

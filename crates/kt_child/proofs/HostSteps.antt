@@ -1,5 +1,5 @@
 -- What a command says of variables, one after the other.
-use Rattle.std.proofs.Common.{◌≡◌, ◌≢◌, ℕ, suc, ◌+◌, ◌<◌, List, ◌∷◌, length, drop, drop-cons, get_or, Bool, true, false, Option, Some, None, refl, sym, ◌∙◌, ap, arith, if◌then◌else◌}
+use Rattle.std.proofs.Common.{add-one, ◌≡◌, ◌≢◌, ℕ, ◌+◌, ◌<◌, List, length, drop, drop-cons, get_or, Bool, true, false, Option, Some, None, refl, sym, ◌∙◌, ap, if◌then◌else◌}
 use Rattle.kt_child.proofs.Common.{bytes_eq, utf8, after_removed, after_set}
 use Rattle.std.proofs.lemmas.Slice.Eq.{bytes_eq-Decides}
 use Rattle.kt_base.specs.declared.variable.Variable.{Variable}
@@ -17,15 +17,9 @@ said_now one news old new e f k = by (bytes_eq one k) refl
 -- one name more that is removed
 pub removed_step : (names : List (List ℕ)) (i : ℕ) (gone : List ℕ) (k : List ℕ) (old new : Option (Option (List ℕ))) → i < length names → gone ≡ get_or names i gone
     → new ≡ (if bytes_eq (utf8 gone) k then Some None else old) → after_removed (drop (i + 1) names) k new ≡ after_removed (drop i names) k old
-removed_step names i gone k old new lt at e =
-    let s : i + 1 ≡ suc i = omega arith in
-    let d : drop i names ≡ gone ∷ drop (suc i) names = drop-cons names i gone lt ∙ ap (λ t. t ∷ drop (suc i) names) (sym at) in
-    ap (λ t. after_removed (drop t names) k new) s ∙ ap (after_removed (drop (suc i) names) k) e ∙ sym (ap (λ t. after_removed t k old) d)
+removed_step names i gone k old new lt at e = rw (e, add-one, drop-cons names i gone lt, ← at) refl
 
 -- one variable more that is set
 pub set_step : (set : List Variable) (i : ℕ) (v : Variable) (k : List ℕ) (old new : Option (Option (List ℕ))) → i < length set → v ≡ get_or set i v
     → new ≡ (if bytes_eq (utf8 v.name) k then Some (Some (utf8 v.value)) else old) → after_set (drop (i + 1) set) k new ≡ after_set (drop i set) k old
-set_step set i v k old new lt at e =
-    let s : i + 1 ≡ suc i = omega arith in
-    let d : drop i set ≡ v ∷ drop (suc i) set = drop-cons set i v lt ∙ ap (λ t. t ∷ drop (suc i) set) (sym at) in
-    ap (λ t. after_set (drop t set) k new) s ∙ ap (after_set (drop (suc i) set) k) e ∙ sym (ap (λ t. after_set t k old) d)
+set_step set i v k old new lt at e = rw (e, add-one, drop-cons set i v lt, ← at) refl

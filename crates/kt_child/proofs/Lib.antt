@@ -3,11 +3,9 @@ pub mod CaseCounts
 pub mod CaseSteps
 pub mod Chains
 pub mod Common
-pub mod EndSteps
 pub mod HostReads
 pub mod HostStandings
 pub mod HostSteps
-pub mod Mapped
 pub mod NumberSteps
 pub mod Outcomes
 pub mod OwedCases

@@ -1,5 +1,5 @@
 -- A poll of a child, after what it has answered so far: either it goes on, or the table tells its outcome.
-use Rattle.std.proofs.Common.{◌≡◌, ◌≢◌, ℕ, ◌+◌, ◌*◌, ◌<◌, ◌==◌, List, [], ◌∷◌, ◌++◌, Bool, true, false, Result, Ok, Err, Some, refl, sym, ◌∙◌, ap, subst, arith, inl, inr, if◌then◌else◌, append_assoc, replicate}
+use Rattle.std.proofs.Common.{◌≡◌, ◌≢◌, ℕ, ◌+◌, ◌*◌, ◌<◌, ◌==◌, List, [], ◌∷◌, ◌++◌, Bool, true, false, Result, Ok, Err, Some, refl, sym, ◌∙◌, ap, arith, inl, inr, if◌then◌else◌, append_assoc, replicate}
 use Rattle.std.proofs.lemmas.List.{replicate-append-replicate}
 use Rattle.kt_child.proofs.Common.{nat_tests, Outcome, Polled, OsFault, Watch, More, IsShort, IsWatched, after_poll, watch_after, answered, heard_of, Heard, HeardKill, Yields, YieldsAfterKill, running}
 use Rattle.kt_base.specs.declared.child.Outcome.TheVariants.{Exited, Signaled, TimedOut, WaitFailed}
@@ -31,9 +31,6 @@ Goes limit w answer done =
     → (answered limit (watch_after limit w) ≡ answered limit w ++ heard_of limit w answer done) × IsWatched limit (watch_after limit w)
 
 goes_killed : (limit b a : ℕ) (answer : Result Polled OsFault) (done : Bool) → a < 500 → Goes limit (killed_at b a) answer done
-goes_killed limit b a (Err f) done lt e = let no : ⊥ = cc in absurd no
-goes_killed limit b a (Ok (PolledExit c)) done lt e = let no : ⊥ = cc in absurd no
-goes_killed limit b a (Ok (PolledSignal c x)) done lt e = let no : ⊥ = cc in absurd no
 goes_killed limit b a (Ok Running) done lt e = by (a + 1 == 500) refl e
   where
     R : List Heard
@@ -41,26 +38,25 @@ goes_killed limit b a (Ok Running) done lt e = by (a + 1 == 500) refl e
 
     by : (t : Bool) → (a + 1 == 500) ≡ t → (if t then Ended WaitFailed else More) ≡ More
         → (R ++ HeardKill true ∷ replicate (a + 1) running ≡ (R ++ HeardKill true ∷ replicate a running) ++ running ∷ []) × (a + 1 < 500)
-    by true t e = let no : ⊥ = cc in absurd no
+    by true t e = absurd (cc)
     by false t e =
         (ap (λ u. R ++ HeardKill true ∷ u) (once_more a) ∙ sym (append_assoc R (HeardKill true ∷ replicate a running) (running ∷ [])), failed a 500 t lt)
+goes_killed limit b a answer done lt e = absurd (cc)
 
 goes_alive : (limit b : ℕ) (answer : Result Polled OsFault) (done : Bool) → b < 100 * limit → Goes limit (alive_at b) answer done
-goes_alive limit b (Err f) done lt e = let no : ⊥ = cc in absurd no
-goes_alive limit b (Ok (PolledExit c)) done lt e = let no : ⊥ = cc in absurd no
-goes_alive limit b (Ok (PolledSignal c x)) done lt e = let no : ⊥ = cc in absurd no
 goes_alive limit b (Ok Running) done lt e = by (b + 1 == 100 * limit) refl done e
   where
     by : (t : Bool) → (b + 1 == 100 * limit) ≡ t → (d : Bool) → (if t then (if d then More else Ended WaitFailed) else More) ≡ More
         → (answered limit (record { before = b + 1; killed = t; after = 0 }) ≡ replicate b running ++ (if t then running ∷ HeardKill d ∷ [] else running ∷ []))
         × IsShort t limit (b + 1) 0
-    by true t false e = let no : ⊥ = cc in absurd no
+    by true t false e = absurd (cc)
     by true t true e = (
       ap (λ n. replicate n running ++ HeardKill true ∷ []) (sym (tested b (100 * limit) t)) ∙ ap (λ u. u ++ HeardKill true ∷ []) (once_more b)
           ∙ append_assoc (replicate b running) (running ∷ []) (HeardKill true ∷ []),
       omega arith,
     )
     by false t d e = (once_more b, (failed b (100 * limit) t lt, refl))
+goes_alive limit b answer done lt e = absurd (cc)
 
 -- a poll that ends a child tells its outcome by all that it answered
 abbrev Tells : ℕ → Watch → Result Polled OsFault → Bool → Outcome → Type 0
@@ -79,7 +75,7 @@ killed_rows limit b a (Ok Running) done o lt e = by (a + 1 == 500) refl e
   where
     by : (t : Bool) → (a + 1 == 500) ≡ t → (if t then Ended WaitFailed else More) ≡ Ended o → YieldsAfterKill 500 (replicate a running ++ running ∷ []) o
     by true t e = inr (inl (sym (once_more a) ∙ ap (λ n. replicate n running) (tested a 500 t), same_end WaitFailed o e))
-    by false t e = let no : ⊥ = cc in absurd no
+    by false t e = absurd (cc)
 
 tells_killed : (limit b a : ℕ) (answer : Result Polled OsFault) (done : Bool) (o : Outcome) → a < 500 → Tells limit (killed_at b a) answer done o
 tells_killed limit b a answer done o lt e =
@@ -95,29 +91,28 @@ tells_alive limit b (Ok Running) done o lt e = by (b + 1 == 100 * limit) refl do
   where
     by : (t : Bool) → (b + 1 == 100 * limit) ≡ t → (d : Bool) → (if t then (if d then More else Ended WaitFailed) else More) ≡ Ended o
         → Yields limit (replicate b running ++ (if t then running ∷ HeardKill d ∷ [] else running ∷ [])) o
-    by true t true e = let no : ⊥ = cc in absurd no
+    by true t true e = absurd (cc)
     by true t false e =
         inr (inr (inl (
           sym (append_assoc (replicate b running) (running ∷ []) (HeardKill false ∷ [])) ∙ ap (λ u. u ++ HeardKill false ∷ []) (sym (once_more b))
               ∙ ap (λ n. replicate n running ++ HeardKill false ∷ []) (tested b (100 * limit) t),
           same_end WaitFailed o e,
         )))
-    by false t d e = let no : ⊥ = cc in absurd no
+    by false t d e = absurd (cc)
+
+-- what is so of each watch before a kill and of each after one is so of a child that isn't over
+of_watch : (P : Watch → Type 0) (limit : ℕ)
+    → ((b a : ℕ) → a < 500 → P (killed_at b a)) → ((b : ℕ) → b < 100 * limit → P (alive_at b)) → (w : Watch) → IsWatched limit w → P w
+of_watch P limit after before w is = by w.killed w.after is
+  where
+    by : (t : Bool) (a : ℕ) → IsShort t limit w.before a → P (record { before = w.before; killed = t; after = a })
+    by true a lt = after w.before a lt
+    by false a (lt, none) = rw none (before w.before lt)
 
 pub goes_on : (limit : ℕ) (w : Watch) (answer : Result Polled OsFault) (done : Bool) → IsWatched limit w → Goes limit w answer done
-goes_on limit w answer done is = by w.killed w.after is
-  where
-    by : (t : Bool) (a : ℕ) → IsShort t limit w.before a → Goes limit (record { before = w.before; killed = t; after = a }) answer done
-    by true a lt = goes_killed limit w.before a answer done lt
-    by false a (lt, none) =
-        let P : ℕ → Type 0 = λ n. Goes limit (record { before = w.before; killed = false; after = n }) answer done in
-        subst P (sym none) (goes_alive limit w.before answer done lt)
+goes_on limit w answer done =
+    of_watch (λ v. Goes limit v answer done) limit (λ b a. goes_killed limit b a answer done) (λ b. goes_alive limit b answer done) w
 
 pub ends_so : (limit : ℕ) (w : Watch) (answer : Result Polled OsFault) (done : Bool) (o : Outcome) → IsWatched limit w → Tells limit w answer done o
-ends_so limit w answer done o is = by w.killed w.after is
-  where
-    by : (t : Bool) (a : ℕ) → IsShort t limit w.before a → Tells limit (record { before = w.before; killed = t; after = a }) answer done o
-    by true a lt = tells_killed limit w.before a answer done o lt
-    by false a (lt, none) =
-        let P : ℕ → Type 0 = λ n. Tells limit (record { before = w.before; killed = false; after = n }) answer done o in
-        subst P (sym none) (tells_alive limit w.before answer done o lt)
+ends_so limit w answer done o =
+    of_watch (λ v. Tells limit v answer done o) limit (λ b a. tells_killed limit b a answer done o) (λ b. tells_alive limit b answer done o) w

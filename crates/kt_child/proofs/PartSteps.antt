@@ -1,5 +1,5 @@
 -- A file that is read in parts: what is known after some of them.
-use Rattle.std.proofs.Common.{◌≡◌, ℕ, ◌+◌, List, [], ◌∷◌, ◌++◌, length, Result, Some, None, refl, sym, ◌∙◌, ap, subst, append_assoc, length-append}
+use Rattle.std.proofs.Common.{◌≡◌, ℕ, ◌+◌, List, [], ◌∷◌, ◌++◌, length, Result, Some, None, refl, sym, ◌∙◌, ap, append_assoc, length-append}
 use Rattle.kt_child.proofs.Common.{OsFault, FileRead, ReadEnd, Complete, Chain, Call, TakesBytes, IsEnd, Reads, next_part, bytes_of}
 use Rattle.kt_child.specs.Ending.Parts.{last, more}
 use Rattle.kt_child.proofs.Chains.{chain_append}
@@ -11,46 +11,37 @@ Taking has_taken leads path part limit start now reader got =
     (taken : List ℕ) × has_taken reader taken × (got ≡ length taken) × (calls : List Call) × Chain leads start calls now
     × ((rest : List Call) (end : ReadEnd) (bytes : List ℕ) → Reads path part limit taken rest end bytes → Reads path part limit [] (calls ++ rest) end bytes)
 
-pub taking_none : {R O : Type 0} (has_taken : R → List ℕ → Type 0) (leads : O → Call → O → Type 0) (path : List ℕ) (part limit : ℕ) (start : O) (reader : R)
-    → has_taken reader [] → Taking has_taken leads path part limit start start reader 0
-taking_none has_taken leads path part limit start reader none = ([], none, refl, [], refl, λ rest end bytes h. h)
+-- of a reader that takes a file, from its start
+module _ {R O : Type 0} (has_taken : R → List ℕ → Type 0) (leads : O → Call → O → Type 0) (path : List ℕ) (part limit : ℕ) (start : O) where
+  pub taking_more : (now new : O) (reader reader' : R) (got got' : ℕ) (answer : Result FileRead OsFault)
+      → Taking has_taken leads path part limit start now reader got
+      → leads now (next_part path part limit got answer) new
+      → IsEnd limit got answer None
+      → TakesBytes has_taken reader reader' (bytes_of answer)
+      → got' ≡ got + length (bytes_of answer)
+      → Taking has_taken leads path part limit start new reader' got'
+  taking_more now new reader reader' got got' answer (taken, has, e, calls, chain, on) led goes takes f =
+      let call : Call = next_part path part limit (length taken) answer in (
+        taken ++ bytes_of answer,
+        takes taken has,
+        f ∙ ap (λ m. m + length (bytes_of answer)) e ∙ sym (length-append taken (bytes_of answer)),
+        calls ++ call ∷ [],
+        chain_append leads start now new calls (call ∷ []) chain (new, rw e at led, refl),
+        λ rest end bytes h. rw append_assoc (on (call ∷ rest) end bytes (more taken bytes answer rest end (rw e at goes) h)),
+      )
 
-pub taking_more : {R O : Type 0} (has_taken : R → List ℕ → Type 0) (leads : O → Call → O → Type 0) (path : List ℕ) (part limit : ℕ) (start now new : O)
-    (reader reader' : R) (got got' : ℕ) (answer : Result FileRead OsFault)
-    → Taking has_taken leads path part limit start now reader got
-    → leads now (next_part path part limit got answer) new
-    → IsEnd limit got answer None
-    → TakesBytes has_taken reader reader' (bytes_of answer)
-    → got' ≡ got + length (bytes_of answer)
-    → Taking has_taken leads path part limit start new reader' got'
-taking_more has_taken leads path part limit start now new reader reader' got got' answer (taken, has, e, calls, chain, on) led goes takes f =
-    let L : ℕ → Type 0 = λ m. leads now (next_part path part limit m answer) new in
-    let N : ℕ → Type 0 = λ m. IsEnd limit m answer None in
-    let call : Call = next_part path part limit (length taken) answer in (
-      taken ++ bytes_of answer,
-      takes taken has,
-      f ∙ ap (λ m. m + length (bytes_of answer)) e ∙ sym (length-append taken (bytes_of answer)),
-      calls ++ call ∷ [],
-      chain_append leads start now new calls (call ∷ []) chain (new, subst L e led, refl),
-      λ rest end bytes h.
-          let R : List Call → Type 0 = λ cs. Reads path part limit [] cs end bytes in
-          subst R (sym (append_assoc calls (call ∷ []) rest)) (on (call ∷ rest) end bytes (more taken bytes answer rest end (subst N e goes) h)),
-    )
-
-pub taking_over : {R O : Type 0} (has_taken : R → List ℕ → Type 0) (leads : O → Call → O → Type 0) (path : List ℕ) (part limit : ℕ) (start now new : O)
-    (reader reader' : R) (got : ℕ) (answer : Result FileRead OsFault) (end : ReadEnd)
-    → Taking has_taken leads path part limit start now reader got
-    → leads now (next_part path part limit got answer) new
-    → IsEnd limit got answer (Some end)
-    → (end ≡ Complete → TakesBytes has_taken reader reader' (bytes_of answer))
-    → (calls : List Call) × (bytes : List ℕ) × Chain leads start calls new × Reads path part limit [] calls end bytes × (end ≡ Complete → has_taken reader' bytes)
-taking_over has_taken leads path part limit start now new reader reader' got answer end (taken, has, e, calls, chain, on) led ends takes =
-    let L : ℕ → Type 0 = λ m. leads now (next_part path part limit m answer) new in
-    let N : ℕ → Type 0 = λ m. IsEnd limit m answer (Some end) in
-    let call : Call = next_part path part limit (length taken) answer in (
-      calls ++ call ∷ [],
-      taken ++ bytes_of answer,
-      chain_append leads start now new calls (call ∷ []) chain (new, subst L e led, refl),
-      on (call ∷ []) end (taken ++ bytes_of answer) (last taken answer end (subst N e ends)),
-      λ whole. takes whole taken has,
-    )
+  pub taking_over : (now new : O) (reader reader' : R) (got : ℕ) (answer : Result FileRead OsFault) (end : ReadEnd)
+      → Taking has_taken leads path part limit start now reader got
+      → leads now (next_part path part limit got answer) new
+      → IsEnd limit got answer (Some end)
+      → (end ≡ Complete → TakesBytes has_taken reader reader' (bytes_of answer))
+      → (calls : List Call) × (bytes : List ℕ) × Chain leads start calls new × Reads path part limit [] calls end bytes
+      × (end ≡ Complete → has_taken reader' bytes)
+  taking_over now new reader reader' got answer end (taken, has, e, calls, chain, on) led ends takes =
+      let call : Call = next_part path part limit (length taken) answer in (
+        calls ++ call ∷ [],
+        taken ++ bytes_of answer,
+        chain_append leads start now new calls (call ∷ []) chain (new, rw e at led, refl),
+        on (call ∷ []) end (taken ++ bytes_of answer) (last taken answer end (rw e at ends)),
+        λ whole. takes whole taken has,
+      )

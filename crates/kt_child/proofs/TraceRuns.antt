@@ -1,6 +1,6 @@
 -- Each trace of a driver is a run of its board.
-use Rattle.std.proofs.Common.{◌≡◌, List, [], ◌++◌, refl, sym, ◌∙◌, subst}
-use Rattle.kt_child.proofs.Common.{Role, Job, StartAnswer, Ended, Trace, NoEvent, Then, Start, End, Leads, Driver, DriverStarts, DriverWaits, Call, RunsFrom, Starts, board}
+use Rattle.std.proofs.Common.{◌≡◌, List, [], ◌++◌, refl, ◌∙◌}
+use Rattle.kt_child.proofs.Common.{Role, Job, StartAnswer, Ended, Trace, NoEvent, Then, Start, End, Leads, Driver, DriverStarts, DriverWaits, Call, RunsFrom, board}
 use Rattle.kt_child.proofs.Chains.{chain_append}
 
 -- of whatever holds a driver
@@ -10,32 +10,17 @@ module _ {D O : Type 0} (leads : O → Call → O → Type 0) (driver : D → Dr
   -- where programs lie and the root directory stay
   runs : (plan : List Job) (T : Trace) (d e : D) → Leads starts waits plan T d e
       → RunsFrom leads plan T (board (driver d)) (driver d) (driver e) × ((driver e).source ≡ (driver d).source) × ((driver e).root ≡ (driver d).root)
-  runs plan NoEvent d e led =
-      let P : D → Type 0 = λ t. RunsFrom leads plan NoEvent (board (driver d)) (driver d) (driver t) × ((driver t).source ≡ (driver d).source) × ((driver t).root ≡ (driver d).root) in
-      subst P (sym led) (([], refl, (refl, refl)), refl, refl)
+  runs plan NoEvent d e led = rw led (([], refl, (refl, refl)), refl, refl)
   runs plan (Then T (Start i role answer)) d e (mid, job, led, at, h) =
       let l = runs plan T d mid led in
       let s = started mid e job role answer h in
-      let R : List _ → List _ → Type 0 = λ source root. Starts source root (board (driver mid)) job role s.0.0 answer (board (driver e)) in (
-        (
-          l.0.0 ++ s.0.0,
-          chain_append leads (driver d).os (driver mid).os (driver e).os l.0.0 s.0.0 l.0.1 s.0.1,
-          (board (driver mid), l.0.0, s.0.0, refl, l.0.2, (job, at, subst (λ t. R t (driver d).root) l.1 (subst (λ t. R (driver mid).source t) l.2 s.0.2))),
-        ),
-        s.1 ∙ l.1,
-        s.2 ∙ l.2,
-      )
+      let chain = chain_append leads (driver d).os (driver mid).os (driver e).os l.0.0 s.0.0 l.0.1 s.0.1 in
+      ((l.0.0 ++ s.0.0, chain, (board (driver mid), l.0.0, s.0.0, refl, l.0.2, (job, at, rw (l.1, l.2) at s.0.2))), s.1 ∙ l.1, s.2 ∙ l.2)
   runs plan (Then T (End ended)) d e (mid, led, h) =
       let l = runs plan T d mid led in
-      let w = waited mid e ended h in (
-        (
-          l.0.0 ++ w.0.0,
-          chain_append leads (driver d).os (driver mid).os (driver e).os l.0.0 w.0.0 l.0.1 w.0.1,
-          (board (driver mid), l.0.0, w.0.0, refl, l.0.2, w.0.2.0),
-        ),
-        w.1 ∙ l.1,
-        w.2 ∙ l.2,
-      )
+      let w = waited mid e ended h in
+      let chain = chain_append leads (driver d).os (driver mid).os (driver e).os l.0.0 w.0.0 l.0.1 w.0.1 in
+      ((l.0.0 ++ w.0.0, chain, (board (driver mid), l.0.0, w.0.0, refl, l.0.2, w.0.2.0)), w.1 ∙ l.1, w.2 ∙ l.2)
 
   -- the law
   pub ends_are_told : (plan : List Job) (T : Trace) (d e : D) → Leads starts waits plan T d e → RunsFrom leads plan T (board (driver d)) (driver d) (driver e)

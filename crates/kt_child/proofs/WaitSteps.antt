@@ -1,6 +1,6 @@
 -- Whole turns, one after the other.
-use Rattle.std.proofs.Common.{◌≡◌, ℕ, ◌+◌, ◌*◌, ◌-◌, ◌<◌, List, [], ◌∷◌, ◌++◌, length, map, Bool, true, false, refl, sym, ◌∙◌, ap, subst, arith, append_assoc}
-use Rattle.kt_child.proofs.Common.{All, All-head, Outcome, Case, Watched, Chain, Call, Pause, IsOn, IsShort, PolledAll, PolledUntil, WaitedOn, advanced, advanced_below, last_turn, whole_turn}
+use Rattle.std.proofs.Common.{◌≡◌, ℕ, ◌+◌, ◌*◌, ◌-◌, List, [], ◌∷◌, ◌++◌, length, map, Bool, refl, ap, append_assoc}
+use Rattle.kt_child.proofs.Common.{Outcome, Watched, Chain, Call, Pause, PolledAll, PolledUntil, WaitedOn, advanced, advanced_below, last_turn, whole_turn}
 use Rattle.kt_child.proofs.Chains.{chain_append}
 
 -- the polls that a child has left, and the first of these children
@@ -21,9 +21,6 @@ Waiting leads start init now children =
     (calls : List Call) × Chain leads start calls now
     × ((more : List Call) (place : ℕ) (outcome : Outcome) (after : List Watched) → WaitedOn children more place outcome after → WaitedOn init (calls ++ more) place outcome after)
 
-pub waiting_none : {O : Type 0} (leads : O → Call → O → Type 0) (start : O) (init : List Watched) → Waiting leads start init start init
-waiting_none leads start init = ([], refl, λ more place outcome after waited. waited)
-
 pub waiting_more : {O : Type 0} (leads : O → Call → O → Type 0) (start now mid new : O) (init children : List Watched) (d : Bool)
     → Waiting leads start init now children
     → (calls : List Call) × Chain leads now calls mid × PolledAll children calls
@@ -34,10 +31,9 @@ waiting_more leads start now mid new init children d (calls, chain, on) (ys, cha
   chain_append leads start now new calls (ys ++ Pause d ∷ []) chain
       (chain_append leads now mid new ys (Pause d ∷ []) chain' (new, paused, refl)),
   λ more place outcome after waited.
-      let P : List Watched → Type 0 = λ t. WaitedOn t more place outcome after in
-      let Q : List Call → Type 0 = λ t. WaitedOn init t place outcome after in
-      subst Q (sym (append_assoc calls (ys ++ Pause d ∷ []) more ∙ ap (λ t. calls ++ t) (append_assoc ys (Pause d ∷ []) more)))
-      (on (ys ++ Pause d ∷ more) place outcome after (whole_turn children after ys more d place outcome polled (subst P (all_advanced children) waited))),
+      rw (append_assoc, append_assoc)
+      (on (ys ++ Pause d ∷ more) place outcome after
+      (whole_turn children after ys more d place outcome polled (rw (all_advanced children) at waited))),
 )
 
 pub waiting_over : {O : Type 0} (leads : O → Call → O → Type 0) (start now new : O) (init children last : List Watched) (place : ℕ) (outcome : Outcome)
@@ -46,17 +42,4 @@ pub waiting_over : {O : Type 0} (leads : O → Call → O → Type 0) (start now
     → last ≡ advanced_below place children
     → (calls : List Call) × Chain leads start calls new × WaitedOn init calls place outcome last
 waiting_over leads start now new init children last place outcome (calls, chain, on) (ys, chain', until) f =
-    let P : List Watched → Type 0 = λ t. WaitedOn children ys place outcome t in
-    (calls ++ ys, chain_append leads start now new calls ys chain chain', on ys place outcome last (subst P (sym f) (last_turn children ys place outcome until)))
-
-falls : (case : Case) (limit before after : ℕ) (killed : Bool) → IsShort killed limit before after
-    → polls_left (advanced (record { case = case; limit = limit; watch = record { before = before; killed = killed; after = after } }))
-    < polls_left (record { case = case; limit = limit; watch = record { before = before; killed = killed; after = after } })
-falls case limit before after true h = omega arith
-falls case limit before after false h = omega arith
-
-pub turn_falls : (s : List Watched) → 0 < length s → All IsOn s → first_left (advanced_below (length s) s) < first_left s
-turn_falls [] lt h = absurd (omega arith)
-turn_falls (k ∷ s) lt h =
-    let on : IsOn k = All-head IsOn k s h in
-    falls k.case k.limit k.watch.before k.watch.after k.watch.killed on.0
+    rw f (calls ++ ys, chain_append leads start now new calls ys chain chain', on ys place outcome _ (last_turn children ys place outcome until))

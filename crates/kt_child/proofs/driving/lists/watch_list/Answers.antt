@@ -1,5 +1,5 @@
-use Rattle.std.proofs.Common.{List, [], ◌∷◌, ◌++◌, refl, subst, is_ok}
-use Rattle.kt_child.proofs.Common.{All-cons, All-nil, IsOn, Watched, WaitedOn, Call, ReadFile, RemoveTree, spawned}
+use Rattle.std.proofs.Common.{List, [], ◌∷◌, ◌++◌, refl, is_ok}
+use Rattle.kt_child.proofs.Common.{All-cons, All-nil, IsOn, Call, ReadFile, RemoveTree, spawned}
 use Rattle.kt_child.proofs.Chains.{chain_append}
 use Rattle.kt_child.proofs.BoardSteps.{wait_heard}
 use Rattle.kt_child.proofs.driving.lists.watch_list.Goals as goal
@@ -10,8 +10,7 @@ returns g c =
     let r = c.read_list-bytes.ensures.asked in
     let p = c.args.plan.now in
     let d = is_ok c.remove_tree.result in
-    let W : Watched → Type 0 = λ t. WaitedOn (t ∷ []) w.0 c.first_over-first.result.place c.first_over-first.result.outcome c.first_over-first.new.children in
-    let on : WaitedOn (spawned p.limit c.args.case ∷ []) w.0 c.first_over-first.result.place c.first_over-first.result.outcome c.first_over-first.new.children = subst W c.spawned.ensures w.2 in
+    let on = rw c.spawned.ensures at w.2 in
     let k = spawned p.limit c.args.case in
     let heard = wait_heard (k ∷ []) w.0 c.first_over-first.result.place c.first_over-first.result.outcome _ (All-cons IsOn k [] c.requires (All-nil IsOn)) on in
     let last : List Call = ReadFile p.out 1048576 r.0 ∷ RemoveTree p.dir d ∷ [] in (

@@ -1,5 +1,5 @@
-use Rattle.std.proofs.Common.{Bool, [], ◌∷◌, ◌++◌, Ok, Err, refl, ap, inl, inr, subst}
-use Rattle.kt_child.proofs.Common.{MakeDir, Removes}
+use Rattle.std.proofs.Common.{[], ◌∷◌, ◌++◌, Ok, Err, refl, ap, inl, inr}
+use Rattle.kt_child.proofs.Common.{MakeDir}
 use Rattle.kt_child.proofs.Chains.{chain_append}
 use Rattle.kt_child.proofs.driving.starts.set_up_new.Goals as goal
 
@@ -10,9 +10,8 @@ returns-in-Err g c =
 pub returns : goal.returns
 returns g c =
     let t = c.furnish-tried.ensures in
-    let u = c.remove_if.ensures in
-    let R : Bool → Type 0 = λ b. Removes b c.args.plan.now.dir u.0 in (
+    let u = c.remove_if.ensures in (
       MakeDir c.args.plan.now.dir (Ok tt) ∷ (t.0 ++ u.0),
       (_, c.in_default.ensures, chain_append g.O.Os.leads _ _ _ t.0 u.0 t.1 u.1),
-      inr (t.0 ++ u.0, refl, (t.0, u.0, refl, t.2, subst R c.is_err.ensures.value u.2)),
+      inr (t.0 ++ u.0, refl, (t.0, u.0, refl, t.2, rw c.is_err.ensures.value at u.2)),
     )

@@ -1,6 +1,12 @@
-use Rattle.kt_child.proofs.Common.{test_variable}
-use Rattle.kt_child.proofs.Mapped.{mapped_more}
+use Rattle.std.proofs.Common.{◌≡◌, ℕ, ◌+◌, ◌<◌, List, [], ◌∷◌, ◌++◌, map, take, length, get_or, refl, append_assoc}
+use Rattle.kt_child.proofs.Common.{map_more, test_variable}
 use Rattle.kt_child.proofs.planning.environment.push_for_test.Goals as goal
+
+-- one element more of a list that is made by a function of each element of another
+mapped_more : {X Y : Type 0} (f : X → Y) (start now new : List Y) (xs : List X) (i : ℕ) (x : X) (y : Y)
+    → i < length xs → x ≡ get_or xs i x → now ≡ start ++ map f (take i xs) → y ≡ f x → new ≡ now ++ y ∷ []
+    → new ≡ start ++ map f (take (i + 1) xs)
+mapped_more f start now new xs i x y lt at so is e = rw (e, so, append_assoc, is, map_more f xs i x lt, ← at) refl
 
 pub loop-variable-preserved : goal.loop-variable-preserved
 loop-variable-preserved c =

@@ -1,16 +1,13 @@
-use Rattle.std.proofs.Common.{◌≡◌, ◌∙◌, ℕ, List, subst, ap}
+use Rattle.std.proofs.Common.{◌≡◌, ◌∙◌, ℕ, List, refl, subst, ap}
 use Rattle.kt_child.proofs.Common.{Chain, ChildrenState, Job, Case, Spawning, Call, Begun, state_after_start, job_purpose, limit_of, case_of, spawning_for, spawning_of, want_of, shown_in, spawned}
 use Rattle.kt_child.specs.declared.planning.Want.{Want}
 use Rattle.kt_child.proofs.StateWaits.{shown_started}
 use Rattle.kt_child.proofs.driving.driver.Driver.begin.Goals as goal
 
 -- what a job's child is started for, by this word and this limit
-abbrev started : List ℕ → Job → Case → Want → ℕ → Spawning
-started source job c want limit = spawning_for source (record (job_purpose job c.role) { want = want; limit = limit }) c
-
 planned : (source : List ℕ) (job : Job) (c : Case) (want : Want) (limit : ℕ) → want ≡ want_of c.role → limit ≡ limit_of job c.role
-    → started source job c want limit ≡ spawning_of source job c
-planned source job c want limit e f = ap (λ (w : Want). started source job c w limit) e ∙ ap (λ (n : ℕ). started source job c (want_of c.role) n) f
+    → spawning_for source (record (job_purpose job c.role) { want = want; limit = limit }) c ≡ spawning_of source job c
+planned source job c want limit e f = rw (e, f) refl
 
 pub returns-in-Ok-clause-begun : goal.returns-in-Ok-clause-begun
 returns-in-Ok-clause-begun g c =

@@ -1,6 +1,6 @@
 use Rattle.std.proofs.Common.{◌≡◌, ℕ, ◌∙◌, List, ap, arith, inr}
-use Rattle.kt_child.proofs.Common.{Body, Case, ChildrenState, Paths, alive_of, cases_of, count_at, case_of, is_among, limit_of, paths_of, spawned}
-use Rattle.kt_child.proofs.BoardSteps.{alive_started, pending_started}
+use Rattle.kt_child.proofs.Common.{Body, Case, Paths, cases_of, count_at, case_of, is_among, paths_of}
+use Rattle.kt_child.proofs.BoardSteps.{board_started}
 use Rattle.kt_child.proofs.CaseCounts.{none_among, none_shown}
 use Rattle.kt_child.proofs.driving.driver.Driver.start_body.Goals as goal
 
@@ -18,18 +18,16 @@ returns-in-Ok g c =
     let job = c.args.job.now in
     let taken = c.in-Some.ensures in
     let case = case_of job Body c.in-Some.attempt c.in-Ok.paths in
-    let k = spawned (limit_of job Body) case in
-    let answer = c.begin.result in
-    let state = c.begin.ensures.state in
-    let running = c.args.self.now.running in
-    let owed = ap (λ (s : ChildrenState). s.pending) state ∙ pending_started running k answer in
     let case_is = ap (λ (p : Paths). case_of job Body c.in-Some.attempt p) c.in-Ok.ensures
     ∙ ap (λ (n : ℕ). case_of job Body n (paths_of c.args.self.now.root n)) taken.1 in
-    let alive = ap (λ (s : ChildrenState). alive_of s.children) state ∙ alive_started running job case answer in
+    let after = board_started c.args.self.now.running _ job case c.begin.result c.begin.ensures.state in
     record {
-      starts =
-          ((b.0, b.1, inr (case, ((taken.0, taken.1, c.begin.ensures.next ∙ taken.2), owed, case_is), b.2, alive)), c.begin.ensures.source, c.begin.ensures.root);
+      starts = (
+        (b.0, b.1, inr (case, ((taken.0, taken.1, c.begin.ensures.next ∙ taken.2), after.1, case_is), b.2, after.0)),
+        c.begin.ensures.source,
+        c.begin.ensures.root,
+      );
       moment = c.begin.ensures.moment;
       running = c.begin.ensures.running;
-      pending = λ j. ap (λ (cases : List Case). is_among cases j) owed;
+      pending = λ j. ap (λ (cases : List Case). is_among cases j) after.1;
     }

@@ -1,16 +1,14 @@
-use Rattle.std.proofs.Common.{◌≡◌, ℕ, ◌∙◌, ◌<◌, ◌++◌, drop, get_or, take, slice_get, Some, ap, sym, subst, arith, length, List, remove}
-use Rattle.kt_child.proofs.Common.{Role, board_of, slice_get-get_or, take_at, Watched, Chain, Call, ChildrenState, IsEvidence, Waited, cases_of, is_among, pending_after_end, pending_with, running_after_end, shown_in}
-use Rattle.kt_sched.specs.Children.{Child as Shown}
+use Rattle.std.proofs.Common.{◌≡◌, ◌∙◌, ◌<◌, ◌++◌, drop, get_or, take, slice_get, Some, ap, sym, arith, length, List, remove}
+use Rattle.kt_child.proofs.Common.{slice_get-get_or, take_at, Chain, Call, ChildrenState, cases_of, pending_with}
 use Rattle.kt_child.proofs.BoardSteps.{waited_ends}
 use Rattle.kt_child.proofs.CaseSteps.{Left, cases_waited}
 use Rattle.kt_child.proofs.StateWaits.{state_after, waited_all, waited_one, waited_pending, waited_running}
 use Rattle.kt_child.proofs.driving.running_children.RunningChildren.wait.Goals as goal
 
 -- the children after the polls
-abbrev row : (g : _) → goal.After-forget g → List Watched
-row g c = take c.self.inside.children.len (c.first_over-first.new.children ++ drop (length c.first_over-first.new.children) c.self.inside.children.items)
-
-polled : (g : _) (c : goal.After-forget g) → row g c ≡ c.first_over-first.new.children
+polled : (g : _) (c : goal.After-forget g)
+    → take c.self.inside.children.len (c.first_over-first.new.children ++ drop (length c.first_over-first.new.children) c.self.inside.children.items)
+    ≡ c.first_over-first.new.children
 polled g c =
     let n : length c.first_over-first.new.children ≡ c.self.inside.children.len = c.first_over-first.ensures.same ∙ c.deref_mut.ensures.len in
     take_at c.first_over-first.new.children (drop (length c.first_over-first.new.children) c.self.inside.children.items) c.self.inside.children.len n
@@ -57,31 +55,17 @@ waited g c =
 pub returns-clause-waited : goal.returns-clause-waited
 returns-clause-waited g c =
     let e = c.leave-ended.result in
-    let P : ChildrenState → Type 0 = λ b. (calls : List Call) × Chain g.O.Os.leads c.args.os.now calls c.leave-ended.new.os
-    × ((next : ℕ) → Waited b.children (board_of b next) calls e (new g c).children (board_of (new g c) next)) in
     let w = waited g c in
-    subst P c.self.view_is (w.0, w.1, waited_ends (old g c) (new g c) w.0 e c.self.invariant.0.on w.2.0)
-
--- what is shown and owed after it
-shown : (g : _) (c : goal.After-forget g) → ((k : ℕ) (r : Role) → shown_in (new g c) k r ≡ running_after_end (shown_in c.args.self.now) c.leave-ended.result k r)
-    × ((k : ℕ) → is_among (new g c).pending k ≡ pending_after_end (shown_in c.args.self.now) (is_among c.args.self.now.pending) c.leave-ended.result k)
-shown g c =
-    let e = c.leave-ended.result in
-    let P : ChildrenState → Type 0 = λ b. ((k : ℕ) (r : Role) → shown_in (new g c) k r ≡ running_after_end (shown_in b) e k r)
-    × ((k : ℕ) → is_among (new g c).pending k ≡ pending_after_end (shown_in b) (is_among b.pending) e k) in
-    let w = (waited g c).2.0 in
-    subst P c.self.view_is (waited_running _ _ _ _ c.self.invariant.0.once w, waited_pending _ _ _ _ c.self.invariant.0.once w)
+    rw (← c.self.view_is) (w.0, w.1, waited_ends (old g c) (new g c) w.0 e c.self.invariant.0.on w.2.0)
 
 pub returns-clause-one_that_ran : goal.returns-clause-one_that_ran
 returns-clause-one_that_ran g c =
     let e = c.leave-ended.result in
-    let P : ChildrenState → Type 0 = λ b. (s : Shown) × (shown_in b e.position e.role ≡ Some s) × IsEvidence s.interface e.role e.evidence in
     let w = waited g c in
-    let K : Watched → Type 0 = λ k. IsEvidence k.case.interface e.role e.evidence in
-    subst P c.self.view_is (waited_one (old g c) (new g c) w.0 e c.self.invariant.0.once w.2.0 (subst K (sym w.2.1) c.leave-ended.ensures.evidence))
+    rw (← c.self.view_is) (waited_one (old g c) (new g c) w.0 e c.self.invariant.0.once w.2.0 (rw w.2.1 c.leave-ended.ensures.evidence))
 
 pub returns-clause-running : goal.returns-clause-running
-returns-clause-running g c = (shown g c).0
+returns-clause-running g c = rw (← c.self.view_is) (waited_running _ _ _ _ c.self.invariant.0.once (waited g c).2.0)
 
 pub returns-clause-pending : goal.returns-clause-pending
-returns-clause-pending g c = (shown g c).1
+returns-clause-pending g c = rw (← c.self.view_is) (waited_pending _ _ _ _ c.self.invariant.0.once (waited g c).2.0)
