@@ -1,5 +1,5 @@
 -- The run that is shown is the chosen one.
-use Rattle.std.proofs.Common.{Option, Some, None, slice_get, map, ◌-◌, ◌==◌, ◌≡◌, ℕ, zero, suc, Bool, true, false, cond, List, [], ◌∷◌, length, arith, refl, sym, ap, ◌∙◌, ◌⊎◌, inl, inr}
+use Rattle.std.proofs.Common.{Option, Some, None, slice_get, map, ◌-◌, ◌==◌, ◌≡◌, ℕ, zero, suc, false, List, [], ◌∷◌, length, arith, refl, sym, ap, ◌∙◌, ◌⊎◌, inl, inr}
 use Rattle.kt_cli.proofs.Common.{find, option_map, nat_tests, slice_get-map, length-map, Entry, Run, IsStoreFault, head_of, outlined, AreNumbered, run_at, RunHead, StoreFault, chosen}
 use Rattle.kt_store.specs.declared.store_fault.StoreFault.TheVariants.{NoRun as Absent}
 use Rattle.std.proofs.lemmas.Option.{same_Some}
@@ -18,20 +18,15 @@ at_number None runs r h e = at_place runs (length runs - 1) r h e
 at_number (Some zero) runs r h e = absurd (cc)
 at_number (Some (suc k)) runs r h e = at_place runs k r h e
 
--- the chosen head is that of the chosen run
-pub head_found : (number : Option ℕ) (runs : List Run) (heads : List RunHead) (head : RunHead) → heads ≡ map head_of runs → chosen number heads ≡ Some head → (r : Run) × (chosen number runs ≡ Some r) × (head_of r ≡ head)
-head_found number runs heads head e f = by (chosen number runs) (sym (chosen-map head_of number runs) ∙ ap (λ (xs : List RunHead). chosen number xs) (sym e) ∙ f)
-  where
-    by : (o : Option Run) → option_map head_of o ≡ Some head → (r : Run) × (o ≡ Some r) × (head_of r ≡ head)
-    by None g = absurd (cc)
-    by (Some r) g = (r, refl, same_Some (head_of r) head g)
-
--- the run of the chosen head has its number
-pub run_found : (number : Option ℕ) (runs : List Run) (heads : List RunHead) (head : RunHead) → AreNumbered 1 runs → heads ≡ map head_of runs → chosen number heads ≡ Some head
+-- the chosen head is that of the chosen run, which its number tells
+run_found : (number : Option ℕ) (runs : List Run) (heads : List RunHead) (head : RunHead) → AreNumbered 1 runs → heads ≡ map head_of runs → chosen number heads ≡ Some head
     → (r : Run) × (chosen number runs ≡ Some r) × (head_of r ≡ head) × (run_at runs r.number ≡ Some r)
 run_found number runs heads head h e f =
-    let c = head_found number runs heads head e f in
-    (c.0, c.1, c.2, at_number number runs c.0 h c.1)
+    by (chosen number runs) refl (sym (chosen-map head_of number runs) ∙ ap (λ (xs : List RunHead). chosen number xs) (sym e) ∙ f)
+  where
+    by : (o : Option Run) → chosen number runs ≡ o → option_map head_of o ≡ Some head → (r : Run) × (chosen number runs ≡ Some r) × (head_of r ≡ head) × (run_at runs r.number ≡ Some r)
+    by None k g = absurd cc
+    by (Some r) k g = (r, k, same_Some (head_of r) head g, at_number number runs r h k)
 
 -- a run that has a head has entries
 pub entries_there : (number : Option ℕ) (runs : List Run) (heads : List RunHead) (head : RunHead) (fault : StoreFault) → AreNumbered 1 runs → heads ≡ map head_of runs → chosen number heads ≡ Some head
@@ -45,12 +40,5 @@ entries_there number runs heads head fault h e f (inr s) =
 -- an entry of an outline is found in the run by its position
 pub entry_found : (es : List Entry) (k : ℕ) (e : Entry) → slice_get (map (outlined false) es) k ≡ Some e → find (λ (d : Entry). d.position == e.position) es ≡ None → ⊥
 entry_found [] k e there none = absurd (cc)
-entry_found (x ∷ es) zero e there none =
-    let same : x.position ≡ e.position = ap (λ (d : Entry). d.position) (same_Some (outlined false x) e there) in
-    let test : (x.position == e.position) ≡ true = grind (arith, nat_tests, same) in
-    let z : Some x ≡ None = rw test at none in absurd (cc)
-entry_found (x ∷ es) (suc k) e there none = by (x.position == e.position) (entry_found es k e there) none
-  where
-    by : (b : Bool) → (find (λ (d : Entry). d.position == e.position) es ≡ None → ⊥) → cond b (Some x) (find (λ (d : Entry). d.position == e.position) es) ≡ None → ⊥
-    by true more n = absurd (cc)
-    by false more n = more n
+entry_found (x ∷ es) zero e there none = grind (arith, nat_tests, ap (λ (d : Entry). d.position) (same_Some (outlined false x) e there))
+entry_found (x ∷ es) (suc k) e there none = grind (arith, nat_tests, entry_found es k e there)

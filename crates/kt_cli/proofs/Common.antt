@@ -1,10 +1,8 @@
 -- The names that most proofs of this crate cite, passed on from one place. Declares nothing.
-pub use Rattle.std.proofs.KnownBytes.{Appends-kept, Keeps-refl, Keeps-trans, append_known-grown, append_known-kept, append_known-moved}
 pub use Rattle.std.proofs.lemmas.Bool.Decides.{nat_tests}
 pub use Rattle.std.proofs.lemmas.Grind.{common_steps, flat_map-append}
 pub use Rattle.std.proofs.lemmas.List.{drop-take, length-map, set-get_or}
 pub use Rattle.std.proofs.lemmas.Option.{slice_get-get_or, slice_get-map, slice_get_within}
-pub use Rattle.std.proofs.lemmas.Result.{err_from_is_err_and}
 pub use Rattle.std.specs.Fmt.{decimal}
 pub use Rattle.std.specs.List.{AllByRecursion, find}
 pub use Rattle.std.specs.Option.{option_copied, option_map}
@@ -18,19 +16,19 @@ pub use Rattle.kt_base.specs.Utf8.{utf8}
 pub use Rattle.kt_base.specs.declared.entry.Entry.{Entry}
 pub use Rattle.kt_base.specs.declared.verdict.Kind.{Kind}
 pub use Rattle.kt_base.specs.declared.entry.Run.{Run}
-pub use Rattle.kt_child.specs.Driving.ChildrenState.{ChildrenState, idle_state, is_among, shown_in}
+pub use Rattle.kt_child.specs.Driving.ChildrenState.{ChildrenState, idle_state, is_among}
 pub use Rattle.kt_plan.proofs.PlansFit.{plan_fits}
 pub use Rattle.kt_plan.specs.Questions.{OfHost, OfTree, Question, leads_by, of_host}
 pub use Rattle.kt_plan.specs.declared.cases.Candidate.{Candidate}
-pub use Rattle.kt_report.proofs.InTurn.{shows_cut_off, shows_next, shows_whole}
+pub use Rattle.kt_report.proofs.InTurn.{shows_cut_off, shows_whole}
 pub use Rattle.kt_report.specs.Junits.{case_bytes, ending, heading, junit_bytes}
 pub use Rattle.kt_report.specs.Lines.{line_bytes}
 pub use Rattle.kt_sched.specs.Children.{IsIdle}
-pub use Rattle.kt_sched.specs.EntryOf.{AreEntries, Gains, IsEntry, IsEntryOf, cleaned, decided, ended, refused, uncleaned}
+pub use Rattle.kt_sched.specs.EntryOf.{AreEntries, Gains, IsEntry, IsEntryOf, decided, ended, refused}
 pub use Rattle.kt_sched.specs.Plan.{IsPlan}
 pub use Rattle.kt_sched.specs.RecordOrder.{Due, recorded}
 pub use Rattle.kt_sched.specs.Run.{EndsAs}
-pub use Rattle.kt_sched.specs.Trace.{End, Event, Leads, NoEvent, Start, Then, Trace, of}
+pub use Rattle.kt_sched.specs.Trace.{Event, NoEvent, Trace, of}
 pub use Rattle.kt_sched.specs.declared.job.Job.{Job}
 pub use Rattle.kt_sched.specs.declared.run_fault.RunFault.{RunFault}
 pub use Rattle.kt_sched.specs.declared.run_fault.RunFault.TheVariants.{NoMemory, SinkFailed}
@@ -40,12 +38,12 @@ pub use Rattle.kt_store.specs.Ask.{IsStoreFault}
 pub use Rattle.kt_store.specs.Heads.{entry_at, head_of, outlined, outputs_of, without_outputs}
 pub use Rattle.kt_store.specs.Runs.{AreNumbered, finish, finish_refusal, finish_refusal_of, has_position, insert_at, new_run, put_refusal, put_refusal_of, run_at, with_entry}
 pub use Rattle.kt_store.specs.Serving.{Agrees, Outlasts, Serves, changed_by}
-pub use Rattle.kt_store.specs.StoreCalls.{Began, Finished, Heads, Outline, Outputs, Put, StoreCall, seen_as}
+pub use Rattle.kt_store.specs.StoreCalls.{Began, Finished, Heads, Outline, Outputs, Put, StoreCall}
 pub use Rattle.kt_store.specs.declared.result_store.CaseOutputs.{CaseOutputs}
 pub use Rattle.kt_store.specs.declared.result_store.RunHead.{RunHead}
 pub use Rattle.kt_store.specs.declared.store_fault.StoreFault.{StoreFault}
-pub use Rattle.kt_store.specs.declared.store_fault.StoreFault.TheVariants.{BadPosition, Incomplete, NoRun, RepeatedPosition}
-pub use Rattle.kt_words.specs.Commands.{cases_of, needs_case, results_of}
+pub use Rattle.kt_store.specs.declared.store_fault.StoreFault.TheVariants.{NoRun}
+pub use Rattle.kt_words.specs.Commands.{cases_of, needs_case}
 pub use Rattle.kt_words.specs.declared.command.Command.{Command}
 pub use Rattle.kt_words.specs.declared.options.ReportOptions.{ReportOptions}
 unfoldable pub use lib.Utf8.{encode}
@@ -53,7 +51,7 @@ unfoldable pub use Rattle.std.specs.Str.{chars}
 pub use Rattle.kt_cli.specs.CaseLines.{case_line}
 pub use Rattle.kt_cli.specs.Debugging.{all_debug_bytes, debug_bytes, debug_exit}
 pub use Rattle.kt_cli.specs.FaultLines.{memory_line, refusal_line}
-pub use Rattle.kt_cli.specs.HostAnswers.{HostStarts, HostWaits, IsHostAnswer, IsLook, host_world, look_kept, running_kept}
+pub use Rattle.kt_cli.specs.HostAnswers.{IsHostAnswer, IsLook, host_world, look_kept, running_kept}
 pub use Rattle.kt_cli.specs.Inner.Debugging.{DebugEnds, Debugged, Prints}
 pub use Rattle.kt_cli.specs.Inner.FaultLines.{run_line}
 pub use Rattle.kt_cli.specs.Inner.MemoryRuns.{FindsPlace, ServesInMemory, closing_refusal, entry_refusal, place_among}
@@ -67,10 +65,10 @@ pub use Rattle.kt_cli.specs.Machines.{InDirectory, MachineAnswer, Searched, dire
 pub use Rattle.kt_cli.specs.Meaning.{AsksFirst, Course, CutShort, Did, IsAskedOnly, IsPrepared, IsUnasked, Means, Seen, cut, debugged, idle, junit_cut, listed, listing, listing_exit, no_memory, preparing, report_cut, reported, reported_junit, selecting, stopped, taken, tested}
 pub use Rattle.kt_cli.specs.MemoryRuns.{LeavesInMemory, memory_runs}
 pub use Rattle.kt_cli.specs.Pages.{Printed}
-pub use Rattle.kt_cli.specs.Performing.{DoneBy, DoneIn, DoneOver, NoDriver, NoRoot, Program, State, alone, closed, done, no_driver, no_surroundings, no_world, none_made, not_absolute, not_opened, program, state}
+pub use Rattle.kt_cli.specs.Performing.{DoneBy, DoneIn, DoneOver, NoRoot, Program, State, alone, closed, done, no_driver, no_surroundings, no_world, none_made, not_absolute, not_opened, program, state}
 pub use Rattle.kt_cli.specs.Recordings.{AllRecorded, IsStopped}
 pub use Rattle.kt_cli.specs.Reports.{JunitCut, Reported, ReportedJunit, Unread, asked_outputs, chosen, filled, no_outputs, no_run, run_of, told}
-pub use Rattle.kt_cli.specs.Scenes.{Scene, World, launcher_of, scene, with_store, with_world, world_of}
+pub use Rattle.kt_cli.specs.Scenes.{Scene, World, launcher_of, scene, with_store, world_of}
 pub use Rattle.kt_cli.specs.SoundStores.{Left, with_new}
 pub use Rattle.kt_cli.specs.Stores.{Agree, Stored, beside, beside_by, by_position, changed, put_among, puts}
 pub use Rattle.kt_cli.specs.Testing.{PlannedRun, TestCut, Tested, begins, exit_of, not_begun, not_finished, not_put, not_run, results, results_exit, run_for}

@@ -5,9 +5,6 @@ use Rattle.kt_sched.specs.RecordOrder.{recorded as record_order}
 use Rattle.kt_cli.proofs.Gainings.{all_entries}
 use Rattle.kt_cli.proofs.Saying.{tells_both, tells_nothing}
 
-never_refused : (fault : SinkFault) → ◌≡◌ {A = Result (Unit {0}) SinkFault} (Err fault) (Ok tt) → ⊥
-never_refused fault e = cc
-
 module _ {S : Type 0} (gives : S → Entry → Result (Unit {0}) SinkFault → S → Type 0) (failed : S → Bool) (held : S → Option (List ℕ)) (name : S → ℕ)
     (each : (s t : S) (e : Entry) (r : Result (Unit {0}) SinkFault) → gives s e r t → (name t ≡ name s) × Prints (failed s) (held s) e r (failed t) (held t)) where
   -- what was told of some entries, to the same writer
@@ -17,8 +14,7 @@ module _ {S : Type 0} (gives : S → Entry → Result (Unit {0}) SinkFault → S
 
   -- the same, and how it ended
   pub record Ended (plan : List Job) (T : Trace) (es : List Entry) (answer : Result Totals RunFault) (s t : S) : Type 0 where
-    pub same_out : name t ≡ name s
-    pub says : Says (held s) (failed s) (held t) (failed t) (all_debug_bytes es)
+    pub printed : Printed es s t
     pub ends : DebugEnds plan T es answer
 
   printed_all : (es : List Entry) (s t : S) → Gains gives es s t → Printed es s t
@@ -32,15 +28,12 @@ module _ {S : Type 0} (gives : S → Entry → Result (Unit {0}) SinkFault → S
   -- what came of a plan that was run for `debug`
   pub debug_ends : (plan : List Job) (T : Trace) (es : List Entry) (answer : Result Totals RunFault) (s t : S) → AreEntries plan T (take (length es) (record_order plan 1 T)) es
       → EndsAs gives plan 1 T es s t answer → Ended plan T es answer s t
-  debug_ends plan T es (Ok totals) s t a e =
-      let p = printed_all es s t e.gains in
-      record {
-        same_out = p.same_out;
-        says = p.says;
-        ends = (record { legal = e.legal; once = e.once; are = all_entries plan T (record_order plan 1 T) es (e.all ∙ sym e.once.all) a }, e.counts);
-      }
+  debug_ends plan T es (Ok totals) s t a e = record {
+    printed = printed_all es s t e.gains;
+    ends = (record { legal = e.legal; once = e.once; are = all_entries plan T (record_order plan 1 T) es (e.all ∙ sym e.once.all) a }, e.counts);
+  }
   debug_ends plan T es (Err (NoMemory refusal)) s t a e =
-      let p = printed_all es s t (subst (λ (xs : List Entry). Gains gives xs s t) (sym e.entries) e.same) in
-      record { same_out = p.same_out; says = p.says; ends = (e.events, e.entries) }
+      record { printed = printed_all es s t (subst (λ (xs : List Entry). Gains gives xs s t) (sym e.entries) e.same); ends = (e.events, e.entries) }
   debug_ends plan T es (Err (SinkFailed fault)) s t a e =
-      absurd (never_refused fault (each e.failed.mid t e.failed.refused (Err fault) e.failed.fails).1.0)
+      let never : ◌≡◌ {A = Result (Unit {0}) SinkFault} (Err fault) (Ok tt) = (each e.failed.mid t e.failed.refused (Err fault) e.failed.fails).1.0 in
+      absurd cc

@@ -11,21 +11,14 @@ use Rattle.kt_child.specs.declared.driving.driver.DriverFault.TheVariants as dri
 
 pub chars-run : (fault : RunFault) → chars (run_words fault) ≡ run_words fault
 unfolding chars
-chars-run (NoMemory refusal) = refl
 chars-run (SinkFailed sink.Memory) = refl
-chars-run (SinkFailed sink.Other) = refl
+chars-run _ = refl
 
 pub chars-store : (fault : StoreFault) → chars (fault_words fault) ≡ fault_words fault
 unfolding chars
 chars-store (store.NoMemory shortage) = refl
 chars-store (store.Store statement) = refl
-chars-store store.NoRun = refl
-chars-store store.RunClosed = refl
-chars-store store.RepeatedPosition = refl
-chars-store store.StoreFull = refl
-chars-store store.UnknownSchema = refl
-chars-store store.BadPosition = refl
-chars-store store.Incomplete = refl
+chars-store _ = refl
 
 pub chars-driver : (fault : DriverFault) → chars (driver_words fault) ≡ driver_words fault
 unfolding chars

@@ -1,31 +1,28 @@
 -- Entries are recorded and told one after the other.
 use Rattle.std.proofs.Common.{Option, Result, Ok, Err, count_by, take, ◌==◌, ◌≤◌, ◌≡◌, ℕ, Bool, List, [], ◌∷◌, ◌++◌, length, refl, sym, ap, ◌∙◌, subst, append-nil}
+use Rattle.std.proofs.Math.Seq.{take-length}
 use Rattle.kt_cli.proofs.Common.{Entry, line_bytes, Job, SinkFault, Totals, RunFault, NoMemory, SinkFailed, Gains, AreEntries, recorded, EndsAs, Trace, StoreCall, Put, Says, Recorded, Recording, RecordEnds, Stored, puts, lines}
 use Rattle.kt_store.specs.declared.result_store.Keeping as keeping
 use Rattle.kt_cli.proofs.Saying.{tells_both, tells_nothing}
 use Rattle.kt_cli.proofs.StoreChains.{stored_none, stored_both, stored_as}
 
-take_all : {X : Type 0} (xs : List X) (n : ℕ) → n ≡ length xs → take n xs ≡ xs
-take_all {X} [] n e = subst (λ (k : ℕ). ◌≡◌ {A = List X} (take k []) []) (sym e) refl
-take_all (x ∷ xs) n e = subst (λ (k : ℕ). take k (x ∷ xs) ≡ x ∷ xs) (sym e) (ap (λ ys. x ∷ ys) (take_all xs (length xs) refl))
-
 -- all of the first entries are there
 pub all_entries : (plan : List Job) (T : Trace) (positions : List ℕ) (es : List Entry) → length es ≡ length positions → AreEntries plan T (take (length es) positions) es → AreEntries plan T positions es
-all_entries plan T positions es e a = subst (λ (ps : List ℕ). AreEntries plan T ps es) (take_all positions (length es) e) a
+all_entries plan T positions es e a = subst (λ (ps : List ℕ). AreEntries plan T ps es) (ap (λ (n : ℕ). take n positions) e ∙ take-length positions) a
 
 module _ {S R : Type 0} (keep : keeping.Ghosts R) (gives : S → Entry → Result (Unit {0}) SinkFault → S → Type 0) (state : S → Recording R) (name other : S → ℕ)
     (each : (s t : S) (e : Entry) (r : Result (Unit {0}) SinkFault) → gives s e r t → (name t ≡ name s) × (other t ≡ other s) × Recorded keep (state s) e r (state t)) where
-  -- what a recorder gained, by its parts
-  pub record Gained (es : List Entry) (s t : S) : Type 0 where
+  -- what a recorder gained, and its last calls
+  pub record Gained (es : List Entry) (last : List StoreCall) (s t : S) : Type 0 where
     pub same_store : name t ≡ name s
     pub same_out : other t ≡ other s
     pub same_number : (state t).number ≡ (state s).number
-    pub stored : Stored keep (puts (state s).number es) (state s).store (state t).store
+    pub stored : Stored keep (puts (state s).number es ++ last) (state s).store (state t).store
     pub says : Says (state s).held (state s).failed (state t).held (state t).failed (lines es)
 
-  pub gains_all : (es : List Entry) (s t : S) → Gains gives es s t → Gained es s t
+  pub gains_all : (es : List Entry) (s t : S) → Gains gives es s t → Gained es [] s t
   gains_all [] s t g =
-      subst (λ (u : S). Gained [] s u) (sym g) (record { same_store = refl; same_out = refl; same_number = refl; stored = stored_none keep (state s).store; says = tells_nothing (state s).held (state s).failed })
+      subst (λ (u : S). Gained [] [] s u) (sym g) (record { same_store = refl; same_out = refl; same_number = refl; stored = stored_none keep (state s).store; says = tells_nothing (state s).held (state s).failed })
   gains_all (e ∷ es) s t g =
       let m = g.0 in
       let p = each s m e (Ok tt) g.1 in
@@ -34,52 +31,44 @@ module _ {S R : Type 0} (keep : keeping.Ghosts R) (gives : S → Entry → Resul
         same_store = r.same_store ∙ p.0;
         same_out = r.same_out ∙ p.1;
         same_number = r.same_number ∙ p.2.0;
-        stored = stored_both keep (Put (state s).number e (Ok tt) ∷ []) (puts (state s).number es) (state s).store (state m).store (state t).store p.2.1
-            (subst (λ (i : ℕ). Stored keep (puts i es) (state m).store (state t).store) p.2.0 r.stored);
+        stored = stored_both keep (Put (state s).number e (Ok tt) ∷ []) (puts (state s).number es ++ []) (state s).store (state m).store (state t).store p.2.1
+            (subst (λ (i : ℕ). Stored keep (puts i es ++ []) (state m).store (state t).store) p.2.0 r.stored);
         says = tells_both (state s).held (state m).held (state t).held (state s).failed (state m).failed (state t).failed (line_bytes e) (lines es) p.2.2 r.says;
       }
 
   -- what a recorder did over a whole plan
   pub record Whole (plan : List Job) (n : ℕ) (T : Trace) (es : List Entry) (answer : Result Totals RunFault) (s t : S) : Type 0 where
-    pub same_store : name t ≡ name s
-    pub same_out : other t ≡ other s
     pub last : List StoreCall
-    pub stored : Stored keep (puts (state s).number es ++ last) (state s).store (state t).store
-    pub says : Says (state s).held (state s).failed (state t).held (state t).failed (lines es)
+    pub gained : Gained es last s t
     pub ends : RecordEnds plan n (state s).number T es last answer
 
-  none_gained : (es : List Entry) (s t : S) → es ≡ [] → t ≡ s → Gains gives es s t
-  none_gained es s t e f = subst (λ (xs : List Entry). Gains gives xs s t) (sym e) f
-
-  -- no put was refused
-  none_refused : (es : List Entry) (s t : S) → Gained es s t → Stored keep (puts (state s).number es ++ []) (state s).store (state t).store
-  none_refused es s t g = stored_as keep (puts (state s).number es) (puts (state s).number es ++ []) (state s).store (state t).store (sym (append-nil (puts (state s).number es))) g.stored
-
   pub whole : (plan : List Job) (n : ℕ) (T : Trace) (es : List Entry) (answer : Result Totals RunFault) (s t : S) → AreEntries plan T (take (length es) (recorded plan n T)) es → ((i : ℕ) → count_by (λ p. p == i) (recorded plan n T) ≤ 1) → EndsAs gives plan n T es s t answer → Whole plan n T es answer s t
-  whole plan n T es (Ok totals) s t a o e =
-      let g = gains_all es s t e.gains in
-      record {
-        same_store = g.same_store;
-        same_out = g.same_out;
-        last = [];
-        stored = none_refused es s t g;
-        says = g.says;
-        ends = record { all = record { legal = e.legal; once = e.once; are = all_entries plan T (recorded plan n T) es (e.all ∙ sym e.once.all) a }; counts = e.counts; taken = refl };
-      }
-  whole plan n T es (Err (NoMemory refusal)) s t a o e =
-      let g = gains_all es s t (none_gained es s t e.entries e.same) in
-      record { same_store = g.same_store; same_out = g.same_out; last = []; stored = none_refused es s t g; says = g.says; ends = record { events = e.events; none = e.entries; taken = refl } }
+  whole plan n T es (Ok totals) s t a o e = record {
+    last = [];
+    gained = gains_all es s t e.gains;
+    ends = record { all = record { legal = e.legal; once = e.once; are = all_entries plan T (recorded plan n T) es (e.all ∙ sym e.once.all) a }; counts = e.counts; taken = refl };
+  }
+  whole plan n T es (Err (NoMemory refusal)) s t a o e = record {
+    last = [];
+    gained = gains_all es s t (subst (λ (xs : List Entry). Gains gives xs s t) (sym e.entries) e.same);
+    ends = record { events = e.events; none = e.entries; taken = refl };
+  }
   whole plan n T es (Err (SinkFailed fault)) s t a o e =
       let f = e.failed in
       let g = gains_all es s f.mid f.gains in
       let p = each f.mid t f.refused (Err fault) f.fails in
       let why = p.2.1.0 in
       record {
-        same_store = p.0 ∙ g.same_store;
-        same_out = p.1 ∙ g.same_out;
         last = Put (state s).number f.refused (Err why) ∷ [];
-        stored = stored_both keep (puts (state s).number es) (Put (state s).number f.refused (Err why) ∷ []) (state s).store (state f.mid).store (state t).store g.stored
-            (subst (λ (i : ℕ). Stored keep (Put i f.refused (Err why) ∷ []) (state f.mid).store (state t).store) g.same_number p.2.1.2);
-        says = subst (λ (b : Bool). Says (state s).held (state s).failed (state t).held b (lines es)) (sym p.2.2) (subst (λ (o : Option (List ℕ)). Says (state s).held (state s).failed o (state f.mid).failed (lines es)) (sym p.2.3) g.says);
+        gained = record {
+          same_store = p.0 ∙ g.same_store;
+          same_out = p.1 ∙ g.same_out;
+          same_number = p.2.0 ∙ g.same_number;
+          stored = stored_both keep (puts (state s).number es) (Put (state s).number f.refused (Err why) ∷ []) (state s).store (state f.mid).store (state t).store
+              (stored_as keep (puts (state s).number es ++ []) (puts (state s).number es) (state s).store (state f.mid).store (append-nil (puts (state s).number es)) g.stored)
+              (subst (λ (i : ℕ). Stored keep (Put i f.refused (Err why) ∷ []) (state f.mid).store (state t).store) g.same_number p.2.1.2);
+          says = subst (λ (b : Bool). Says (state s).held (state s).failed (state t).held b (lines es)) (sym p.2.2)
+              (subst (λ (o : Option (List ℕ)). Says (state s).held (state s).failed o (state f.mid).failed (lines es)) (sym p.2.3) g.says);
+        };
         ends = record { entry = f.refused; refusal = why; told = p.2.1.1; one = refl; stopped = record { due = f.next; next = f.is_next; refused_is = f.refused_is; are = a; once = o; stopped = e.stopped } };
       }

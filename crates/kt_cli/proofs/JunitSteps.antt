@@ -17,6 +17,10 @@ filled_more [] outputs e o there = absurd cc
 filled_more (x ∷ outline) [] e o there = ap (λ d. one d o ∷ []) (same_Some x e there)
 filled_more (x ∷ outline) (p ∷ outputs) e o there = ap (λ es. one x p ∷ es) (filled_more outline outputs e o there)
 
+-- one more is written behind a heading
+one_more : {X : Type 0} (f : X → List ℕ) (head : List ℕ) (xs : List X) (x : X) (ys : List X) → ys ≡ xs ++ x ∷ [] → head ++ flat_map f xs ++ f x ≡ head ++ flat_map f ys
+one_more f head xs x ys e = rw e (simp (flat_map-append, append_assoc, append-nil))
+
 asked_more : (number : ℕ) (outline : List Entry) (outputs : List CaseOutputs) (e : Entry) (o : CaseOutputs) → slice_get outline (length outputs) ≡ Some e
     → asked_outputs number outline outputs ++ Outputs number e.position (Ok o) ∷ [] ≡ asked_outputs number outline (outputs ++ o ∷ [])
 asked_more number [] outputs e o there = absurd cc
@@ -50,18 +54,11 @@ module _ {R : Type 0} (keep : keeping.Ghosts R) (run : Run) (store : R) (was : O
     there : slice_get run.entries (length w.0) ≡ Some e
     there = ap (λ (es : List Entry). slice_get es (length w.0)) (sym same) ∙ ap (slice_get xs) w.1 ∙ slice_get-get_or xs i d low ∙ ap Some (sym is)
 
-    asked : (o : CaseOutputs) → asked_outputs run.number run.entries w.0 ++ Outputs run.number e.position (Ok o) ∷ [] ≡ asked_outputs run.number run.entries (w.0 ++ o ∷ [])
-    asked o = asked_more run.number run.entries w.0 e o there
-
     bytes : (o : CaseOutputs) → heading run ++ flat_map case_bytes (filled run.entries w.0) ++ case_bytes (one e o) ≡ heading run ++ flat_map case_bytes (filled run.entries (w.0 ++ o ∷ []))
-    bytes o =
-        append_assoc (heading run) (flat_map case_bytes (filled run.entries w.0)) (case_bytes (one e o))
-        ∙ ap (λ xs. heading run ++ (flat_map case_bytes (filled run.entries w.0) ++ xs)) (sym (append-nil (case_bytes (one e o))))
-        ∙ ap (λ xs. heading run ++ xs) (sym (flat_map-append case_bytes (filled run.entries w.0) (one e o ∷ [])))
-        ∙ ap (λ es. heading run ++ flat_map case_bytes es) (sym (filled_more run.entries w.0 e o there))
+    bytes o = one_more case_bytes (heading run) (filled run.entries w.0) (one e o) _ (filled_more run.entries w.0 e o there)
 
     stored : (o : CaseOutputs) → Stored keep (Outputs run.number e.position (Ok o) ∷ []) mid after → Stored keep (asked_outputs run.number run.entries (w.0 ++ o ∷ [])) store after
-    stored o p = stored_as keep _ _ store after (asked o) (stored_both keep (asked_outputs run.number run.entries w.0) (Outputs run.number e.position (Ok o) ∷ []) store mid after w.3 p)
+    stored o p = stored_as keep _ _ store after (asked_more run.number run.entries w.0 e o there) (stored_both keep (asked_outputs run.number run.entries w.0) (Outputs run.number e.position (Ok o) ∷ []) store mid after w.3 p)
 
     pub writes_next : WritesCase keep mid after held now run.number e (Ok tt) → WritesFirst keep store after was now run (i + 1)
     writes_next c =
@@ -79,6 +76,5 @@ module _ {R : Type 0} (keep : keeping.Ghosts R) (run : Run) (store : R) (was : O
 
   -- ---- the end
 
-  module _ (after : R) (held now : Option (List ℕ)) (xs : List Entry) (same : xs ≡ run.entries) (i : ℕ) (last : length xs ≤ i) (w : WritesFirst keep store after was held run i) where
-    pub end_cut : Shows held now true ending → CutsJunit keep store after was now run
-    end_cut s = (w.0, w.3, shows_both w.4 s)
+  pub end_cut : (after : R) (held now : Option (List ℕ)) (i : ℕ) → WritesFirst keep store after was held run i → Shows held now true ending → CutsJunit keep store after was now run
+  end_cut after held now i w s = (w.0, w.3, shows_both w.4 s)

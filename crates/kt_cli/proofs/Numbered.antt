@@ -1,47 +1,26 @@
 -- The number of a run is its place.
-use Rattle.std.proofs.Common.{Some, Bool, true, false, slice_get, slice_set, if◌then◌else◌, ◌≡◌, ℕ, zero, suc, ◌+◌, ◌==◌, List, [], ◌∷◌, ◌++◌, length, arith, refl, sym, ap, ◌∙◌}
+use Rattle.std.proofs.Common.{Some, true, slice_get, slice_set, ◌≡◌, ℕ, zero, suc, ◌+◌, List, [], ◌∷◌, ◌++◌, length, arith, refl, ap, ◌∙◌}
 use Rattle.kt_cli.proofs.Common.{nat_tests, Entry, Run, AreNumbered, insert_at, with_entry, finish, put_all, put_among}
-
-is_same : (a b : ℕ) → a ≡ b → (a == b) ≡ true
-is_same a b e = grind (arith, nat_tests)
-
-is_other : (a b n k : ℕ) → a ≡ n → b ≡ n + suc k → (a == b) ≡ false
-is_other a b n k e f = grind (arith, nat_tests)
 
 -- the run at a place is the one of its number
 pub entry_placed : (n k number : ℕ) (runs : List Run) (r : Run) (e : Entry) → AreNumbered n runs → number ≡ n + k → slice_get runs k ≡ Some r → slice_set runs k (record r { entries = insert_at e r.entries }) ≡ with_entry number e runs
 entry_placed n k number [] r e h i there = absurd cc
-entry_placed n zero number (x ∷ runs) r e h i there =
-    let same : r ≡ x = cc in
-    ap (λ (y : Run). (record y { entries = insert_at e y.entries }) ∷ runs) same
-    ∙ sym (ap (λ (b : Bool). if b then (record x { entries = insert_at e x.entries }) ∷ runs else x ∷ with_entry number e runs) (is_same x.number number (h.0 ∙ omega (arith, i))))
-entry_placed n (suc k) number (x ∷ runs) r e h i there =
-    ap (λ (xs : List Run). x ∷ xs) (entry_placed (suc n) k number runs r e h.1 (i ∙ omega arith) there)
-    ∙ sym (ap (λ (b : Bool). if b then (record x { entries = insert_at e x.entries }) ∷ runs else x ∷ with_entry number e runs) (is_other x.number number n k h.0 i))
+entry_placed n zero number (x ∷ runs) r e h i there = grind (arith, nat_tests, h.0)
+entry_placed n (suc k) number (x ∷ runs) r e h i there = grind (arith, nat_tests, h.0, entry_placed (suc n) k number runs r e h.1 (i ∙ omega arith) there)
 
 pub finish_placed : (n k number : ℕ) (runs : List Run) (r : Run) → AreNumbered n runs → number ≡ n + k → slice_get runs k ≡ Some r → slice_set runs k (record r { finished = true }) ≡ finish number runs
 finish_placed n k number [] r h i there = absurd cc
-finish_placed n zero number (x ∷ runs) r h i there =
-    let same : r ≡ x = cc in
-    ap (λ (y : Run). (record y { finished = true }) ∷ runs) same
-    ∙ sym (ap (λ (b : Bool). if b then (record x { finished = true }) ∷ runs else x ∷ finish number runs) (is_same x.number number (h.0 ∙ omega (arith, i))))
-finish_placed n (suc k) number (x ∷ runs) r h i there =
-    ap (λ (xs : List Run). x ∷ xs) (finish_placed (suc n) k number runs r h.1 (i ∙ omega arith) there)
-    ∙ sym (ap (λ (b : Bool). if b then (record x { finished = true }) ∷ runs else x ∷ finish number runs) (is_other x.number number n k h.0 i))
+finish_placed n zero number (x ∷ runs) r h i there = grind (arith, nat_tests, h.0)
+finish_placed n (suc k) number (x ∷ runs) r h i there = grind (arith, nat_tests, h.0, finish_placed (suc n) k number runs r h.1 (i ∙ omega arith) there)
 
 -- an entry is put into the last run
 entry_last : (n : ℕ) (runs : List Run) (run : Run) (number : ℕ) (e : Entry) → AreNumbered n runs → run.number ≡ n + length runs → number ≡ n + length runs → with_entry number e (runs ++ run ∷ []) ≡ runs ++ (record run { entries = insert_at e run.entries }) ∷ []
-entry_last n [] run number e h r i =
-    ap (λ (b : Bool). if b then (record run { entries = insert_at e run.entries }) ∷ [] else run ∷ []) (is_same run.number number (r ∙ sym i))
-entry_last n (x ∷ runs) run number e h r i =
-    ap (λ (b : Bool). if b then (record x { entries = insert_at e x.entries }) ∷ (runs ++ run ∷ []) else x ∷ with_entry number e (runs ++ run ∷ [])) (is_other x.number number n (length runs) h.0 i)
-    ∙ ap (λ (xs : List Run). x ∷ xs) (entry_last (suc n) runs run number e h.1 (r ∙ omega arith) (i ∙ omega arith))
+entry_last n [] run number e h r i = grind (arith, nat_tests)
+entry_last n (x ∷ runs) run number e h r i = grind (arith, nat_tests, h.0, entry_last (suc n) runs run number e h.1 (r ∙ omega arith) (i ∙ omega arith))
 
 pub finish_last : (n : ℕ) (runs : List Run) (run : Run) (number : ℕ) → AreNumbered n runs → run.number ≡ n + length runs → number ≡ n + length runs → finish number (runs ++ run ∷ []) ≡ runs ++ (record run { finished = true }) ∷ []
-finish_last n [] run number h r i = ap (λ (b : Bool). if b then (record run { finished = true }) ∷ [] else run ∷ []) (is_same run.number number (r ∙ sym i))
-finish_last n (x ∷ runs) run number h r i =
-    ap (λ (b : Bool). if b then (record x { finished = true }) ∷ (runs ++ run ∷ []) else x ∷ finish number (runs ++ run ∷ [])) (is_other x.number number n (length runs) h.0 i)
-    ∙ ap (λ (xs : List Run). x ∷ xs) (finish_last (suc n) runs run number h.1 (r ∙ omega arith) (i ∙ omega arith))
+finish_last n [] run number h r i = grind (arith, nat_tests)
+finish_last n (x ∷ runs) run number h r i = grind (arith, nat_tests, h.0, finish_last (suc n) runs run number h.1 (r ∙ omega arith) (i ∙ omega arith))
 
 -- entries are put into the last run
 pub entries_last : (runs : List Run) (run : Run) (number : ℕ) (es : List Entry) → AreNumbered 1 runs → run.number ≡ 1 + length runs → number ≡ 1 + length runs → put_all number es (runs ++ run ∷ []) ≡ runs ++ (record run { entries = put_among run.entries es }) ∷ []

@@ -1,6 +1,8 @@
 -- A program is looked for in the directories of `PATH`.
-use Rattle.std.proofs.Common.{◌≡◌, ◌∙◌, ℕ, ◌==◌, ◌<◌, ◌≤◌, ◌+◌, Bool, true, false, List, [], ◌∷◌, length, refl, ap, sym, subst, arith, drop, length-drop, IsUtf8, Some, suc}
-use Rattle.std.proofs.lemmas.List.Splits.{slice_split_first}
+use Rattle.std.proofs.Common.{◌≡◌, ◌∙◌, ℕ, ◌==◌, ◌<◌, ◌≤◌, ◌+◌, Bool, true, false, List, [], ◌∷◌, length, ap, sym, subst, arith, drop, length-drop, IsUtf8, Some, suc}
+use Rattle.std.proofs.lemmas.List.Elements.{All-from_get_or}
+use Rattle.std.proofs.lemmas.List.Sums.{fails_before_first}
+use Rattle.std.proofs.lemmas.List.Splits.{slice_split_first, slice_split_none}
 use Rattle.std.proofs.lemmas.Str.{IsUtf8-drop}
 use Rattle.std.specs.Char.{len_utf8}
 use Rattle.std.specs.Str.Pattern.{FindsChar}
@@ -11,15 +13,9 @@ use Rattle.kt_cli.proofs.Common.{InDirectory, MachineAnswer, Searched, directori
 abbrev pub colon : ℕ → Bool
 colon b = b == 58
 
-split_step : (b : Bool) (x : ℕ) (xs : List ℕ) → (x == 58) ≡ b → position_or_len colon (x ∷ xs) ≡ length (x ∷ xs)
-    → (position_or_len colon xs ≡ length xs → slice_split colon xs ≡ xs ∷ []) → slice_split colon (x ∷ xs) ≡ (x ∷ xs) ∷ []
-split_step true x xs b e more = absurd (let n : 0 ≡ suc (length xs) = rw b at e in omega (arith, n))
-split_step false x xs b e more = let n : 1 + position_or_len colon xs ≡ suc (length xs) = rw b at e in rw (b, more (omega (arith, n))) refl
-
 -- where no colon stands there is one directory
 none_splits : (xs : List ℕ) → position_or_len colon xs ≡ length xs → slice_split colon xs ≡ xs ∷ []
-none_splits [] e = refl
-none_splits (x ∷ xs) e = split_step (x == 58) x xs refl e (none_splits xs)
+none_splits xs e = slice_split_none colon xs (All-from_get_or (λ b. colon b ≡ false) xs 0 (λ k low. fails_before_first colon xs k 0 (omega (arith, e, low))))
 
 -- what stands behind a colon is a text
 pub behind_text : (s behind : List ℕ) (i j : ℕ) → IsUtf8 s → FindsChar 58 s (Some (i, j)) → behind ≡ drop j s → IsUtf8 behind
@@ -48,15 +44,10 @@ module _ {M : Type 0} (answers : M → MachineAnswer → M → Type 0) (name : L
   pub goes_here : (rest directory : List ℕ) (old new : M) → position_or_len colon rest < length rest → directory ≡ before_first colon rest
       → InDirectory answers name directory true old new → Searched answers name (directories rest) true old new
   goes_here rest directory old new within d has =
-      subst (λ (ds : List (List ℕ)). Searched answers name ds true old new)
-      (ap (λ (x : List ℕ). x ∷ slice_split colon (after_first colon rest)) d ∙ sym (slice_split_first colon rest 0 within))
-      (here directory (slice_split colon (after_first colon rest)) old new has)
-
-  last_found : (rest : List ℕ) (answer : Bool) (old new : M) → InDirectory answers name rest answer old new → Searched answers name (rest ∷ []) answer old new
-  last_found rest true old new is = here rest [] old new is
-  last_found rest false old new is = further rest [] false old new new is (nowhere new)
+      rw (slice_split_first colon rest 0 within) (here (before_first colon rest) (slice_split colon (after_first colon rest)) old new (rw d at has))
 
   -- it ends in the last directory
   pub goes_last : (rest : List ℕ) (answer : Bool) (old new : M) → position_or_len colon rest ≡ length rest → InDirectory answers name rest answer old new
       → Searched answers name (directories rest) answer old new
-  goes_last rest answer old new none is = subst (λ (ds : List (List ℕ)). Searched answers name ds answer old new) (sym (none_splits rest none)) (last_found rest answer old new is)
+  goes_last rest true old new none is = rw (none_splits rest none) (here rest [] old new is)
+  goes_last rest false old new none is = rw (none_splits rest none) (further rest [] false old new new is (nowhere new))

@@ -29,8 +29,7 @@ puts_done number (e ∷ es) after all = (tt, puts_done number es after all)
 entries_count : (plan : List Job) (T : Trace) (positions : List ℕ) (es : List Entry) → AreEntries plan T positions es → length es ≡ length positions
 entries_count plan T [] [] a = refl
 entries_count plan T (p ∷ ps) (e ∷ es) a = ap suc (entries_count plan T ps es a.1)
-entries_count plan T [] (e ∷ es) a = absurd a
-entries_count plan T (p ∷ ps) [] a = absurd a
+entries_count plan T _ _ a = absurd a
 
 -- there is an entry for each case
 all_count : (plan : List Job) (n : ℕ) (T : Trace) (es : List Entry) → AllRecorded plan n T es → length es ≡ length plan
@@ -81,11 +80,7 @@ module _ (runs : List Run) (h : AreNumbered 1 runs) where
       one_coming k total planned.moment a.0.0 es (Finished k (Ok tt)) true refl (finish_new runs k total planned.moment es h a.0.0) (λ f. all_count planned.plan planned.width T es all) (tt, tt)
 
   cut_coming : (planned : PlannedRun) (T : Trace) (calls : List StoreCall) (bytes : List ℕ) (exit : ℕ) → IsPlan planned.plan → TestCut planned T calls bytes exit → Agree runs calls → Coming runs calls
-  cut_coming planned T calls bytes exit is (not_begun why e) a = record { only_fails = (begin_failed a.0, tt); adds = none refl }
-    where
-      begin_failed : {Q : Type 0} → IsStoreFault why ⊎ ((why ≡ StoreFull) × Q) → IsStoreFault why ⊎ (why ≡ StoreFull)
-      begin_failed (inl f) = inl f
-      begin_failed (inr f) = inr f.0
+  cut_coming planned T calls bytes exit is (not_begun why e) a = record { only_fails = (elim a.0 [ inl f ↦ inl f | inr f ↦ inr f.0 ], tt); adds = none refl }
   cut_coming planned T calls bytes exit is (not_run k e) a = record { only_fails = (tt, tt); adds = one_run planned.moment (length planned.plan) false refl (λ f. absurd (cc)) }
   cut_coming planned T calls bytes exit is (not_put k es refused why s) a =
       let total = length planned.plan in
@@ -143,46 +138,29 @@ module _ (number : Option ℕ) (runs : List Run) (h : AreNumbered 1 runs) where
       let same = outputs_change head.number outline outputs runs in
       let cause = subst (λ (rs : List Run). Agrees rs (Outputs head.number last.position (Err why))) same (agree_later before end runs a.1.1).0 in
       let inside = entry_found r.entries (length outputs) last (ap (λ (es : List Entry). slice_get es (length outputs)) (sym a.1.0.2) ∙ there) in
-      record {
-        only_fails = (
-          tt,
-          (
-            tt,
-            outputs_told head.number outline outputs end (
-              failed why ((why ≡ Absent) × (entry_at (run_at runs head.number) last.position ≡ None)) cause
-                  (λ missing. inside (ap (λ (x : Option Run). entry_at x last.position) (sym a.1.0.1) ∙ missing.1)),
-              tt,
-            ),
-          ),
-        );
-        adds = none (changed-append before end runs ∙ same);
-      }
+      let missed = failed why ((why ≡ Absent) × (entry_at (run_at runs head.number) last.position ≡ None)) cause
+      (λ missing. inside (ap (λ (x : Option Run). entry_at x last.position) (sym a.1.0.1) ∙ missing.1)) in
+      record { only_fails = (tt, (tt, outputs_told head.number outline outputs end (missed, tt))); adds = none (changed-append before end runs ∙ same) }
 
 -- ---- any command
 
 module _ (seen : Seen) (runs : List Run) (h : AreNumbered 1 runs) (a : Agree runs seen.calls) where
-  means_coming : (c : Command) (bytes : List ℕ) (exit : ℕ) → Means seen c bytes exit → Coming runs seen.calls
-  means_coming c bytes exit (stopped d options fault e s k) = none_coming runs seen.calls k.calls
-  means_coming c bytes exit (listed options picked s k) = none_coming runs seen.calls k.calls
-  means_coming c bytes exit (tested options file picked moment bs x p t) = tested_coming runs h (run_for seen.plan options picked moment) seen.trace seen.calls bytes exit t a
-  means_coming c bytes exit (debugged options picked first others entries e p all k) = none_coming runs seen.calls k
-  means_coming c bytes exit (idle options picked s e k) = none_coming runs seen.calls k.calls
-  means_coming c bytes exit (reported options kinds verbose bs x u r) = reported_coming options.run runs h kinds verbose seen.calls bytes exit r
-  means_coming c bytes exit (reported_junit options bs x u r) = junit_coming options.run runs h seen.calls bytes exit r
-
-  short_coming : (c : Command) (bytes : List ℕ) (exit : ℕ) → CutShort seen c bytes exit → Coming runs seen.calls
-  short_coming c bytes exit (no_memory d options e _ k) = none_coming runs seen.calls k.calls
-  short_coming c bytes exit (cut options file picked moment bs x p t) =
+  coming : (c : Command) (bytes : List ℕ) (exit : ℕ) → Means seen c bytes exit ⊎ CutShort seen c bytes exit → Coming runs seen.calls
+  coming c bytes exit (inl (stopped d options fault e s k)) = none_coming runs seen.calls k.calls
+  coming c bytes exit (inl (listed options picked s k)) = none_coming runs seen.calls k.calls
+  coming c bytes exit (inl (tested options file picked moment bs x p t)) = tested_coming runs h (run_for seen.plan options picked moment) seen.trace seen.calls bytes exit t a
+  coming c bytes exit (inl (debugged options picked first others entries e p all k)) = none_coming runs seen.calls k
+  coming c bytes exit (inl (idle options picked s e k)) = none_coming runs seen.calls k.calls
+  coming c bytes exit (inl (reported options kinds verbose bs x u r)) = reported_coming options.run runs h kinds verbose seen.calls bytes exit r
+  coming c bytes exit (inl (reported_junit options bs x u r)) = junit_coming options.run runs h seen.calls bytes exit r
+  coming c bytes exit (inr (no_memory d options e _ k)) = none_coming runs seen.calls k.calls
+  coming c bytes exit (inr (cut options file picked moment bs x p t)) =
       cut_coming runs h (run_for seen.plan options picked moment) seen.trace seen.calls bytes exit (plan_fits picked.settings.config p.host picked.chosen.cases seen.plan p.planned) t a
-  short_coming c bytes exit (report_cut options kinds verbose bs x u r) = unread_coming options.run runs h verbose seen.calls bytes exit r a
-  short_coming c bytes exit (junit_cut options bs x u r) = junit_or_unread options.run runs h seen.calls bytes exit r a
-
-  either_coming : (c : Command) (bytes : List ℕ) (exit : ℕ) → Means seen c bytes exit ⊎ CutShort seen c bytes exit → Coming runs seen.calls
-  either_coming c bytes exit (inl m) = means_coming c bytes exit m
-  either_coming c bytes exit (inr m) = short_coming c bytes exit m
+  coming c bytes exit (inr (report_cut options kinds verbose bs x u r)) = unread_coming options.run runs h verbose seen.calls bytes exit r a
+  coming c bytes exit (inr (junit_cut options bs x u r)) = junit_or_unread options.run runs h seen.calls bytes exit r a
 
 -- what a command left of a sound store that stood for runs
 pub left_by : {W R : Type 0} (w : World W) (keep : keeping.Ghosts R) (c : Command) (old new : Scene W R) (exit : ℕ) (runs : List Run) (did : Did w keep c old new exit) → keep.stands old.store runs → keep.sound new.store → Left did runs
 left_by w keep c old new exit runs did h sound =
-    let it = either_coming did.seen runs (keep.numbered old.store runs h) (did.stored.kept.agree runs h sound) c did.bytes did.due did.is in
+    let it = coming did.seen runs (keep.numbered old.store runs h) (did.stored.kept.agree runs h sound) c did.bytes did.due did.is in
     record { only_fails = it.only_fails; adds = it.adds }

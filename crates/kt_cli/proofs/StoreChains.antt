@@ -1,6 +1,6 @@
 -- Calls on a store, one after the other.
-use Rattle.std.proofs.Common.{Ok, Err, ◌≡◌, List, [], ◌∷◌, ◌++◌, refl, sym, subst}
-use Rattle.kt_cli.proofs.Common.{Run, StoreCall, Began, Put, Finished, Heads, Outline, Outputs, chain-append, Agrees, Outlasts, Serves, changed_by, beside_by, changed, beside, Agree, Stored}
+use Rattle.std.proofs.Common.{Ok, ◌≡◌, List, [], ◌∷◌, ◌++◌, refl, sym, subst}
+use Rattle.kt_cli.proofs.Common.{Run, StoreCall, Began, Put, Finished, Heads, Outline, Outputs, chain-append, Outlasts, Serves, changed_by, beside_by, changed, beside, Agree, Stored}
 use Rattle.kt_store.specs.declared.result_store.Keeping as keeping
 
 pub changed-append : (xs ys : List StoreCall) (runs : List Run) → changed (xs ++ ys) runs ≡ changed ys (changed xs runs)
@@ -24,25 +24,17 @@ agree_later (x ∷ xs) ys runs a = agree_later xs ys (changed_by x runs) a.1
 crash_by : {R : Type 0} (Leaves : R → List (List Run) → Type 0) (call : StoreCall) (runs : List Run) (may : List (List Run)) (a b : R) → ((m : List (List Run)) → Outlasts Leaves call runs m a b) → Leaves a (runs ∷ may)
     → Leaves b (changed_by call runs ∷ beside_by call runs may)
 crash_by Leaves (Began total moment (Ok number)) runs may a b h l = h may
-crash_by Leaves (Began total moment (Err fault)) runs may a b h l = h may l
 crash_by Leaves (Put number e (Ok done)) runs may a b h l = h may
-crash_by Leaves (Put number e (Err fault)) runs may a b h l = h may l
 crash_by Leaves (Finished number (Ok done)) runs may a b h l = h may
-crash_by Leaves (Finished number (Err fault)) runs may a b h l = h may l
 crash_by Leaves (Heads answer) runs may a b h l = h (runs ∷ may) l
 crash_by Leaves (Outline number pairs answer) runs may a b h l = h (runs ∷ may) l
 crash_by Leaves (Outputs number position answer) runs may a b h l = h (runs ∷ may) l
+crash_by Leaves _ runs may a b h l = h may l
 
 module _ {R : Type 0} (keep : keeping.Ghosts R) where
   -- no call
   pub stored_none : (a : R) → Stored keep [] a a
   stored_none a = record { answered = refl; kept = record { stands = λ runs h. h; earlier = λ runs h s. s; agree = λ runs h s. tt; crash = λ runs may h l. l } }
-
-  -- one call
-  stored_one : (call : StoreCall) (a b : R) → keep.answers a call b → ((runs : List Run) → keep.stands a runs → keep.stands b (changed_by call runs)) → ((runs : List Run) → keep.stands a runs → keep.sound b → keep.sound a)
-      → ((runs : List Run) → keep.stands a runs → keep.sound b → Agrees runs call) → ((runs : List Run) (may : List (List Run)) → keep.stands a runs → keep.leaves a (runs ∷ may) → keep.leaves b (changed_by call runs ∷ beside_by call runs may))
-      → Stored keep (call ∷ []) a b
-  stored_one call a b asked stands earlier agrees crash = record { answered = (b, asked, refl); kept = record { stands = stands; earlier = earlier; agree = λ runs h s. (agrees runs h s, tt); crash = crash } }
 
   -- some calls, and then others
   pub stored_both : (xs ys : List StoreCall) (a b d : R) → Stored keep xs a b → Stored keep ys b d → Stored keep (xs ++ ys) a d
@@ -55,8 +47,7 @@ module _ {R : Type 0} (keep : keeping.Ghosts R) where
           stands = λ runs h. subst (λ (rs : List Run). keep.stands d rs) (sym (changed-append xs ys runs)) (y.stands (changed xs runs) (x.stands runs h));
           earlier = λ runs h s. x.earlier runs h (y.earlier (changed xs runs) (x.stands runs h) s);
           agree = λ runs h s. agree_both xs ys runs (x.agree runs h (y.earlier (changed xs runs) (x.stands runs h) s)) (y.agree (changed xs runs) (x.stands runs h) s);
-          crash = λ runs may h l. subst (λ (rs : List Run). keep.leaves d (rs ∷ beside (xs ++ ys) runs may)) (sym (changed-append xs ys runs))
-              (subst (λ (ms : List (List Run)). keep.leaves d (changed ys (changed xs runs) ∷ ms)) (sym (beside-append xs ys runs may)) (y.crash (changed xs runs) (beside xs runs may) (x.stands runs h) (x.crash runs may h l)));
+          crash = λ runs may h l. rw (changed-append xs ys runs, beside-append xs ys runs may) (y.crash (changed xs runs) (beside xs runs may) (x.stands runs h) (x.crash runs may h l));
         };
       }
 
@@ -66,4 +57,7 @@ module _ {R : Type 0} (keep : keeping.Ghosts R) where
 
   -- a call that a store served
   pub stored_call : (call : StoreCall) (a b : R) → Serves keep call a b → Stored keep (call ∷ []) a b
-  stored_call call a b s = stored_one call a b s.asked s.stands s.earlier s.agrees (λ runs may h l. crash_by keep.leaves call runs may a b (λ m. s.crash runs m h) l)
+  stored_call call a b s = record {
+    answered = (b, s.asked, refl);
+    kept = record { stands = s.stands; earlier = s.earlier; agree = λ runs h sound. (s.agrees runs h sound, tt); crash = λ runs may h l. crash_by keep.leaves call runs may a b (λ m. s.crash runs m h) l };
+  }

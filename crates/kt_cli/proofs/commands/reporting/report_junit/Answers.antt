@@ -1,11 +1,12 @@
-use Rattle.std.proofs.Common.{Err, refl, subst}
+use Rattle.std.proofs.Common.{Err, false, inl, refl, subst}
 use Rattle.kt_cli.proofs.Common.{WritesJunit}
+use Rattle.kt_cli.specs.Reports.{no_run}
 use Rattle.kt_cli.specs.declared.commands.report_stop.JunitStop.{JunitStop}
-use Rattle.kt_cli.proofs.ShownRuns.{did_tell_junit, did_not_tell_junit, did_refuse, did_cut, did_stop}
+use Rattle.kt_cli.proofs.ShownRuns.{did_tell_junit, did_not_tell, did_refuse, did_cut, did_stop}
 use Rattle.kt_cli.proofs.commands.reporting.report_junit.Goals as goal
 
 pub returns-in-Err : goal.returns-in-Err
-returns-in-Err g c = did_not_tell_junit g.R.Keeping c.args.number _ _ _ _ _ c.in-Err.why _ c.in-Err.ensures c.write_not_shown.ensures c.ended.ensures
+returns-in-Err g c = did_not_tell g.R.Keeping c.args.number _ _ _ _ _ _ _ false c.in-Err.why _ no_run (λ calls bytes u. inl u) c.in-Err.ensures c.write_not_shown.ensures c.ended.ensures
 
 pub returns-in-Ok-write_junit : goal.returns-in-Ok-write_junit
 returns-in-Ok-write_junit g c = did_tell_junit g.R.Keeping c.args.number _ _ _ _ _ _ c.in-Ok.run' c.in-Ok.ensures c.in-Ok-write_junit.ensures refl

@@ -24,4 +24,4 @@ loop-entry-preserved g c =
 pub returns-in_err-junit_end : goal.returns-in_err-junit_end
 returns-in_err-junit_end g c =
     error_is (WritesJunit g.R.Keeping c.args.results.now c.loop-entry.results (g.O.Write.contents c.args.out.now) (g.O.Write.contents c.junit_end.new.out) c.args.run.now) c.from_residual-in_err-junit_end.result _ c.from_residual-in_err-junit_end.ensures.1
-    (end_cut g.R.Keeping c.args.run.now _ _ _ _ _ c.as_slice-entry-items.result.now c.as_slice-entry-items.ensures c.loop-entry.entry-index c.loop-entry-test.false c.loop-entry.invariant c.in_err-junit_end.ensures)
+    (end_cut g.R.Keeping c.args.run.now _ _ _ _ _ c.loop-entry.entry-index c.loop-entry.invariant c.in_err-junit_end.ensures)

@@ -7,16 +7,12 @@ pub returns-clause-records : goal.returns-clause-records
 returns-clause-records g c =
     let w = c.run_cases-answer.ensures.ran in
     let k = whole g.R.Keeping _ (λ s. recording s.results.now s.number (is_err s.written) (g.O.Write.contents s.out.now)) (λ s. s.results.ghost_name) (λ s. s.out.ghost_name) (λ s t e r h. h) _ _ _ _ _ _ _ w.are w.once w.ends in
-    let n = k.same_store in
-    let o = k.same_out in
-    let p = k.stored in
-    let s = k.says in
     record {
       trace = w.trace;
       leads = w.leads;
       entries = w.gained;
       last = k.last;
-      stored = search rules;
-      says = search rules;
+      stored = search (rules, k.gained.same_store, k.gained.stored);
+      says = search (rules, k.gained.same_out, k.gained.says);
       ends = k.ends;
     }

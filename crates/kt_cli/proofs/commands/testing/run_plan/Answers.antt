@@ -1,4 +1,4 @@
-use Rattle.std.proofs.Common.{Ok, Err, rules, ◌≡◌, length}
+use Rattle.std.proofs.Common.{Ok, Err, rules, ◌≡◌}
 use Rattle.kt_cli.proofs.Common.{Began, Finished, run_for}
 use Rattle.kt_cli.proofs.PlanRuns.{ran_unbegun, ran_failed, ran_unfinished, ran_all}
 use Rattle.kt_cli.proofs.StoreChains.{stored_call}
@@ -6,45 +6,31 @@ use Rattle.kt_cli.proofs.commands.testing.run_plan.Goals as goal
 
 pub returns-in-Err-clause-ran : goal.returns-in-Err-clause-ran
 returns-in-Err-clause-ran g c =
-    let b = c.in-Err.ensures in
-    let p = run_for c.args.planned.plan c.args.planned.options.now c.args.planned.picked.now c.args.planned.moment in
-    let t : c.len-total.result ≡ length c.args.planned.plan = search rules in
-    ran_unbegun g.L.Launcher g.R.Keeping p _ _ _ _ _ _ _ t
-    (stored_call g.R.Keeping (Began _ c.args.planned.moment (Err c.in-Err.fault)) _ _ b) c.write_refusal.ensures c.ended.ensures
+    ran_unbegun g.L.Launcher g.R.Keeping _ _ _ _ _ _ _ _ (search rules)
+    (stored_call g.R.Keeping (Began _ c.args.planned.moment (Err c.in-Err.fault)) _ _ c.in-Err.ensures) c.write_refusal.ensures c.ended.ensures
 
 pub returns-in-Err-answer-clause-ran : goal.returns-in-Err-answer-clause-ran
 returns-in-Err-answer-clause-ran g c =
     let a : c.record_cases-answer.result.0 ≡ Err c.in-Err-answer.fault = search rules in
-    let p = run_for c.args.planned.plan c.args.planned.options.now c.args.planned.picked.now c.args.planned.moment in
-    let t : c.len-total.result ≡ length c.args.planned.plan = search rules in
-    let b = c.in-Ok.ensures in
     let r = rw (c.parallelism-width.ensures.value) at c.record_cases-answer.ensures.records in
-    ran_failed g.L.Launcher g.R.Keeping p _ _ _ _ _ _ _ _ _ _ _ t
-    (stored_call g.R.Keeping (Began _ c.args.planned.moment (Ok c.in-Ok.number)) _ _ b)
+    ran_failed g.L.Launcher g.R.Keeping _ _ _ _ _ _ _ _ _ _ _ _ (search rules)
+    (stored_call g.R.Keeping (Began _ c.args.planned.moment (Ok c.in-Ok.number)) _ _ c.in-Ok.ensures)
     _ r c.in-Err-answer.fault a c.write_run_fault.ensures c.ended-in-Err-answer.ensures
 
 pub returns-in-Err-finish-clause-ran : goal.returns-in-Err-finish-clause-ran
 returns-in-Err-finish-clause-ran g c =
     let a : c.record_cases-answer.result.0 ≡ Ok c.in-Ok-answer.totals = search rules in
-    let p = run_for c.args.planned.plan c.args.planned.options.now c.args.planned.picked.now c.args.planned.moment in
-    let t : c.len-total.result ≡ length c.args.planned.plan = search rules in
-    let b = c.in-Ok.ensures in
     let r = rw (c.parallelism-width.ensures.value) at c.record_cases-answer.ensures.records in
-    let e = c.in-Err-finish.ensures in
-    ran_unfinished g.L.Launcher g.R.Keeping p _ _ _ _ _ _ _ _ _ _ _ t
-    (stored_call g.R.Keeping (Began _ c.args.planned.moment (Ok c.in-Ok.number)) _ _ b)
+    ran_unfinished g.L.Launcher g.R.Keeping _ _ _ _ _ _ _ _ _ _ _ _ (search rules)
+    (stored_call g.R.Keeping (Began _ c.args.planned.moment (Ok c.in-Ok.number)) _ _ c.in-Ok.ensures)
     _ r _ c.in-Ok-answer.totals a c.in-Err-finish.fault
-    (stored_call g.R.Keeping (Finished c.in-Ok.number (Err c.in-Err-finish.fault)) _ _ e) _ c.sink_fault.ensures c.write_run_fault-in-Err-finish.ensures c.ended-in-Err-finish.ensures
+    (stored_call g.R.Keeping (Finished c.in-Ok.number (Err c.in-Err-finish.fault)) _ _ c.in-Err-finish.ensures) _ c.sink_fault.ensures c.write_run_fault-in-Err-finish.ensures c.ended-in-Err-finish.ensures
 
 pub returns-in-Ok-finish-clause-ran : goal.returns-in-Ok-finish-clause-ran
 returns-in-Ok-finish-clause-ran g c =
     let a : c.record_cases-answer.result.0 ≡ Ok c.in-Ok-answer.totals = search rules in
-    let p = run_for c.args.planned.plan c.args.planned.options.now c.args.planned.picked.now c.args.planned.moment in
-    let t : c.len-total.result ≡ length c.args.planned.plan = search rules in
-    let b = c.in-Ok.ensures in
     let r = rw (c.parallelism-width.ensures.value) at c.record_cases-answer.ensures.records in
-    let e = c.in-Ok-finish.ensures in
-    ran_all g.L.Launcher g.R.Keeping p _ _ _ _ _ _ _ _ _ _ _ t
-    (stored_call g.R.Keeping (Began _ c.args.planned.moment (Ok c.in-Ok.number)) _ _ b)
+    ran_all g.L.Launcher g.R.Keeping _ _ _ _ _ _ _ _ _ _ _ _ (search rules)
+    (stored_call g.R.Keeping (Began _ c.args.planned.moment (Ok c.in-Ok.number)) _ _ c.in-Ok.ensures)
     _ r _ c.in-Ok-answer.totals a _
-    (stored_call g.R.Keeping (Finished c.in-Ok.number (Ok tt)) _ _ e) c.write_ending-all.ensures c.status_of.ensures c.ended-in-Ok-finish.ensures
+    (stored_call g.R.Keeping (Finished c.in-Ok.number (Ok tt)) _ _ c.in-Ok-finish.ensures) c.write_ending-all.ensures c.status_of.ensures c.ended-in-Ok-finish.ensures

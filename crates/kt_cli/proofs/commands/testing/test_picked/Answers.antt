@@ -16,5 +16,4 @@ run_plan-requires-clause-idle g c =
 
 pub returns-clause-did : goal.returns-clause-did
 returns-clause-did g c = λ file start selects.
-    let a : c.as_slice-cases.result.now ≡ c.args.picked.now.chosen.cases = search rules in
-    did_test (world_of g.W.Tree g.W.Launcher g.W.World) g.R.Keeping _ _ c.args.options.now file _ _ _ c.args.picked.now c.as_slice-cases.result.now c.in-Ok.plan _ _ selects a c.in-Ok.ensures.planned c.now-moment.ensures.told c.run_plan.ensures.ran
+    did_test (world_of g.W.Tree g.W.Launcher g.W.World) g.R.Keeping _ _ c.args.options.now file _ _ _ c.args.picked.now c.as_slice-cases.result.now c.in-Ok.plan _ _ selects (search rules) c.in-Ok.ensures.planned c.now-moment.ensures.told c.run_plan.ensures.ran

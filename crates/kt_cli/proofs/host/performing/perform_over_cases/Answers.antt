@@ -1,6 +1,5 @@
 use Rattle.std.proofs.Common.{refl}
 use Rattle.kt_cli.proofs.Common.{done, no_surroundings, no_driver}
-use Rattle.kt_cli.proofs.Performances.{first_told}
 use Rattle.kt_cli.proofs.host.performing.perform_over_cases.Goals as goal
 
 pub returns-in-Err : goal.returns-in-Err
@@ -13,4 +12,4 @@ pub returns-in-Err-execute_over_cases : goal.returns-in-Err-execute_over_cases
 returns-in-Err-execute_over_cases g c =
     let unasked = c.in-Err-execute_over_cases.ensures.unasked in
     no_driver c.args.options.now c.in-Ok.around c.in-Err-execute_over_cases.fault c.requires c.in-Ok.ensures c.in-Err-execute_over_cases.ensures.refused unasked.0
-    (first_told _ _ _ _ _ _ unasked.1 c.print_driver_fault-in-Err-execute_over_cases.ensures)
+    (rw unasked.1 at c.print_driver_fault-in-Err-execute_over_cases.ensures)

@@ -9,5 +9,4 @@ returns-in-Some c =
 
 pub returns : goal.returns
 returns c =
-    let more : c.add_copy.new.entries ≡ insert_at c.args.entry.now c.index_mut-run.result.now.entries = search rules in
-    put_well _ c.self.inside.runs.items _ c.in_ok-place.place c.index_mut-run.result.now c.self.view_is c.in_ok-place.ensures c.index_mut-run.ensures.value c.args.entry.now _ c.in_default.ensures more
+    put_well _ c.self.inside.runs.items _ c.in_ok-place.place c.index_mut-run.result.now c.self.view_is c.in_ok-place.ensures c.index_mut-run.ensures.value c.args.entry.now _ c.in_default.ensures (search rules)
