@@ -12,25 +12,22 @@ pub use Rattle.kt_base.specs.Characters.{is_space}
 pub use Rattle.kt_base.specs.Digits.{decimal_from, fits, is_digit}
 pub use denote.Shadow.{shadow}
 pub use denote.Text.{Utf8}
+pub use Rattle.std.specs.Option.{option_to_list}
 pub use Rattle.kt_script.specs.Faults.{Begins, IfFault, IsFaultOf, Misfit, Unfinished, after_bracket, end_fault, fault_of, last, open_lines}
 pub use Rattle.kt_script.specs.Grammar.{Key, Parts, Script, Separator, Statement, assign, bare_table, by_name, by_text, call, call_table, call_text, comma, ended_and, first_line, kinds, last_pair, named_part, no_pairs, no_parts, no_stmts, pair, pair_and, placed, quoted_part, semicolon, stmt_and, token_of}
-pub use Rattle.kt_script.specs.Inner.Automaton.{IsResting, begin, closed, ended_by, go_on, landed, listed, next, place_of, run, step, value_of, with_pair}
+pub use Rattle.kt_script.specs.Inner.Automaton.{IsResting, begin, closed, ended_by, go_on, landed, next, place_of, run, step, value_of, with_pair}
 pub use Rattle.kt_script.specs.Inner.Comments.{closes_at, comment_at}
 pub use Rattle.kt_script.specs.Inner.Pieces.{blank, broken, token}
 pub use Rattle.kt_script.specs.Inner.Reading.{HasRead, IsMisfit}
 pub use Rattle.kt_script.specs.Inner.Strings.{decoded, escape_at, escape_stop, escaped, quoted, quoted_at, stop_at, string_at, with_front}
-pub use Rattle.kt_script.specs.Inner.Tokens.{tokens_in, tokens_of}
+pub use Rattle.kt_script.specs.Inner.Tokens.{tokens_in}
 unfoldable pub use Rattle.kt_script.specs.Inner.Tokens.{piece_at, tokens}
 pub use Rattle.kt_script.specs.Inner.Words.{begins_with_letter, name_at, number, number_at}
 pub use Rattle.kt_script.specs.Letters.{escape_of, is_letter, is_plain, is_word}
 pub use Rattle.kt_script.specs.Spelling.{Answers, IsAnswer, IsDue, Refuses, Spells, limit}
 pub use Rattle.kt_script.specs.TokenRules.{Blank, Closes, Each, HasFlaw, Inside, IsStrange, IsTokens, NeverCloses, NoEscape, StopsAt, Word, a_mark, a_name, a_number, a_string, bad_escape, blank_and, endless_comment, endless_string, escape, in_line, is_quote, itself, large_number, lettered_number, leveled_comment, line_after, line_comment, line_past, lone_dash, long_comment, mark_of, no_word, not_yet, nothing, opens_level, opens_long, space, strange, the_end, word, word_and}
-pub use Rattle.kt_script.specs.declared.fault.ScriptFault.{ScriptFault}
-pub use Rattle.kt_script.specs.declared.fault.ScriptFault.TheVariants.{NoMemory, NotUtf8, TooLong}
-pub use Rattle.kt_script.specs.declared.syntax.Literal.{Literal}
+pub use Rattle.kt_script.specs.Types.{Action, Assign, Bad, Broken, Call, CloseBrace, CloseBracket, CloseParen, Comma, Dot, Endless, Equals, Flaw, Kind, Leveled, Literal, Name, NoMemory, NotUtf8, Number, OpenBrace, OpenBracket, OpenParen, Pair, Piece, Place, Quoted, ScriptFault, Semicolon, Start, Stmt, Token, TooLong, Truth, Whole, Within}
 pub use Rattle.kt_script.specs.declared.parser.Parser.{Parser}
-pub use Rattle.kt_script.specs.declared.place.Place.{Place}
-pub use Rattle.kt_script.specs.declared.place.Place.TheVariants.{Start, Whole, Within}
 pub use Rattle.kt_script.specs.declared.token.Stop.{Stop}
 pub use Rattle.kt_script.specs.declared.token.Stop.TheVariants.{Escape, Flawed, Quote}
 pub use Rattle.kt_script.specs.declared.state.State.{State}
@@ -39,13 +36,3 @@ pub use Rattle.kt_script.specs.declared.state.Step.{Step}
 pub use Rattle.kt_script.specs.declared.state.Step.TheVariants.{To}
 pub use Rattle.kt_script.specs.declared.state.Step.TheVariants.{Ends}
 pub use Rattle.kt_script.specs.declared.state.Table.{Table}
-pub use Rattle.kt_script.specs.declared.syntax.Action.{Action}
-pub use Rattle.kt_script.specs.declared.syntax.Action.TheVariants.{Assign, Call}
-pub use Rattle.kt_script.specs.declared.syntax.Pair.{Pair}
-pub use Rattle.kt_script.specs.declared.syntax.Stmt.{Stmt}
-pub use Rattle.kt_script.specs.declared.token.Flaw.{Flaw}
-pub use Rattle.kt_script.specs.declared.token.Flaw.TheVariants.{Bad, Endless, Leveled}
-pub use Rattle.kt_script.specs.declared.token.Kind.{Kind}
-pub use Rattle.kt_script.specs.declared.token.Kind.TheVariants.{Broken, CloseBrace, CloseBracket, CloseParen, Comma, Dot, Equals, Name, Number, OpenBrace, OpenBracket, OpenParen, Quoted, Semicolon, Truth}
-pub use Rattle.kt_script.specs.declared.token.Piece.{Piece}
-pub use Rattle.kt_script.specs.declared.token.Token.{Token}

@@ -1,6 +1,6 @@
 -- The code's steps go through each script, to its statements.
 use Rattle.std.proofs.Common.{arith, ◌≡◌, ℕ, true, false, List, [], ◌∷◌, ◌++◌, Option, Some, None, refl, ap, sym, ◌∙◌, append_assoc, option_map, option_and_then}
-use Rattle.kt_script.proofs.Common.{append-nil, Token, Kind, Name, Quoted, OpenParen, CloseParen, OpenBrace, CloseBrace, Equals, Semicolon, Place, Start, Whole, Within, Pair, Stmt, Literal, Action, Call, Assign, Table, Named, Pairs, Paired, Path, Step, To, Ends, token_of, pair, Key, by_name, by_text, Separator, comma, semicolon, no_pairs, last_pair, pair_and, Parts, no_parts, named_part, quoted_part, Statement, call, call_table, call_text, bare_table, assign, kinds, placed, Script, no_stmts, stmt_and, ended_and, value_of, closed, with_pair, step, next, landed, listed, run, IsResting}
+use Rattle.kt_script.proofs.Common.{append-nil, Token, Kind, Name, Quoted, OpenParen, CloseParen, OpenBrace, CloseBrace, Equals, Semicolon, Place, Start, Whole, Within, Pair, Stmt, Literal, Action, Call, Assign, Table, Named, Pairs, Paired, Path, Step, To, Ends, token_of, pair, Key, by_name, by_text, Separator, comma, semicolon, no_pairs, last_pair, pair_and, Parts, no_parts, named_part, quoted_part, Statement, call, call_table, call_text, bare_table, assign, kinds, placed, Script, no_stmts, stmt_and, ended_and, value_of, closed, with_pair, step, next, landed, option_to_list, run, IsResting}
 use Rattle.kt_script.specs.declared.syntax.Literal.TheVariants as literal
 use Rattle.kt_script.specs.declared.syntax.Arg.TheVariants as arg
 use Rattle.kt_script.specs.Grammar as grammar
@@ -101,11 +101,11 @@ joined_none (Some end) = refl
 
 -- where a step leads, and the statements that it ends
 abbrev pub reached : ℕ → Step → Place × List Stmt
-reached line s = ((landed line s).0, listed (landed line s).1)
+reached line s = ((landed line s).0, option_to_list (landed line s).1)
 
 -- the rest of a statement, as tokens
 steps_run : (ts : List Token) (line : ℕ) (s r : Step) → walk s (kinds ts) ≡ Some r
-    → option_map (joined (listed (landed line s).1)) (run (landed line s).0 ts) ≡ Some (reached line r)
+    → option_map (joined (option_to_list (landed line s).1)) (run (landed line s).0 ts) ≡ Some (reached line r)
 steps_run [] line (To q) r e = ap (λ (s : Step). Some (reached line s)) (same_Some (To q) r e)
 steps_run [] line (Ends a) r e = ap (λ (s : Step). Some (reached line s)) (same_Some (Ends a) r e)
 steps_run (t ∷ ts) line (To q) r e =
@@ -118,10 +118,10 @@ run-append [] p q ys ss e =
     let same = same_Some (p, []) (q, ss) e in
     sym (joined_none (run p ys)) ∙ ap (λ (x : Place × List Stmt). option_map (joined x.1) (run x.0 ys)) same
 run-append (t ∷ xs) p q ys ss e =
-    let b = bind_some (next p t) (λ to. option_map (joined (listed to.1)) (run to.0 xs)) (q, ss) e in
-    let m = map_some (run b.0.0 xs) (joined (listed b.0.1)) (q, ss) b.2 in
+    let b = bind_some (next p t) (λ to. option_map (joined (option_to_list to.1)) (run to.0 xs)) (q, ss) e in
+    let m = map_some (run b.0.0 xs) (joined (option_to_list b.0.1)) (q, ss) b.2 in
     let later = run-append xs b.0.0 m.0.0 ys m.0.1 m.1 in
-    rw b.1 (ap (option_map (joined (listed b.0.1))) later ∙ joined_twice (listed b.0.1) m.0.1 (run m.0.0 ys)
+    rw b.1 (ap (option_map (joined (option_to_list b.0.1))) later ∙ joined_twice (option_to_list b.0.1) m.0.1 (run m.0.0 ys)
     ∙ ap (λ (x : Place × List Stmt). option_map (joined x.1) (run x.0 ys)) m.2)
 
 -- ---- scripts

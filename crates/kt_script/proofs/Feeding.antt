@@ -1,6 +1,6 @@
 -- What a parser has read after one token more.
 use Rattle.std.proofs.Common.{◌≡◌, ℕ, List, [], ◌∷◌, ◌++◌, Option, Some, None, refl, ap, sym, ◌∙◌}
-use Rattle.kt_script.proofs.Common.{Token, Place, Parser, Stmt, after_bracket, open_lines, next, listed, place_of, ended_by, HasRead}
+use Rattle.kt_script.proofs.Common.{Token, Place, Parser, Stmt, after_bracket, open_lines, next, option_to_list, place_of, ended_by, HasRead}
 use Rattle.kt_script.proofs.Sound.{run-push}
 use Rattle.std.proofs.lemmas.Option.{same_Some}
 
@@ -9,7 +9,7 @@ open_lines-push lines [] t = refl
 open_lines-push lines (s ∷ ts) t = open_lines-push (after_bracket lines s.line s.kind) ts t
 
 reads_on : (old new : Parser) (place after : Place) (read : List Token) (t : Token) (to : Place × Option Stmt) → HasRead place old read → next place t ≡ Some to
-    → to.0 ≡ after → new.statements ≡ old.statements ++ listed to.1 → new.brackets.items ≡ after_bracket old.brackets.items t.line t.kind → HasRead after new (read ++ t ∷ [])
+    → to.0 ≡ after → new.statements ≡ old.statements ++ option_to_list to.1 → new.brackets.items ≡ after_bracket old.brackets.items t.line t.kind → HasRead after new (read ++ t ∷ [])
 reads_on old new place after read t to h step leads statements brackets = record {
   runs = rw (← leads, statements) (run-push read t place old.statements to h.runs step);
   brackets = brackets ∙ ap (λ (lines : List ℕ). after_bracket lines t.line t.kind) h.brackets ∙ sym (open_lines-push [] read t);

@@ -1,7 +1,7 @@
 -- What is read of a text, and what is left of it.
 use Rattle.std.proofs.Common.{◌≡◌, ℕ, ◌+◌, ◌<◌, ◌≤◌, List, [], ◌∷◌, ◌++◌, length, take, drop, Option, Some, None, Result, Ok, Err, refl, ap, sym, ◌∙◌, subst, append_assoc, arith, length-take, length-drop, IfOk, IfErr}
 use Rattle.kt_script.proofs.Common.{append-nil, ScriptFault, NoMemory, Token, Kind, Piece, Place, Start, Whole, Within, Parser, State, Stmt, Script, run, IsResting, IfFault, IsFaultOf, last, open_lines, end_fault, HasRead, IsMisfit, piece_at, tokens, tokens_in, line_past}
-use Rattle.kt_script.specs.Inner.Places.{IsWithin}
+use Rattle.kt_script.specs.Inner.Automaton.{IsWithin}
 use Rattle.kt_script.proofs.Sound.{accepted, misfit, unfinished}
 use Rattle.kt_script.proofs.PieceTokens.{tokens-piece, tokens-end}
 

@@ -1,6 +1,6 @@
 -- Each text has one answer: its statements or its fault.
 use Rattle.std.proofs.Common.{◌≡◌, ℕ, ◌≤◌, List, [], ◌∷◌, ◌++◌, length, Option, Some, None, Result, Ok, Err, refl, ap, sym, ◌∙◌, subst, append_assoc, arith, inl, inr, IfOk, IsUtf8}
-use Rattle.kt_script.proofs.Common.{is_utf8, cases_lt, cases_Bool, false≢true, append-nil, IsUtf8-from_is_utf8, is_utf8-from_IsUtf8, ScriptFault, NoMemory, NotUtf8, TooLong, Token, Place, Start, Whole, Within, Stmt, Script, IfFault, IsFaultOf, fault_of, next, listed, run, limit, Spells, IsDue, Refuses, IsAnswer, tokens_of}
+use Rattle.kt_script.proofs.Common.{is_utf8, tokens, cases_lt, cases_Bool, false≢true, append-nil, IsUtf8-from_is_utf8, is_utf8-from_IsUtf8, ScriptFault, NoMemory, NotUtf8, TooLong, Token, Place, Start, Whole, Within, Stmt, Script, IfFault, IsFaultOf, fault_of, next, option_to_list, run, limit, Spells, IsDue, Refuses, IsAnswer}
 use Rattle.kt_script.proofs.Sound.{accepted, misfit, unfinished, one_script, run-push}
 use Rattle.kt_script.proofs.OneFault.{one_fault}
 use Rattle.kt_script.proofs.OneReading.{same_tokens}
@@ -64,13 +64,13 @@ goes_through (t ∷ ts) front p ss e = at_token t ts front p ss e (λ q rs h. go
         → (o : Option (Place × Option Stmt)) → next p t ≡ o → (a : Result (List Stmt) ScriptFault) × TokensGive (front ++ t ∷ ts) a
     at_token t ts front p ss e later None stuck = (Err (fault_of t), misfit front t ts p ss e stuck)
     at_token t ts front p ss e later (Some to) step =
-        let h = later to.0 (ss ++ listed to.1) (run-push front t p ss to e step) in
+        let h = later to.0 (ss ++ option_to_list to.1) (run-push front t p ss to e step) in
         (h.0, subst (λ (xs : List Token). TokensGive xs h.0) (append_assoc front (t ∷ []) ts) h.1)
 
-answer_of_tokens : (text : List ℕ) → length text ≤ limit → IsUtf8 text → (a : Result (List Stmt) ScriptFault) → TokensGive (tokens_of text) a → IsAnswer text a
+answer_of_tokens : (text : List ℕ) → length text ≤ limit → IsUtf8 text → (a : Result (List Stmt) ScriptFault) → TokensGive (tokens 1 0 text) a → IsAnswer text a
 unfolding TokensGive
-answer_of_tokens text short utf8 (Ok stmts) h = record { short = short; utf8 = utf8; tokens = tokens_of text; read = some_reading 1 text; script = h }
-answer_of_tokens text short utf8 (Err f) h = inr (inr (short, utf8, tokens_of text, some_reading 1 text, h))
+answer_of_tokens text short utf8 (Ok stmts) h = record { short = short; utf8 = utf8; tokens = tokens 1 0 text; read = some_reading 1 text; script = h }
+answer_of_tokens text short utf8 (Err f) h = inr (inr (short, utf8, tokens 1 0 text, some_reading 1 text, h))
 
 pub some_answer : (text : List ℕ) → (a : Result (List Stmt) ScriptFault) × IsAnswer text a
 some_answer text =
@@ -79,7 +79,7 @@ some_answer text =
       | inr short ↦ elim (cases_Bool (is_utf8 text)) [
         | inl utf8 ↦
             let u = IsUtf8-from_is_utf8 text utf8 in
-            let h = goes_through (tokens_of text) [] Start [] refl in
+            let h = goes_through (tokens 1 0 text) [] Start [] refl in
             (h.0, answer_of_tokens text short u h.0 h.1)
         | inr other ↦ (Err NotUtf8, inr (inl (short, λ u. false≢true (sym other ∙ is_utf8-from_IsUtf8 text u), refl)))
       ]

@@ -1,6 +1,6 @@
 -- Where the code's steps lead, a script is or begins; where they don't go on, none does.
 use Rattle.std.proofs.Common.{◌≡◌, ℕ, List, [], ◌∷◌, ◌++◌, Option, Some, None, refl, ap, sym, ◌∙◌, subst, append_assoc, inl, inr, option_map}
-use Rattle.kt_script.proofs.Common.{append-nil, Token, Place, Start, Whole, Within, Stmt, State, Script, fault_of, last, open_lines, end_fault, IsFaultOf, step, next, listed, run, IsResting}
+use Rattle.kt_script.proofs.Common.{append-nil, Token, Place, Start, Whole, Within, Stmt, State, Script, fault_of, last, open_lines, end_fault, IsFaultOf, step, next, option_to_list, run, IsResting}
 use Rattle.kt_script.proofs.Complete.{joined, run-append, script_runs}
 use Rattle.kt_script.proofs.Standing.{Stands, whole_script, from_start, finished, stands_begins}
 use Rattle.std.proofs.lemmas.Option.{same_Some}
@@ -80,6 +80,6 @@ unfinished ts line q ss e =
 
 -- one token more
 pub run-push : (front : List Token) (t : Token) (p : Place) (ss : List Stmt) (to : Place × Option Stmt) → run Start front ≡ Some (p, ss) → next p t ≡ Some to
-    → run Start (front ++ t ∷ []) ≡ Some (to.0, ss ++ listed to.1)
+    → run Start (front ++ t ∷ []) ≡ Some (to.0, ss ++ option_to_list to.1)
 run-push front t p ss to e step =
     run-append front Start p (t ∷ []) ss e ∙ rw (step, append-nil) refl

@@ -1,6 +1,6 @@
 -- What holds where tokens have led to a place: a script is done, or a statement has begun.
 use Rattle.std.proofs.Common.{◌≡◌, ℕ, List, [], ◌∷◌, ◌++◌, Option, Some, None, refl, ap, sym, ◌∙◌, subst, append_assoc, ◌⊎◌, inl, inr, option_map}
-use Rattle.kt_script.proofs.Common.{append-nil, Token, Kind, Name, Semicolon, Place, Start, Whole, Within, Stmt, Action, State, Named, Step, To, Ends, Statement, kinds, placed, Script, no_stmts, stmt_and, ended_and, Begins, step, begin, go_on, next, landed, listed, run}
+use Rattle.kt_script.proofs.Common.{append-nil, Token, Kind, Name, Semicolon, Place, Start, Whole, Within, Stmt, Action, State, Named, Step, To, Ends, Statement, kinds, placed, Script, no_stmts, stmt_and, ended_and, Begins, step, begin, go_on, next, landed, option_to_list, run}
 use Rattle.kt_script.proofs.Complete.{walk, bind_some, map_some, joined}
 use Rattle.kt_script.proofs.Ending.{walk-append, statement_is, some_end}
 use Rattle.std.proofs.lemmas.List.{map-append}
@@ -95,18 +95,18 @@ goes_on q to done ts t b e =
     )
 
 lands : (to : Step) (line : ℕ) (q : State) (done : List Stmt) (ts : List Token) (t : Token) → Stands (Within line q) done ts → step q t.kind ≡ Some to
-    → Stands (landed line to).0 (done ++ listed (landed line to).1) (ts ++ t ∷ [])
+    → Stands (landed line to).0 (done ++ option_to_list (landed line to).1) (ts ++ t ∷ [])
 lands (To r) line q done ts t b e = let c = goes_on q (To r) done ts t b.0 e in rw append-nil (c.0, c.1 ∙ b.1)
 lands (Ends a) line q done ts t b e =
     let c = goes_on q (Ends a) done ts t b.0 e in
     record { action = a; earlier = done; begun = c.0; stmts = ap (λ (n : ℕ). done ++ record { line = n; action = a } ∷ []) (sym (c.1 ∙ b.1)) }
 
 at_place : (to : Place × Option Stmt) (done : List Stmt) (ts : List Token) (made : Place × Option Stmt) → to ≡ made
-    → Stands made.0 (done ++ listed made.1) ts → Stands to.0 (done ++ listed to.1) ts
-at_place to done ts made e h = subst (λ (x : Place × Option Stmt). Stands x.0 (done ++ listed x.1) ts) (sym e) h
+    → Stands made.0 (done ++ option_to_list made.1) ts → Stands to.0 (done ++ option_to_list to.1) ts
+at_place to done ts made e h = subst (λ (x : Place × Option Stmt). Stands x.0 (done ++ option_to_list x.1) ts) (sym e) h
 
 stands_next : (p : Place) (done : List Stmt) (ts : List Token) (t : Token) (to : Place × Option Stmt) → Stands p done ts → next p t ≡ Some to
-    → Stands to.0 (done ++ listed to.1) (ts ++ t ∷ [])
+    → Stands to.0 (done ++ option_to_list to.1) (ts ++ t ∷ [])
 stands_next Start done ts t to h e =
     let b = begin_is t.line t.kind to e in
     at_place to done (ts ++ t ∷ []) (Within t.line (Named b.0), None) b.2 (enters done ts t b.0 h b.1)
@@ -125,11 +125,11 @@ stands_run [] p q done ss front h e =
     let here : Stands p (done ++ []) (front ++ []) = rw (append-nil, append-nil) h in
     subst (λ (x : Place × List Stmt). Stands x.0 (done ++ x.1) (front ++ [])) same here
 stands_run (t ∷ ts) p q done ss front h e =
-    let b = bind_some (next p t) (λ to. option_map (joined (listed to.1)) (run to.0 ts)) (q, ss) e in
-    let m = map_some (run b.0.0 ts) (joined (listed b.0.1)) (q, ss) b.2 in
+    let b = bind_some (next p t) (λ to. option_map (joined (option_to_list to.1)) (run to.0 ts)) (q, ss) e in
+    let m = map_some (run b.0.0 ts) (joined (option_to_list b.0.1)) (q, ss) b.2 in
     let here = stands_next p done front t b.0 h b.1 in
-    let later : Stands m.0.0 ((done ++ listed b.0.1) ++ m.0.1) ((front ++ t ∷ []) ++ ts) = stands_run ts b.0.0 m.0.0 (done ++ listed b.0.1) m.0.1 (front ++ t ∷ []) here m.1 in
-    let regrouped : Stands m.0.0 (done ++ (listed b.0.1 ++ m.0.1)) (front ++ t ∷ ts) = rw (append_assoc, append_assoc) at later in
+    let later : Stands m.0.0 ((done ++ option_to_list b.0.1) ++ m.0.1) ((front ++ t ∷ []) ++ ts) = stands_run ts b.0.0 m.0.0 (done ++ option_to_list b.0.1) m.0.1 (front ++ t ∷ []) here m.1 in
+    let regrouped : Stands m.0.0 (done ++ (option_to_list b.0.1 ++ m.0.1)) (front ++ t ∷ ts) = rw (append_assoc, append_assoc) at later in
     subst (λ (x : Place × List Stmt). Stands x.0 (done ++ x.1) (front ++ t ∷ ts)) m.2 regrouped
 
 pub from_start : (ts : List Token) (q : Place) (ss : List Stmt) → run Start ts ≡ Some (q, ss) → Stands q ss ts

@@ -6,7 +6,7 @@ pub use Rattle.kt_base.specs.Digits.{decimal_from, fits}
 pub use Rattle.kt_script.specs.Faults.{IfFault, IsFaultOf}
 pub use Rattle.kt_script.specs.Grammar.{Script}
 pub use Rattle.kt_script.specs.Inner.Comments.{closes_at, comment_at}
-pub use Rattle.kt_script.specs.Inner.Places.{IsWithin}
+pub use Rattle.kt_script.specs.Inner.Automaton.{IsWithin}
 pub use Rattle.kt_script.specs.Inner.Reading.{HasRead, IsMisfit}
 pub use Rattle.kt_script.specs.Inner.Strings.{decoded, escape_at, quoted_at, stop_at, string_at}
 pub use Rattle.kt_script.specs.Inner.Tokens.{marked, piece_at, tokens, tokens_in}

@@ -1,7 +1,6 @@
 -- The words of a fault, as its line has them.
 use Rattle.std.specs.Prelude.{ℕ, List, codes}
-use Rattle.kt_script.specs.declared.fault.ScriptFault.{ScriptFault}
-use Rattle.kt_script.specs.declared.fault.ScriptFault.TheVariants.{NoMemory, NotUtf8, BadToken, NotLiteral, Unclosed, TooLong}
+use Rattle.kt_script.specs.Types.{BadToken, NoMemory, NotLiteral, NotUtf8, ScriptFault, TooLong, Unclosed}
 
 -- the words of a script's fault, which don't say its line
 abbrev pub script_words : ScriptFault → List ℕ

@@ -1,13 +1,6 @@
 -- The faults of tokens that are not a script.
 use Rattle.std.specs.Prelude.{◌≡◌, ℕ, ◌-◌, length, take, slice_get, List, [], ◌∷◌, ◌++◌, Option, Some, None, Result, Ok, Err, ◌⊎◌}
-use Rattle.kt_script.specs.declared.fault.ScriptFault.{ScriptFault}
-use Rattle.kt_script.specs.declared.fault.ScriptFault.TheVariants.{NoMemory, BadToken, NotLiteral, Unclosed}
-use Rattle.kt_script.specs.declared.token.Flaw.TheVariants.{Bad, Endless}
-use Rattle.kt_script.specs.declared.token.Token.{Token}
-use Rattle.kt_script.specs.declared.token.Kind.{Kind}
-use Rattle.kt_script.specs.declared.token.Kind.TheVariants.{OpenParen, CloseParen, OpenBrace, CloseBrace, OpenBracket, CloseBracket, Broken}
-use Rattle.kt_script.specs.declared.syntax.Stmt.{Stmt}
-use Rattle.kt_script.specs.declared.syntax.Action.{Action}
+use Rattle.kt_script.specs.Types.{Action, Bad, BadToken, Broken, CloseBrace, CloseBracket, CloseParen, Endless, Kind, NoMemory, NotLiteral, OpenBrace, OpenBracket, OpenParen, ScriptFault, Stmt, Token, Unclosed}
 use Rattle.kt_script.specs.Grammar.{Statement, Script, kinds, first_line}
 
 -- a refusal for another reason than memory

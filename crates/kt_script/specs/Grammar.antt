@@ -1,15 +1,8 @@
 -- The grammar, by cases.
 use Rattle.std.specs.Prelude.{◌≡◌, ℕ, List, [], ◌∷◌, ◌++◌, map}
-use Rattle.kt_script.specs.declared.token.Token.{Token}
-use Rattle.kt_script.specs.declared.token.Kind.{Kind}
-use Rattle.kt_script.specs.declared.token.Kind.TheVariants.{Name, Quoted, Number, Truth, OpenParen, CloseParen, OpenBrace, CloseBrace, OpenBracket, CloseBracket, Equals, Comma, Semicolon, Dot}
-use Rattle.kt_script.specs.declared.syntax.Pair.{Pair}
-use Rattle.kt_script.specs.declared.syntax.Stmt.{Stmt}
-use Rattle.kt_script.specs.declared.syntax.Literal.{Literal}
+use Rattle.kt_script.specs.Types.{Action, Assign, Call, CloseBrace, CloseBracket, CloseParen, Comma, Dot, Equals, Kind, Literal, Name, Number, OpenBrace, OpenBracket, OpenParen, Pair, Quoted, Semicolon, Stmt, Token, Truth}
 use Rattle.kt_script.specs.declared.syntax.Literal.TheVariants as literal
 use Rattle.kt_script.specs.declared.syntax.Arg.TheVariants.{Value, Table}
-use Rattle.kt_script.specs.declared.syntax.Action.{Action}
-use Rattle.kt_script.specs.declared.syntax.Action.TheVariants.{Call, Assign}
 
 -- value = string | number | "true" | "false": a value is one token
 abbrev pub token_of : Literal → Kind

@@ -5,5 +5,4 @@ pub mod Strings
 pub mod Comments
 pub mod Tokens
 pub mod Automaton
-pub mod Places
 pub mod Reading

@@ -7,3 +7,4 @@ pub mod TokenRules
 pub mod Spelling
 pub mod LiteralText
 pub mod Inner
+pub mod Types

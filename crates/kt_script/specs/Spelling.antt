@@ -1,9 +1,6 @@
 -- The statements that a text spells, and the fault of a text that spells none.
 use Rattle.std.specs.Prelude.{◌≡◌, ℕ, ◌<◌, ◌≤◌, List, length, Result, Ok, Err, IsUtf8, ◌⊎◌}
-use Rattle.kt_script.specs.declared.fault.ScriptFault.{ScriptFault}
-use Rattle.kt_script.specs.declared.fault.ScriptFault.TheVariants.{NoMemory, NotUtf8, TooLong}
-use Rattle.kt_script.specs.declared.syntax.Stmt.{Stmt}
-use Rattle.kt_script.specs.declared.token.Token.{Token}
+use Rattle.kt_script.specs.Types.{NoMemory, NotUtf8, ScriptFault, Stmt, Token, TooLong}
 use Rattle.kt_script.specs.Grammar.{Script}
 use Rattle.kt_script.specs.TokenRules.{IsTokens}
 use Rattle.kt_script.specs.Faults.{IsFaultOf}

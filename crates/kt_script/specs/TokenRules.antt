@@ -1,13 +1,9 @@
 -- The tokens of a text, by rules: white space, comments and tokens one after the other, to its end.
 use Rattle.std.specs.Prelude.{◌≡◌, ℕ, ◌+◌, ◌<◌, ◌≤◌, ◌^◌, ◌==◌, ◌||◌, ◌&&◌, Bool, true, false, not, nat_eq, bytes_eq, codes, List, [], ◌∷◌, ◌++◌, drop, Option, Some, None, chars, if◌then◌else◌}
 use Rattle.std.specs.List.{starts_with, prefix_len}
+use Rattle.kt_script.specs.Types.{Bad, Broken, CloseBrace, CloseBracket, CloseParen, Comma, Dot, Endless, Equals, Flaw, Kind, Leveled, Name, Number, OpenBrace, OpenBracket, OpenParen, Quoted, Semicolon, Token, Truth}
 use Rattle.kt_base.specs.Characters.{is_space}
 use Rattle.kt_base.specs.Digits.{is_digit, decimal_from}
-use Rattle.kt_script.specs.declared.token.Flaw.{Flaw}
-use Rattle.kt_script.specs.declared.token.Flaw.TheVariants.{Bad, Leveled, Endless}
-use Rattle.kt_script.specs.declared.token.Kind.{Kind}
-use Rattle.kt_script.specs.declared.token.Kind.TheVariants.{Name, Quoted, Number, Truth, OpenParen, CloseParen, OpenBrace, CloseBrace, OpenBracket, CloseBracket, Equals, Comma, Semicolon, Dot, Broken}
-use Rattle.kt_script.specs.declared.token.Token.{Token}
 use Rattle.kt_script.specs.Letters.{is_letter, is_word, is_plain, escape_of}
 
 -- `( ) { } [ ] = , ; .`

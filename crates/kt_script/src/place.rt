@@ -1,7 +1,7 @@
 //! The place in a script that the tokens read so far led to.
 
 ghost use Rattle.std.specs.Prelude.{◌≡◌, ◌++◌, IfOk, OnOk, MatchOption};
-ghost use Rattle.kt_script.specs.Inner.Automaton.{begin, go_on, next, place_of, ended_by, IsResting};
+ghost use Rattle.kt_script.specs.Inner.Automaton.{begin, go_on, next, place_of, ended_by, IsResting, IsWithin};
 
 use crate::Stmt;
 use crate::state::{State, Step};
@@ -49,8 +49,6 @@ fn go_on(line: u32, kind: Kind) -> Option<Place>
 }
 
 impl Place {
-    ghost use Rattle.kt_script.specs.Inner.Places.{IsWithin};
-
     /// The line of the statement that is not finished, if there is one.
     pub fn line(&self) -> Option<u32>
         ensures { MatchOption result (IsResting self.now) (λ line. IsWithin self.now line) }

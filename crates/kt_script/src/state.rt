@@ -1,7 +1,7 @@
 //! How far a statement was read, and where each token leads.
 
 ghost use Rattle.std.specs.Prelude.{◌≡◌, [], ◌∷◌, ◌++◌, IfOk};
-ghost use Rattle.kt_script.specs.Inner.Automaton.{value_of, after_name, after_paren, after_arg, closed, after_comma, after_key_opened, after_key_quoted, after_key, after_key_equals, after_pair, after_dot, after_path_opened, after_path_quoted, after_path, after_path_equals, step};
+ghost use Rattle.kt_script.specs.Inner.Automaton.{closed, step, value_of};
 
 use crate::token::Kind;
 use crate::{Action, Arg, Literal, Pair};
@@ -102,7 +102,7 @@ fn single(alloc: Global, name: Text) -> Result<Items<Text>, NoMemory>
 }
 
 fn after_name(alloc: Global, name: Text, kind: Kind) -> Result<Option<Step>, NoMemory>
-    ensures { IfOk result (λ to. to ≡ after_name name kind) }
+    ensures { IfOk result (λ to. to ≡ step (State.Named name) kind) }
 {
     let to = match kind {
         Kind::Quoted(text) => Step::Ends(Action::Call(name, Arg::Value(Literal::Text(text)))),
@@ -117,7 +117,7 @@ fn after_name(alloc: Global, name: Text, kind: Kind) -> Result<Option<Step>, NoM
 }
 
 fn after_paren(alloc: Global, name: Text, kind: Kind) -> Option<Step>
-    ensures { result ≡ after_paren name kind }
+    ensures { result ≡ step (State.Opened name) kind }
 {
     match kind {
         Kind::OpenBrace => Some(Step::To(State::Pairs(Table::new(alloc, name, true)))),
@@ -138,7 +138,7 @@ fn after_paren(alloc: Global, name: Text, kind: Kind) -> Option<Step>
 }
 
 fn after_arg(call: Action, kind: Kind) -> Option<Step>
-    ensures { result ≡ after_arg call kind }
+    ensures { result ≡ step (State.Closing call) kind }
 {
     match kind {
         Kind::CloseParen => Some(Step::Ends(call)),
@@ -171,7 +171,7 @@ impl Table {
 }
 
 fn after_comma(table: Table, kind: Kind) -> Option<Step>
-    ensures { result ≡ after_comma table kind }
+    ensures { result ≡ step (State.Pairs table) kind }
 {
     match kind {
         Kind::Name(name) => Some(Step::To(State::Keyed(table, name))),
@@ -182,7 +182,7 @@ fn after_comma(table: Table, kind: Kind) -> Option<Step>
 }
 
 fn after_key_opened(table: Table, kind: Kind) -> Option<Step>
-    ensures { result ≡ after_key_opened table kind }
+    ensures { result ≡ step (State.KeyOpened table) kind }
 {
     match kind {
         Kind::Quoted(text) => Some(Step::To(State::KeyQuoted(table, text))),
@@ -191,7 +191,7 @@ fn after_key_opened(table: Table, kind: Kind) -> Option<Step>
 }
 
 fn after_key_quoted(table: Table, key: Text, kind: Kind) -> Option<Step>
-    ensures { result ≡ after_key_quoted table key kind }
+    ensures { result ≡ step (State.KeyQuoted table key) kind }
 {
     match kind {
         Kind::CloseBracket => Some(Step::To(State::Keyed(table, key))),
@@ -200,7 +200,7 @@ fn after_key_quoted(table: Table, key: Text, kind: Kind) -> Option<Step>
 }
 
 fn after_key(table: Table, key: Text, kind: Kind) -> Option<Step>
-    ensures { result ≡ after_key table key kind }
+    ensures { result ≡ step (State.Keyed table key) kind }
 {
     match kind {
         Kind::Equals => Some(Step::To(State::KeyEquals(table, key))),
@@ -209,7 +209,7 @@ fn after_key(table: Table, key: Text, kind: Kind) -> Option<Step>
 }
 
 fn after_key_equals(table: Table, key: Text, kind: Kind) -> Result<Option<Step>, NoMemory>
-    ensures { IfOk result (λ to. to ≡ after_key_equals table key kind) }
+    ensures { IfOk result (λ to. to ≡ step (State.KeyEquals table key) kind) }
 {
     let Some(value) = value(kind) else {
         return Ok(None);
@@ -220,7 +220,7 @@ fn after_key_equals(table: Table, key: Text, kind: Kind) -> Result<Option<Step>,
 }
 
 fn after_pair(table: Table, kind: Kind) -> Option<Step>
-    ensures { result ≡ after_pair table kind }
+    ensures { result ≡ step (State.Paired table) kind }
 {
     match kind {
         Kind::Comma | Kind::Semicolon => Some(Step::To(State::Pairs(table))),
@@ -230,7 +230,7 @@ fn after_pair(table: Table, kind: Kind) -> Option<Step>
 }
 
 fn after_dot(mut path: Items<Text>, kind: Kind) -> Result<Option<Step>, NoMemory>
-    ensures { IfOk result (λ to. to ≡ after_dot path kind) }
+    ensures { IfOk result (λ to. to ≡ step (State.Dotted path) kind) }
 {
     match kind {
         Kind::Name(name) => {
@@ -242,7 +242,7 @@ fn after_dot(mut path: Items<Text>, kind: Kind) -> Result<Option<Step>, NoMemory
 }
 
 fn after_path_opened(mut path: Items<Text>, kind: Kind) -> Result<Option<Step>, NoMemory>
-    ensures { IfOk result (λ to. to ≡ after_path_opened path kind) }
+    ensures { IfOk result (λ to. to ≡ step (State.PathOpened path) kind) }
 {
     match kind {
         Kind::Quoted(text) => {
@@ -254,7 +254,7 @@ fn after_path_opened(mut path: Items<Text>, kind: Kind) -> Result<Option<Step>, 
 }
 
 fn after_path_quoted(path: Items<Text>, kind: Kind) -> Option<Step>
-    ensures { result ≡ after_path_quoted path kind }
+    ensures { result ≡ step (State.PathQuoted path) kind }
 {
     match kind {
         Kind::CloseBracket => Some(Step::To(State::Path(path))),
@@ -263,7 +263,7 @@ fn after_path_quoted(path: Items<Text>, kind: Kind) -> Option<Step>
 }
 
 fn after_path(path: Items<Text>, kind: Kind) -> Option<Step>
-    ensures { result ≡ after_path path kind }
+    ensures { result ≡ step (State.Path path) kind }
 {
     match kind {
         Kind::Dot => Some(Step::To(State::Dotted(path))),
@@ -274,7 +274,7 @@ fn after_path(path: Items<Text>, kind: Kind) -> Option<Step>
 }
 
 fn after_path_equals(path: Items<Text>, kind: Kind) -> Option<Step>
-    ensures { result ≡ after_path_equals path kind }
+    ensures { result ≡ step (State.PathEquals path) kind }
 {
     value(kind).map(|value| Step::Ends(Action::Assign(path, value)))
 }

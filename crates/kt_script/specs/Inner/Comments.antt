@@ -1,8 +1,7 @@
 -- Comments.
 use Rattle.std.specs.Prelude.{ℕ, suc, ◌+◌, ◌&&◌, not, nat_eq, codes, List, [], ◌∷◌, drop, Option, Some, None, option_map, if◌then◌else◌}
 use Rattle.std.specs.List.{starts_with, prefix_len}
-use Rattle.kt_script.specs.declared.token.Flaw.TheVariants.{Bad, Leveled, Endless}
-use Rattle.kt_script.specs.declared.token.Piece.{Piece}
+use Rattle.kt_script.specs.Types.{Bad, Endless, Leveled, Piece}
 use Rattle.kt_base.specs.Lines.{is_newline}
 use Rattle.kt_script.specs.TokenRules.{is_level}
 use Rattle.kt_script.specs.Inner.Pieces.{blank, broken}

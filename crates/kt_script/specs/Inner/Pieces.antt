@@ -1,9 +1,6 @@
 -- White space, comments and tokens, as pieces of a text's bytes.
 use Rattle.std.specs.Prelude.{ℕ, List, length, Some, None}
-use Rattle.kt_script.specs.declared.token.Flaw.{Flaw}
-use Rattle.kt_script.specs.declared.token.Kind.{Kind}
-use Rattle.kt_script.specs.declared.token.Kind.TheVariants.{Broken}
-use Rattle.kt_script.specs.declared.token.Piece.{Piece}
+use Rattle.kt_script.specs.Types.{Broken, Flaw, Kind, Piece}
 
 -- n bytes that are not a token
 abbrev pub blank : ℕ → Piece

@@ -1,10 +1,6 @@
 -- What a parser has read.
 use Rattle.std.specs.Prelude.{◌≡◌, ℕ, List, [], Option, Some, None}
-use Rattle.kt_script.specs.declared.fault.ScriptFault.{ScriptFault}
-use Rattle.kt_script.specs.declared.token.Token.{Token}
-use Rattle.kt_script.specs.declared.token.Kind.{Kind}
-use Rattle.kt_script.specs.declared.place.Place.{Place}
-use Rattle.kt_script.specs.declared.place.Place.TheVariants.{Start}
+use Rattle.kt_script.specs.Types.{Kind, Place, ScriptFault, Start, Token}
 use Rattle.kt_script.specs.declared.parser.Parser.{Parser}
 use Rattle.kt_script.specs.Inner.Automaton.{run, next}
 use Rattle.kt_script.specs.Faults.{open_lines, own_fault}

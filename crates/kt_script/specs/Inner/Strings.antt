@@ -1,9 +1,6 @@
 -- Strings.
 use Rattle.std.specs.Prelude.{ℕ, ◌+◌, ◌==◌, Bool, true, false, List, [], ◌∷◌, ◌++◌, drop, Option, Some, None, Result, Ok, Err, chars, if◌then◌else◌}
-use Rattle.kt_script.specs.declared.token.Flaw.{Flaw}
-use Rattle.kt_script.specs.declared.token.Flaw.TheVariants.{Bad, Endless}
-use Rattle.kt_script.specs.declared.token.Kind.TheVariants.{Quoted}
-use Rattle.kt_script.specs.declared.token.Piece.{Piece}
+use Rattle.kt_script.specs.Types.{Bad, Endless, Flaw, Piece, Quoted}
 use Rattle.kt_script.specs.declared.token.Stop.{Stop}
 use Rattle.kt_script.specs.declared.token.Stop.TheVariants as stop
 use Rattle.kt_script.specs.Letters.{escape_of}

@@ -1,10 +1,7 @@
 -- The tokens of a text, with their lines.
 use Rattle.std.specs.Prelude.{ℕ, zero, suc, ◌-◌, ◌==◌, ◌||◌, List, [], ◌∷◌, ◌++◌, Option, Some, None, if◌then◌else◌}
 use Rattle.std.specs.List.{prefix_len}
-use Rattle.kt_script.specs.declared.token.Flaw.TheVariants.{Bad}
-use Rattle.kt_script.specs.declared.token.Kind.{Kind}
-use Rattle.kt_script.specs.declared.token.Token.{Token}
-use Rattle.kt_script.specs.declared.token.Piece.{Piece}
+use Rattle.kt_script.specs.Types.{Bad, Kind, Piece, Token}
 use Rattle.kt_base.specs.Characters.{is_space}
 use Rattle.kt_script.specs.Letters.{is_letter}
 use Rattle.kt_script.specs.TokenRules.{mark_of, line_after}
@@ -40,7 +37,3 @@ unfoldable pub tokens : ℕ → ℕ → List ℕ → List Token
 tokens line n [] = []
 tokens line zero (c ∷ cs) = let piece = piece_at (c ∷ cs) in tokens_in line piece.kind ++ tokens (line_after line c) (piece.length - 1) cs
 tokens line (suc n) (c ∷ cs) = tokens (line_after line c) n cs
-
--- the tokens of a text, from line 1 on
-abbrev pub tokens_of : List ℕ → List Token
-tokens_of text = tokens 1 0 text

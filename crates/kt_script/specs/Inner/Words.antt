@@ -1,9 +1,7 @@
 -- Names and numbers.
-use Rattle.std.specs.Prelude.{ℕ, Bool, true, false, List, [], ◌∷◌, take, drop, Option, Some, None}
+use Rattle.std.specs.Prelude.{ℕ, Bool, false, List, [], ◌∷◌, take, drop, Option, Some}
 use Rattle.std.specs.List.{prefix_len}
-use Rattle.kt_script.specs.declared.token.Flaw.TheVariants.{Bad}
-use Rattle.kt_script.specs.declared.token.Kind.TheVariants.{Number}
-use Rattle.kt_script.specs.declared.token.Piece.{Piece}
+use Rattle.kt_script.specs.Types.{Bad, Number, Piece}
 use Rattle.kt_script.specs.Letters.{is_letter, is_word}
 use Rattle.kt_base.specs.Digits.{is_digit, decimal_from, fits}
 use Rattle.kt_script.specs.TokenRules.{word}
@@ -20,9 +18,8 @@ begins_with_letter (c ∷ cs) = is_letter c
 
 -- a number of n digits, unless a letter follows directly or it is too large
 abbrev pub number : List ℕ → ℕ → Bool → Option ℕ → Piece
-number text n true v = broken text Bad
-number text n false None = broken text Bad
 number text n false (Some v) = token n (Number v)
+number text n lettered v = broken text Bad
 
 -- the longest number that the text begins with
 abbrev pub number_at : List ℕ → Piece
