@@ -48,41 +48,41 @@ by_stop (Some p) = go (find (λ s. answers_to p.0 (label_of s)) (built kyua_app)
 
 -- ---- what is read of it
 
-report_no_usage : (before own : List Row) (kinds : Option (List Kind)) (run' : Option (Option ℕ)) (told : List ℕ)
-    → report_with before own kinds run' ≡ Err (fault.Usage told) → ⊥
-report_no_usage before own None run' told e = cc
-report_no_usage before own (Some kinds) None told e = cc
-report_no_usage before own (Some kinds) (Some run') told e = cc
+report_no_usage : (before own : List Row) (kinds : Option (List Kind)) (run' : Option (Option ℕ)) (message : List ℕ)
+    → report_with before own kinds run' ≡ Err (fault.Usage message) → ⊥
+report_no_usage before own None run' message e = cc
+report_no_usage before own (Some kinds) None message e = cc
+report_no_usage before own (Some kinds) (Some run') message e = cc
 
-junit_no_usage : (before own : List Row) (run' : Option (Option ℕ)) (told : List ℕ) → junit_with before own run' ≡ Err (fault.Usage told) → ⊥
-junit_no_usage before own None told e = cc
-junit_no_usage before own (Some run') told e = cc
+junit_no_usage : (before own : List Row) (run' : Option (Option ℕ)) (message : List ℕ) → junit_with before own run' ≡ Err (fault.Usage message) → ⊥
+junit_no_usage before own None message e = cc
+junit_no_usage before own (Some run') message e = cc
 
 -- by the tests of the name
-named_no_usage : (a b c d e : Bool) (list test debug : Command) (report junit : Result Command CommandFault) (other : CommandFault) (told : List ℕ)
-    → (report ≡ Err (fault.Usage told) → ⊥) → (junit ≡ Err (fault.Usage told) → ⊥) → (a || (b || (c || (d || e)))) ≡ true
-    → cond a (Ok list) (cond b (Ok test) (cond c (Ok debug) (cond d report (cond e junit (Err other))))) ≡ Err (fault.Usage told) → ⊥
-named_no_usage true b c d e list test debug report junit other told not_report not_junit one is = cc
-named_no_usage false true c d e list test debug report junit other told not_report not_junit one is = cc
-named_no_usage false false true d e list test debug report junit other told not_report not_junit one is = cc
-named_no_usage false false false true e list test debug report junit other told not_report not_junit one is = not_report is
-named_no_usage false false false false true list test debug report junit other told not_report not_junit one is = not_junit is
-named_no_usage false false false false false list test debug report junit other told not_report not_junit one is = cc
+named_no_usage : (a b c d e : Bool) (list test debug : Command) (report junit : Result Command CommandFault) (other : CommandFault) (message : List ℕ)
+    → (report ≡ Err (fault.Usage message) → ⊥) → (junit ≡ Err (fault.Usage message) → ⊥) → (a || (b || (c || (d || e)))) ≡ true
+    → cond a (Ok list) (cond b (Ok test) (cond c (Ok debug) (cond d report (cond e junit (Err other))))) ≡ Err (fault.Usage message) → ⊥
+named_no_usage true b c d e list test debug report junit other message not_report not_junit one is = cc
+named_no_usage false true c d e list test debug report junit other message not_report not_junit one is = cc
+named_no_usage false false true d e list test debug report junit other message not_report not_junit one is = cc
+named_no_usage false false false true e list test debug report junit other message not_report not_junit one is = not_report is
+named_no_usage false false false false true list test debug report junit other message not_report not_junit one is = not_junit is
+named_no_usage false false false false false list test debug report junit other message not_report not_junit one is = cc
 
-in_no_usage : (before : List Row) (o : Option (Text × List Row)) (told : List ℕ) → is_some o ≡ true → option_map_or (λ (p : Text × List Row). is_command p.0) o true ≡ true
-    → command_in before o ≡ Err (fault.Usage told) → ⊥
-in_no_usage before None told some one is = cc
-in_no_usage before (Some p) told some one is =
+in_no_usage : (before : List Row) (o : Option (Text × List Row)) (message : List ℕ) → is_some o ≡ true → option_map_or (λ (p : Text × List Row). is_command p.0) o true ≡ true
+    → command_in before o ≡ Err (fault.Usage message) → ⊥
+in_no_usage before None message some one is = cc
+in_no_usage before (Some p) message some one is =
     named_no_usage (bytes_eq p.0 (codes "list")) (bytes_eq p.0 (codes "test")) (bytes_eq p.0 (codes "debug")) (bytes_eq p.0 (codes "report")) (bytes_eq p.0 (codes "report-junit"))
     (command.List (options_in before p.1)) (command.Test (options_in before p.1) (results_in p.1)) (command.Debug (options_in before p.1))
-    (report_in before p.1) (junit_in before p.1) (fault.Usage []) told
-    (report_no_usage before p.1 (kinds_of (first_of (codes "kinds") p.1)) (run_of (first_of (codes "run") p.1)) told)
-    (junit_no_usage before p.1 (run_of (first_of (codes "run") p.1)) told) one is
+    (report_in before p.1) (junit_in before p.1) (fault.Usage []) message
+    (report_no_usage before p.1 (kinds_of (first_of (codes "kinds") p.1)) (run_of (first_of (codes "run") p.1)) message)
+    (junit_no_usage before p.1 (run_of (first_of (codes "run") p.1)) message) one is
 
 -- where a command is entered, it is one of the five
-pub no_usage : (before : List Row) (words : List Text) (told : List ℕ) → is_some (subcommand_of kyua_app words) ≡ true
-    → command_in before (subcommand_of kyua_app words) ≡ Err (fault.Usage told) → ⊥
-no_usage before words told some is = in_no_usage before (subcommand_of kyua_app words) told some (by_stop (stop_after (built kyua_app).top.rules (names_of (built kyua_app)) (argument_words kyua_app words))) is
+pub no_usage : (before : List Row) (words : List Text) (message : List ℕ) → is_some (subcommand_of kyua_app words) ≡ true
+    → command_in before (subcommand_of kyua_app words) ≡ Err (fault.Usage message) → ⊥
+no_usage before words message some is = in_no_usage before (subcommand_of kyua_app words) message some (by_stop (stop_after (built kyua_app).top.rules (names_of (built kyua_app)) (argument_words kyua_app words))) is
 
 -- ---- the words
 
@@ -102,15 +102,15 @@ reads_found words before o (Ok c) e d some none a = (none, sym a ∙ ap₂ comma
 reads_found words before o (Err fault.BadKind) e d some none a = (none, sym a ∙ ap₂ command_in e d)
 reads_found words before o (Err fault.BadRun) e d some none a = (none, sym a ∙ ap₂ command_in e d)
 reads_found words before o (Err (fault.NoMemory shortage)) e d some none a = tt
-reads_found words before o (Err (fault.Usage told)) e d some none a =
-    absurd (no_usage before words told (ap is_some (sym d) ∙ some) (ap (command_in before) (sym d) ∙ a))
+reads_found words before o (Err (fault.Usage message)) e d some none a =
+    absurd (no_usage before words message (ap is_some (sym d) ∙ some) (ap (command_in before) (sym d) ∙ a))
 
 -- an error of another kind
 pub refused_for : (short : Type 0) (f : CommandFault) → RefusesWords short f → RefusesWords ⊥ f
 refused_for short fault.BadKind r = r
 refused_for short fault.BadRun r = r
 refused_for short (fault.NoMemory shortage) r = tt
-refused_for short (fault.Usage told) r = λ none. none
+refused_for short (fault.Usage message) r = λ none. none
 
 -- a line that is taken enters a command
 pub enters : (line : Line) (m : ArgMatches) → app_of line ≡ kyua_app → (out-Command line).has_globals ≡ false → IsParsedFrom line m

@@ -1,6 +1,6 @@
 -- The names that most proofs of this crate cite, passed on from one place. Declares nothing.
 pub use Rattle.std.proofs.lemmas.Iterator.{YieldsList-from_slice, items_from_collect}
-pub use Rattle.std.specs.List.{list_all, prefix_len}
+pub use Rattle.std.specs.List.{list_all, onto_first, prefix_len}
 unfoldable pub use Rattle.std.specs.Str.{chars}
 pub use Rattle.clap.proofs.WalkLemmas.{first_value-rows, raw_values-rows}
 pub use Rattle.clap.specs.Simple.{app_of_fields, argument_words, entered, label_of, names_of, on_top, rows_at}
@@ -9,6 +9,5 @@ pub use Rattle.clap.specs.declared.builder.command.Command.TheViews.{out-Command
 pub use Rattle.clap.specs.declared.parser.matches.ArgMatches.TheViews.{out-ArgMatches, out-SubCommand}
 pub use Rattle.kt_base.specs.declared.verdict.Kind.{Kind}
 pub use Rattle.kt_words.specs.Grammar.{bare_app, kyua_app}
-pub use Rattle.kt_words.specs.Inner.Words.{is_inside}
 pub use Rattle.kt_words.specs.Reading.{Reads, RefusesWords, command_in, junit_in, junit_with, kinds_of, options_in, report_in, report_with, results_in, run_of, texts_given}
-pub use Rattle.kt_words.specs.Words.{comma_words, kind_named, kinds_named, longer, with_kind}
+pub use Rattle.kt_words.specs.Words.{comma_words, is_inside, kind_named, kinds_named, with_kind}

@@ -1,3 +1,2 @@
 -- What private functions do: no public clause cites it.
 pub mod Reading
-pub mod Words

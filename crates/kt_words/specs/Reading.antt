@@ -101,12 +101,12 @@ command_in before (Some entered) = command_named before entered.0 entered.1
 -- what words are read as: refused if `clap` refuses them, else the command of the values that it finds
 abbrev pub Reads : List Text → Result Command CommandFault → Type 0
 Reads words (Err (fault.NoMemory shortage)) = ⊤
-Reads words (Err (fault.Usage told)) = fault_of kyua_app words ≢ []
+Reads words (Err (fault.Usage message)) = fault_of kyua_app words ≢ []
 Reads words result =
     (fault_of kyua_app words ≡ []) × (result ≡ command_in (matches_of kyua_app words) (subcommand_of kyua_app words))
 
 -- words are refused as no command line, unless memory is said to have run out
 abbrev pub RefusesWords : Type 0 → CommandFault → Type 0
 RefusesWords short (fault.NoMemory shortage) = ⊤
-RefusesWords short (fault.Usage told) = short → ⊥
+RefusesWords short (fault.Usage message) = short → ⊥
 RefusesWords short other = ⊥

@@ -1,5 +1,5 @@
 ghost use Rattle.std.specs.Prelude.{◌≡◌, ◌≤◌, drop, map, chars, codes, option_map, IfOk, IfErr, IfSome, IsErrAnd};
-ghost use Rattle.kt_words.specs.Common.{string_bytes, into_iter_items, all_of, first_of, found_of, rows_of, subcommand_rows_of, error_kind, OutOfMemory, last_run, HasRunNumber, Reads, RefusesWords, command_in, command_named, is_true, junit_in, kinds_of, options_in, report_in, report_options, results_in, run_of, text_given, text_or, texts_given, Answers, ReadsRun, ReadsShown};
+ghost use Rattle.kt_words.specs.Common.{string_bytes, into_iter_items, all_of, first_of, found_of, rows_of, subcommand_rows_of, error_kind, OutOfMemory, last_run, HasRunNumber, Reads, RefusesWords, command_in, command_named, is_true, junit_in, kinds_of, options_in, report_in, report_options, results_in, run_of, text_given, text_or, texts_given, Answers, ReadsRun, ReadsKinds};
 
 use crate::arguments::{KYUAFILE, RESULTS, WORK, all_words};
 use crate::filter::{default_kinds, kinds_in};
@@ -102,7 +102,7 @@ fn run_of<'a>(matches: &ArgMatches<'a>) -> Result<Option<u64>, CommandFault>
 
 /// The kinds to show: those that the option names, else all but passed.
 fn kinds_of<'a>(alloc: Global, matches: &ArgMatches<'a>) -> Result<Items<Kind>, CommandFault>
-    ensures { ReadsShown (kinds_of (first_of (codes "kinds") (rows_of (found_of matches.now)))) result }
+    ensures { ReadsKinds (kinds_of (first_of (codes "kinds") (rows_of (found_of matches.now)))) result }
 {
     match word_of(matches, "kinds") {
         Some(words) => {

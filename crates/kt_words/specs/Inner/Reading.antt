@@ -11,16 +11,13 @@ ReadsRun right (Err fault.BadRun) = right ≡ None
 ReadsRun right other = ⊥
 
 -- kinds, or that they are none, unless memory ran out
-abbrev pub ReadsShown : Option (List Kind) → Result (List Kind) CommandFault → Type 0
-ReadsShown right (Ok kinds) = right ≡ Some kinds
-ReadsShown right (Err fault.BadKind) = right ≡ None
-ReadsShown right (Err (fault.NoMemory shortage)) = ⊤
-ReadsShown right (Err other) = ⊥
+abbrev pub ReadsKinds : Option (List Kind) → Result (List Kind) CommandFault → Type 0
+ReadsKinds right (Ok kinds) = right ≡ Some kinds
+ReadsKinds right (Err fault.BadKind) = right ≡ None
+ReadsKinds right (Err (fault.NoMemory shortage)) = ⊤
+ReadsKinds right (Err other) = ⊥
 
 -- this answer, unless memory ran out
 abbrev pub Answers : {A : Type 0} → Result A CommandFault → Result A CommandFault → Type 0
 Answers right (Err (fault.NoMemory shortage)) = ⊤
-Answers right (Err fault.BadKind) = right ≡ Err fault.BadKind
-Answers right (Err fault.BadRun) = right ≡ Err fault.BadRun
-Answers right (Err (fault.Usage told)) = right ≡ Err (fault.Usage told)
-Answers right (Ok value) = right ≡ Ok value
+Answers right result = right ≡ result
