@@ -6,19 +6,17 @@ pub use Rattle.std.proofs.lemmas.List.{drop_more, take_at, take_rest}
 pub use Rattle.std.proofs.lemmas.List.Elements.{Contains-append_left, Contains-append_right, Contains-push, filter-append}
 pub use Rattle.std.specs.Fmt.{decimal}
 pub use Rattle.std.specs.List.{Contains, filter, join_with_byte, list_any, slice_split}
-pub use Rattle.std.specs.Option.{option_or}
+pub use Rattle.std.specs.Option.{option_map_or, option_or}
 pub use Rattle.std.specs.Str.{IsUtf8}
 unfoldable pub use Rattle.std.specs.Str.{chars}
 pub use Rattle.kt_base.proofs.Showing.{shows_as, shows_both, shows_error, shows_more}
 pub use Rattle.kt_base.specs.Chains.{Chain}
 pub use Rattle.kt_base.specs.Characters.{is_slash}
 pub use Rattle.kt_base.specs.Utf8.{utf8}
-pub use Rattle.kt_base.specs.declared.variable.Variable.{Variable}
+pub use Rattle.kt_suite.specs.Types.{Filter, IncludeLoop, Item, Meaning, MissingProgram, NoSyntax, Program, ProgramTable, ReadFault, Script, ScriptFault, Stmt, SuiteCause, SuiteFault, TooDeep, TooMany, Variable}
 pub use Rattle.kt_script.specs.LiteralText.{text_of}
 pub use Rattle.kt_script.specs.Spelling.{IsDue, Spells}
-pub use Rattle.kt_script.specs.declared.fault.ScriptFault.{ScriptFault}
 pub use Rattle.kt_script.specs.declared.syntax.Pair.{Pair}
-pub use Rattle.kt_script.specs.declared.syntax.Stmt.{Stmt}
 unfoldable pub use lib.Utf8.{encode}
 pub use mathlib.Core.List.{append-nil, append_assoc}
 pub use Rattle.kt_suite.specs.Answers.{Answered, Asked, Exists, IsSteady, Read, SameQuestion}
@@ -27,25 +25,16 @@ pub use Rattle.kt_suite.specs.Disjoint.{ShareCase, covers, overlap, overlap_faul
 pub use Rattle.kt_suite.specs.FaultWords.{cause_words, fixed_words}
 pub use Rattle.kt_suite.specs.Faults.{IsNoMemory, fault_at, read_fault, script_line}
 pub use Rattle.kt_suite.specs.Filters.{counts, plain_path}
-pub use Rattle.kt_suite.specs.Inner.Steps.{IsText, all_places, first_match, is_match, is_miss, is_some_match, props_with, table_with, with_component, with_props}
+pub use Rattle.kt_suite.specs.Inner.Steps.{IsText, all_places, first_match, is_match, is_miss, props_with, table_with, with_component, with_props}
 pub use Rattle.kt_suite.specs.Inner.Walks.{Adds, Counted, Entered, Enters, FileGives, MeaningGives, Opened, Stepped, Walked, WellOpened, badly, declines, empty, enters, exceeds, fails, goes, lacks, opens, refuses, scant, short, stops, through, unclear, well}
 pub use Rattle.kt_suite.specs.Marks.{Asks, Fault, File, FileSays, Includes, Listed, Mark, Part, Says, Site, StatementsSay, TreeGives, Unfolds, end, entered, entry_fault, looked_up, no_script, no_statement, none, one, opened, refused, said, says, site_fault, suite_after, unopened, unread}
 pub use Rattle.kt_suite.specs.Matching.{IsWithin, is_within, matches, parts_match}
 pub use Rattle.kt_suite.specs.Meanings.{meaning_of, opening_fault}
 pub use Rattle.kt_suite.specs.Paths.{beside, directory_of, is_component}
 pub use Rattle.kt_suite.specs.Registered.{Decides, IsNext, IsUndecided, Outcome, Registered, Unfinished, all, faults_in, file_limit, file_too_many, files_in, is_fault, no_question, program_limit, program_too_many, programs_in, questions_in, stopped, thrown_away}
-pub use Rattle.kt_suite.specs.Selecting.{idle_places, is_idle, is_matched, is_selected, matches_item, places, selected_places}
+pub use Rattle.kt_suite.specs.Selecting.{idle_places, is_idle, is_selected, matches_item, places, selected_places}
 pub use Rattle.kt_suite.specs.Tables.{declared, definition, definitions, first_fault, is_property, key_fault, pair_fault, table_of, unless, value_cause}
-pub use Rattle.kt_suite.specs.declared.cause.SuiteCause.{SuiteCause}
-pub use Rattle.kt_suite.specs.declared.cause.SuiteCause.TheVariants.{IncludeLoop, MissingProgram, NoSyntax, Script, TooDeep, TooMany}
-pub use Rattle.kt_suite.specs.declared.fault.SuiteFault.{SuiteFault}
-pub use Rattle.kt_suite.specs.declared.filter.Filter.{Filter}
-pub use Rattle.kt_suite.specs.declared.registry.Program.{Program}
 pub use Rattle.kt_suite.specs.declared.registry.Registry.{Registry}
 pub use Rattle.kt_suite.specs.declared.registry.Step.{Step}
 pub use Rattle.kt_suite.specs.declared.registry.Step.TheVariants.{Enter, Next}
-pub use Rattle.kt_suite.specs.declared.selecting.Item.{Item}
-pub use Rattle.kt_suite.specs.declared.statement.Meaning.{Meaning}
-pub use Rattle.kt_suite.specs.declared.registry.ProgramTable.{ProgramTable}
-pub use Rattle.kt_suite.specs.declared.tree.ReadFault.{ReadFault}
 pub use Rattle.kt_suite.specs.declared.tree.ReadFault.TheVariants.{Missing}

@@ -2,7 +2,7 @@
 use Rattle.std.proofs.Common.{Some, None, Result, Ok, Err, ◌≡◌, ℕ, List, ◌∷◌, length, sym, subst, ◌⊎◌, inl, inr}
 use Rattle.kt_suite.proofs.Common.{ScriptFault, Stmt, Spells, IsDue, ReadFault, SuiteCause, NoSyntax, Script, SuiteFault, Asked, Read, IsText, fault_at, read_fault, script_line, IsNoMemory, opening_fault, unread, no_script, no_statement, unopened, WellOpened, well, empty, badly, unclear, Opened, opens, declines, lacks}
 use Rattle.kt_script.specs.Faults.{IfFault}
-use Rattle.kt_suite.specs.Inner.Faults.{Blames}
+use Rattle.kt_suite.specs.Inner.Steps.{Blames}
 use Rattle.kt_script.specs.declared.fault.ScriptFault.TheVariants as script
 use Rattle.std.proofs.lemmas.List.{nil_from_length}
 

@@ -1,6 +1,6 @@
 -- The filters that match no item are what the items leave of all filters.
 use Rattle.std.proofs.Common.{◌≡◌, ℕ, ◌+◌, suc, Bool, true, false, List, [], ◌∷◌, ◌++◌, refl, sym, ap, ◌∙◌, arith, length, slice_get, Option, ◌||◌, not}
-use Rattle.kt_suite.proofs.Common.{append_assoc, list_any, filter, Filter, Item, all_places, is_some_match, is_match, is_miss, places, is_idle, idle_places}
+use Rattle.kt_suite.proofs.Common.{append_assoc, list_any, filter, Filter, Item, all_places, is_match, is_miss, matches_item, option_map_or, places, is_idle, idle_places}
 
 -- the filter at a position matches none of these items
 abbrev pub is_idle_at : List Item → List Filter → ℕ → Bool
@@ -42,7 +42,7 @@ idle_from : (items : List Item) (all : List Filter) (n : ℕ) (filters : List Fi
 idle_from items all n [] at = refl
 idle_from items all n (f ∷ rest) at =
     let same : n ≡ n + 0 = omega arith in
-    let here : is_idle_at items all n ≡ is_idle items f = ap (λ (o : Option Filter). not (list_any (λ item. is_some_match item o) items)) (ap (slice_get all) same ∙ at 0) in
+    let here : is_idle_at items all n ≡ is_idle items f = ap (λ (o : Option Filter). not (list_any (λ item. option_map_or (matches_item item) o false) items)) (ap (slice_get all) same ∙ at 0) in
     let later = idle_from items all (n + 1) rest (λ k. ap (λ (p : ℕ). slice_get all p) (next_place n k) ∙ at (suc k)) in
     rw (here, later) refl
 

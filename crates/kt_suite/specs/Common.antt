@@ -1,11 +1,12 @@
 -- The words that the clauses of this crate cite, passed on from one place. Declares nothing.
 pub use Rattle.std.specs.List.{list_all, list_any, slice_split}
+pub use Rattle.std.specs.Option.{option_eq}
 pub use Rattle.std.specs.Str.{bytes_eq}
 pub use Rattle.kt_base.specs.Characters.{is_slash}
 pub use Rattle.kt_base.specs.LastValues.{last_values}
 pub use Rattle.kt_base.specs.declared.variable.Variable.{Variable}
 pub use Rattle.kt_suite.specs.Answers.{Answered, Asked, IsSteady}
-pub use Rattle.kt_suite.specs.Disjoint.{IsDisjoint, IsFirstFault, ShareCase, covers, is_same_filter, overlap, overlap_fault, same_case_part}
+pub use Rattle.kt_suite.specs.Disjoint.{IsDisjoint, IsFirstFault, ShareCase, covers, is_same_filter, overlap, overlap_fault}
 pub use Rattle.kt_suite.specs.Faults.{IsNoMemory, fault_at, read_fault, script_line}
 pub use Rattle.kt_suite.specs.Filters.{Answers, filter_meaning}
 pub use Rattle.kt_suite.specs.Inner.Steps.{IsText, props_with, table_with, with_props}

@@ -1,29 +1,18 @@
 -- Which filters share a case.
-use Rattle.std.specs.Prelude.{ℕ, ◌≡◌, ◌<◌, Bool, true, false, ◌&&◌, ◌||◌, IsTrue, List, Option, Some, None, take, find, slice_get, option_map, bytes_eq, if◌then◌else◌}
-use Rattle.kt_suite.specs.declared.filter.Filter.{Filter}
-use Rattle.kt_suite.specs.declared.filter.FilterFault.{FilterFault}
+use Rattle.std.specs.Prelude.{ℕ, ◌≡◌, ◌<◌, Bool, ◌&&◌, ◌||◌, IsTrue, List, Option, Some, None, take, find, slice_get, option_map, option_and_then, bytes_eq, if◌then◌else◌}
+use Rattle.std.specs.Option.{option_eq}
+use Rattle.kt_suite.specs.Types.{Filter, FilterFault}
 use Rattle.kt_suite.specs.declared.filter.FilterFault.TheVariants.{Repeated, NotDisjoint}
 use Rattle.kt_suite.specs.Matching.{is_within, matches}
 
--- a case part is this one
-abbrev pub is_case_part : List ℕ → Option (List ℕ) → Bool
-is_case_part own None = false
-is_case_part own (Some other) = bytes_eq own other
-
--- two case parts are the same
-abbrev pub same_case_part : Option (List ℕ) → Option (List ℕ) → Bool
-same_case_part None None = true
-same_case_part None (Some other) = false
-same_case_part (Some own) other = is_case_part own other
-
 -- two filters are the same
 abbrev pub is_same_filter : Filter → Filter → Bool
-is_same_filter filter other = bytes_eq filter.program other.program && same_case_part filter.case_name other.case_name
+is_same_filter filter other = bytes_eq filter.program other.program && option_eq bytes_eq filter.case_name other.case_name
 
--- without a case part all filters of programs within the path are covered, else the same filter alone
+-- without a case part all filters of programs within the path are covered, else only the same filter
 abbrev pub parts_cover : List ℕ → Option (List ℕ) → Filter → Bool
 parts_cover program None other = is_within program other.program
-parts_cover program (Some own) other = bytes_eq program other.program && is_case_part own other.case_name
+parts_cover program (Some own) other = bytes_eq program other.program && option_eq bytes_eq (Some own) other.case_name
 
 -- the first filter matches all that the second matches
 abbrev pub covers : Filter → Filter → Bool
@@ -37,18 +26,14 @@ overlap filter other = covers filter other || covers other filter
 abbrev pub ShareCase : Filter → Filter → Type 0
 ShareCase filter other = (path case_name : List ℕ) × IsTrue (matches filter path case_name) × IsTrue (matches other path case_name)
 
--- what is wrong with a filter at a position that overlaps with an earlier one
+-- what is wrong with the filter at a position that overlaps with an earlier one
 abbrev pub clash : ℕ → Filter → Filter → FilterFault
 clash position filter earlier = if is_same_filter filter earlier then Repeated position else NotDisjoint position
 
--- what is wrong with a filter after these: the first of them that it overlaps with decides
-abbrev pub fault_after : List Filter → ℕ → Option Filter → Option FilterFault
-fault_after earlier position None = None
-fault_after earlier position (Some filter) = option_map (clash position filter) (find (overlap filter) earlier)
-
--- what is wrong with the filter at a position
+-- what is wrong with the filter at a position: the first filter before it that it overlaps with decides
 abbrev pub overlap_fault : List Filter → ℕ → Option FilterFault
-overlap_fault filters position = fault_after (take position filters) position (slice_get filters position)
+overlap_fault filters position =
+    option_and_then (λ filter. option_map (clash position filter) (find (overlap filter) (take position filters))) (slice_get filters position)
 
 -- nothing is wrong with any filter
 abbrev pub IsDisjoint : List Filter → Type 0

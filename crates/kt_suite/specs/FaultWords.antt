@@ -1,13 +1,10 @@
 -- The words of faults, as their lines have them.
 use Rattle.std.specs.Prelude.{ℕ, List, [], ◌++◌, codes}
 use Rattle.std.specs.Fmt.{decimal}
+use Rattle.kt_suite.specs.Types.{FilterFault, ReadFault, SuiteCause, SuiteFault}
 use Rattle.kt_script.specs.FaultWords.{script_words}
-use Rattle.kt_suite.specs.declared.cause.SuiteCause.{SuiteCause}
 use Rattle.kt_suite.specs.declared.cause.SuiteCause.TheVariants as cause
-use Rattle.kt_suite.specs.declared.fault.SuiteFault.{SuiteFault}
-use Rattle.kt_suite.specs.declared.filter.FilterFault.{FilterFault}
 use Rattle.kt_suite.specs.declared.filter.FilterFault.TheVariants as filter
-use Rattle.kt_suite.specs.declared.tree.ReadFault.{ReadFault}
 use Rattle.kt_suite.specs.declared.tree.ReadFault.TheVariants as read
 use Rattle.kt_suite.specs.declared.selecting.SelectFault.{SelectFault}
 use Rattle.kt_suite.specs.declared.selecting.SelectFault.TheVariants as select

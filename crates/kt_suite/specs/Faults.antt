@@ -1,14 +1,9 @@
 -- The faults of a tree, and where they stand.
 use Rattle.std.specs.Prelude.{ℕ, List, [], ◌≡◌}
+use Rattle.kt_suite.specs.Types.{NoMemory, ReadFault, ScriptFault, SuiteCause, SuiteFault, Unreadable}
 use Rattle.kt_base.specs.declared.no_memory.NoMemory.{NoMemory as Refusal}
-use Rattle.kt_script.specs.declared.fault.ScriptFault.{ScriptFault}
-use Rattle.kt_script.specs.declared.fault.ScriptFault.TheVariants.{NotUtf8, BadToken, NotLiteral, Unclosed, TooLong}
-use Rattle.kt_script.specs.declared.fault.ScriptFault.TheVariants as script
-use Rattle.kt_suite.specs.declared.tree.ReadFault.{ReadFault}
-use Rattle.kt_suite.specs.declared.tree.ReadFault.TheVariants.{Missing, Failed, Memory}
-use Rattle.kt_suite.specs.declared.cause.SuiteCause.{SuiteCause}
-use Rattle.kt_suite.specs.declared.cause.SuiteCause.TheVariants.{NoMemory, Unreadable}
-use Rattle.kt_suite.specs.declared.fault.SuiteFault.{SuiteFault}
+use Rattle.kt_script.specs.declared.fault.ScriptFault.TheVariants.{BadToken, NotLiteral, Unclosed}
+use Rattle.kt_suite.specs.declared.tree.ReadFault.TheVariants.{Memory}
 
 -- a fault on a line of a file
 abbrev pub fault_at : List ℕ → ℕ → SuiteCause → SuiteFault
@@ -24,15 +19,12 @@ IsNoMemory fault = (refusal : Refusal) × (fault ≡ no_memory refusal)
 
 -- a file that can't be read is unreadable, unless memory ran out
 abbrev pub read_fault : List ℕ → ReadFault → SuiteFault
-read_fault file Missing = fault_at file 0 Unreadable
-read_fault file Failed = fault_at file 0 Unreadable
 read_fault file (Memory refusal) = no_memory refusal
+read_fault file why = fault_at file 0 Unreadable
 
 -- the line of a script's fault, or 0 if it has none
 abbrev pub script_line : ScriptFault → ℕ
-script_line (script.NoMemory refusal) = 0
-script_line NotUtf8 = 0
 script_line (BadToken line) = line
 script_line (NotLiteral line) = line
 script_line (Unclosed line) = line
-script_line TooLong = 0
+script_line other = 0

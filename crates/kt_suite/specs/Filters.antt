@@ -1,8 +1,7 @@
 -- What a text says as a filter.
 use Rattle.std.specs.Prelude.{ℕ, ◌≡◌, Bool, not, ◌==◌, ◌&&◌, List, [], ◌∷◌, Option, Some, None, Result, Ok, Err, filter, bytes_eq, codes, if◌then◌else◌}
 use Rattle.std.specs.List.{slice_split, join_with_byte}
-use Rattle.kt_suite.specs.declared.filter.Filter.{Filter}
-use Rattle.kt_suite.specs.declared.filter.FilterFault.{FilterFault}
+use Rattle.kt_suite.specs.Types.{Filter, FilterFault}
 use Rattle.kt_suite.specs.declared.filter.FilterFault.TheVariants.{NoMemory, Empty, Absolute, EmptyCase}
 use Rattle.kt_base.specs.Characters.{is_slash}
 use Rattle.kt_base.specs.Texts.{is_empty, before, after}
@@ -43,16 +42,12 @@ abbrev pub unless_wrong : Option FilterFault → Meaning → Meaning
 unless_wrong None meaning = meaning
 unless_wrong (Some fault) meaning = Err fault
 
--- a filter by its two parts as they are written
-abbrev pub meaning_of_parts : List ℕ → Option (List ℕ) → Meaning
-meaning_of_parts path case_name = unless_wrong (parts_fault path case_name) (filter_of (plain_path path) case_name)
-
--- what a text says as a filter
+-- what a text says as a filter, by its parts before and after the first colon
 abbrev pub filter_meaning : List ℕ → Meaning
-filter_meaning text = meaning_of_parts (before 58 text) (after 58 text)
+filter_meaning text =
+    unless_wrong (parts_fault (before 58 text) (after 58 text)) (filter_of (plain_path (before 58 text)) (after 58 text))
 
 -- memory ran out, or this was answered
 abbrev pub Answers : Result Filter FilterFault → Meaning → Type 0
-Answers (Ok found) meaning = Ok found ≡ meaning
 Answers (Err (NoMemory refusal)) meaning = Unit {0}
-Answers (Err fault) meaning = Err fault ≡ meaning
+Answers found meaning = found ≡ meaning

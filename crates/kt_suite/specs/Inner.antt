@@ -1,4 +1,3 @@
--- What the crate's own functions do: cited by private functions alone.
-pub mod Faults
+-- What the crate's own functions do: cited only by private functions.
 pub mod Steps
 pub mod Walks

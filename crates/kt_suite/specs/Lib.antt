@@ -13,3 +13,4 @@ pub mod Matching
 pub mod Filters
 pub mod Disjoint
 pub mod Selecting
+pub mod Types

@@ -1,15 +1,8 @@
 -- What is met as a tree of Kyuafiles is read, in order.
 use Rattle.std.specs.Prelude.{ℕ, Bool, true, false, List, [], ◌∷◌, ◌++◌, ◌≡◌, length, nat_le, bytes_eq, Option, Some, None, Ok, Err, if◌then◌else◌}
 use Rattle.std.specs.List.{list_any}
-use Rattle.kt_script.specs.declared.fault.ScriptFault.{ScriptFault}
-use Rattle.kt_script.specs.declared.syntax.Stmt.{Stmt}
+use Rattle.kt_suite.specs.Types.{IncludeLoop, Meaning, MissingProgram, NoSyntax, Program, ReadFault, Script, ScriptFault, Stmt, SuiteCause, SuiteFault, TooDeep}
 use Rattle.kt_script.specs.Spelling.{Spells, IsDue}
-use Rattle.kt_suite.specs.declared.tree.ReadFault.{ReadFault}
-use Rattle.kt_suite.specs.declared.cause.SuiteCause.{SuiteCause}
-use Rattle.kt_suite.specs.declared.cause.SuiteCause.TheVariants.{NoSyntax, MissingProgram, IncludeLoop, TooDeep, Script}
-use Rattle.kt_suite.specs.declared.fault.SuiteFault.{SuiteFault}
-use Rattle.kt_suite.specs.declared.registry.Program.{Program}
-use Rattle.kt_suite.specs.declared.statement.Meaning.{Meaning}
 use Rattle.kt_suite.specs.declared.statement.Meaning.TheVariants as meaning
 use Rattle.kt_suite.specs.Answers.{Asked, Read, Exists}
 use Rattle.kt_suite.specs.Faults.{fault_at, read_fault, script_line}
@@ -57,10 +50,8 @@ said at there (meaning.Program interface name suite props) =
 
 -- the suite of the programs after a statement
 abbrev pub suite_after : Option (List ℕ) → Meaning → Option (List ℕ)
-suite_after suite (meaning.Wrong cause) = suite
 suite_after suite (meaning.Suite name) = Some name
-suite_after suite (meaning.Include name) = suite
-suite_after suite (meaning.Program interface name own props) = suite
+suite_after suite other = suite
 
 -- what the statements of a file say, if it has named this suite so far
 pub data StatementsSay (file : List ℕ) : Option (List ℕ) → List Stmt → List Part → Type 0 where

@@ -1,15 +1,15 @@
 -- Which cases a filter matches.
 use Rattle.std.specs.Prelude.{ℕ, ◌≡◌, Bool, true, false, ◌==◌, ◌&&◌, ◌⊎◌, IsTrue, List, [], ◌∷◌, ◌++◌, Option, Some, None, bytes_eq}
-use Rattle.kt_suite.specs.declared.filter.Filter.{Filter}
+use Rattle.kt_suite.specs.Types.{Filter}
 
--- a path is this one, or goes on behind it with a slash
+-- whether a path is this directory or goes on after it with a slash
 abbrev pub is_within : List ℕ → List ℕ → Bool
 is_within [] [] = true
 is_within [] (c ∷ path) = c == 47
 is_within (d ∷ directory) [] = false
 is_within (d ∷ directory) (c ∷ path) = d == c && is_within directory path
 
--- the same as a fact
+-- a path is this directory or goes on after it with a slash, as a fact
 abbrev pub IsWithin : List ℕ → List ℕ → Type 0
 IsWithin directory path = (path ≡ directory) ⊎ ((rest : List ℕ) × (path ≡ directory ++ 47 ∷ rest))
 

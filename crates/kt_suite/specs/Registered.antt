@@ -1,8 +1,6 @@
 -- What a tree registers, and which questions this takes.
 use Rattle.std.specs.Prelude.{ℕ, List, [], ◌∷◌, ◌++◌, ◌≡◌, ◌≤◌, ◌+◌, length, Result, Ok, Err}
-use Rattle.kt_suite.specs.declared.cause.SuiteCause.TheVariants.{TooMany}
-use Rattle.kt_suite.specs.declared.fault.SuiteFault.{SuiteFault}
-use Rattle.kt_suite.specs.declared.registry.Program.{Program}
+use Rattle.kt_suite.specs.Types.{Program, SuiteFault, TooMany}
 use Rattle.kt_suite.specs.Answers.{Asked, SameQuestion}
 use Rattle.kt_suite.specs.Faults.{IsNoMemory}
 use Rattle.kt_suite.specs.Marks.{Site, site_fault, Mark, Asks, File, Listed, Fault, TreeGives}
@@ -23,33 +21,25 @@ Outcome = Result (List Program) SuiteFault
 abbrev pub questions_in : List Mark → List Asked
 questions_in [] = []
 questions_in (Asks question ∷ marks) = question ∷ questions_in marks
-questions_in (File at ∷ marks) = questions_in marks
-questions_in (Listed at program ∷ marks) = questions_in marks
-questions_in (Fault fault ∷ marks) = questions_in marks
+questions_in (other ∷ marks) = questions_in marks
 
 -- the number of files among marks
 abbrev pub files_in : List Mark → ℕ
 files_in [] = 0
-files_in (Asks question ∷ marks) = files_in marks
 files_in (File at ∷ marks) = 1 + files_in marks
-files_in (Listed at program ∷ marks) = files_in marks
-files_in (Fault fault ∷ marks) = files_in marks
+files_in (other ∷ marks) = files_in marks
 
 -- the programs among marks
 abbrev pub programs_in : List Mark → List Program
 programs_in [] = []
-programs_in (Asks question ∷ marks) = programs_in marks
-programs_in (File at ∷ marks) = programs_in marks
 programs_in (Listed at program ∷ marks) = program ∷ programs_in marks
-programs_in (Fault fault ∷ marks) = programs_in marks
+programs_in (other ∷ marks) = programs_in marks
 
 -- the faults among marks
 abbrev pub faults_in : List Mark → List SuiteFault
 faults_in [] = []
-faults_in (Asks question ∷ marks) = faults_in marks
-faults_in (File at ∷ marks) = faults_in marks
-faults_in (Listed at program ∷ marks) = faults_in marks
 faults_in (Fault fault ∷ marks) = fault ∷ faults_in marks
+faults_in (other ∷ marks) = faults_in marks
 
 -- no mark decides: there is no fault, and neither a file nor a program is one too many
 pub record IsUndecided (marks : List Mark) : Type 0 where

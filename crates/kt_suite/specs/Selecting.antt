@@ -1,8 +1,7 @@
 -- Which cases some filters select.
 use Rattle.std.specs.Prelude.{ℕ, Bool, true, not, ◌+◌, List, [], ◌∷◌, if◌then◌else◌}
 use Rattle.std.specs.List.{list_any}
-use Rattle.kt_suite.specs.declared.filter.Filter.{Filter}
-use Rattle.kt_suite.specs.declared.selecting.Item.{Item}
+use Rattle.kt_suite.specs.Types.{Filter, Item}
 use Rattle.kt_suite.specs.Matching.{matches}
 
 -- the most items to select from
@@ -18,26 +17,18 @@ places test n (x ∷ xs) = if test x then n ∷ places test (n + 1) xs else plac
 abbrev pub matches_item : Item → Filter → Bool
 matches_item item filter = matches filter item.path item.case_name
 
--- some filter matches an item
-abbrev pub is_matched : List Filter → Item → Bool
-is_matched filters item = list_any (matches_item item) filters
-
 -- an item is selected if some filter matches it, or if there is no filter
 abbrev pub is_selected : List Filter → Item → Bool
 is_selected [] item = true
-is_selected (filter ∷ filters) item = is_matched (filter ∷ filters) item
+is_selected (filter ∷ filters) item = list_any (matches_item item) (filter ∷ filters)
 
 -- the positions of the selected items
 abbrev pub selected_places : List Item → List Filter → List ℕ
 selected_places items filters = places (is_selected filters) 0 items
 
--- an item is among those of a filter
-abbrev pub is_item_of : Filter → Item → Bool
-is_item_of filter item = matches_item item filter
-
 -- a filter matches no item
 abbrev pub is_idle : List Item → Filter → Bool
-is_idle items filter = not (list_any (is_item_of filter) items)
+is_idle items filter = not (list_any (λ item. matches_item item filter) items)
 
 -- the positions of the filters that match no item
 abbrev pub idle_places : List Item → List Filter → List ℕ

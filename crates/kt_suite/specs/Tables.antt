@@ -2,7 +2,7 @@
 use Rattle.std.specs.Prelude.{Bool, List, [], ◌∷◌, codes, Option, Some, None, Result, Ok, Err}
 use Rattle.std.specs.List.{filter}
 use Rattle.std.specs.Option.{option_or}
-use Rattle.kt_base.specs.declared.variable.Variable.{Variable}
+use Rattle.kt_suite.specs.Types.{BadValue, ProgramTable, SuiteCause, UnknownProperty, Variable}
 use Rattle.kt_base.specs.LastValues.{value_of, last_values}
 use Rattle.kt_script.specs.declared.syntax.Pair.{Pair}
 use Rattle.kt_script.specs.LiteralText.{text_of}
@@ -10,9 +10,6 @@ use Rattle.kt_metadata.specs.declared.fault.PropFault.{PropFault}
 use Rattle.kt_metadata.specs.Properties.{is_kyuafile_property, definition_fault}
 use Rattle.kt_suite.specs.declared.call.Key.{Key}
 use Rattle.kt_suite.specs.declared.call.Key.TheVariants as key
-use Rattle.kt_suite.specs.declared.cause.SuiteCause.{SuiteCause}
-use Rattle.kt_suite.specs.declared.cause.SuiteCause.TheVariants.{UnknownProperty, BadValue}
-use Rattle.kt_suite.specs.declared.registry.ProgramTable.{ProgramTable}
 use Rattle.kt_suite.specs.Calls.{key_named}
 
 -- a pair of a table, with its value as a text

@@ -24,7 +24,7 @@ pub struct Registry {
     pub programs: Items<Program>,
 }
 
-/// Written out so that a drop is one call: what a registry owns is taken apart here alone.
+/// Written out so that a drop is one call: what a registry owns is taken apart only here.
 impl Drop for Registry {
     fn drop(self) {
         let Registry {
@@ -82,7 +82,7 @@ pub struct ProgramTable {
     pub props: Props,
 }
 
-/// Written out so that a drop is one call: what a table owns is taken apart here alone.
+/// Written out so that a drop is one call: what a table owns is taken apart only here.
 impl Drop for ProgramTable {
     fn drop(self) {
         let ProgramTable {

@@ -1,5 +1,5 @@
 ghost use Rattle.std.specs.Prelude.{◌≡◌, IfOk, List, ℕ, Option};
-ghost use Rattle.kt_suite.specs.Meanings.{version_fault, first_call_fault, opening_fault, suite_meaning, suited, named, declared_meaning, program_meaning, new_include, include_meaning, call_meaning, meaning_of};
+ghost use Rattle.kt_suite.specs.Meanings.{version_fault, opening_fault, suite_meaning, suited, named, program_meaning, include_meaning, meaning_of};
 
 use crate::SuiteCause;
 use crate::call::{Call, call_of};

@@ -1,5 +1,5 @@
 ghost use Rattle.std.specs.Prelude.{◌≡◌, [], chars, drop, bytes_eq, ◌↔◌, List, ℕ, IfErr, IsTrue, OnOk, option_copied, find, slice_get, take};
-ghost use Rattle.kt_suite.specs.Common.{is_within, IsWithin, same_case_part, is_same_filter, covers, overlap, ShareCase, overlap_fault, IsDisjoint, IsFirstFault};
+ghost use Rattle.kt_suite.specs.Common.{is_within, IsWithin, option_eq, is_same_filter, covers, overlap, ShareCase, overlap_fault, IsDisjoint, IsFirstFault};
 ghost use Rattle.kt_suite.specs.declared.filter.Filter.{Filter as OneFilter};
 
 use crate::{Filter, FilterFault};
@@ -48,7 +48,7 @@ pub fn is_same(one: &Text, other: &Text) -> bool
 }
 
 fn same_case_part(own: &Option<Text>, other: &Option<Text>) -> bool
-    ensures { result ≡ same_case_part own.now other.now }
+    ensures { result ≡ option_eq bytes_eq own.now other.now }
 {
     match own {
         None => other.is_none(),

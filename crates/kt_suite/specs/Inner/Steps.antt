@@ -1,15 +1,12 @@
 -- What private functions return, each a step of a larger walk.
-use Rattle.std.specs.Prelude.{ℕ, Bool, true, false, not, Option, Some, None, Result, Ok, Err, slice_get, List, [], ◌∷◌, ◌++◌, if◌then◌else◌}
+use Rattle.std.specs.Prelude.{◌≡◌, ◌⊎◌, ℕ, Bool, true, false, not, Option, Result, Ok, Err, slice_get, List, [], ◌∷◌, ◌++◌, if◌then◌else◌}
 use Rattle.std.specs.List.{position}
-use Rattle.kt_base.specs.declared.variable.Variable.{Variable}
+use Rattle.std.specs.Option.{option_map_or}
+use Rattle.kt_suite.specs.Types.{Filter, Item, ProgramTable, ScriptFault, SuiteCause, SuiteFault, Variable}
 use Rattle.kt_base.specs.LastValues.{last_values}
 use Rattle.kt_metadata.specs.Properties.{definition_fault}
-use Rattle.kt_script.specs.declared.fault.ScriptFault.{ScriptFault}
 use Rattle.kt_script.specs.declared.fault.ScriptFault.TheVariants as script
-use Rattle.kt_suite.specs.declared.cause.SuiteCause.{SuiteCause}
-use Rattle.kt_suite.specs.declared.filter.Filter.{Filter}
-use Rattle.kt_suite.specs.declared.selecting.Item.{Item}
-use Rattle.kt_suite.specs.declared.registry.ProgramTable.{ProgramTable}
+use Rattle.kt_suite.specs.Faults.{IsNoMemory, fault_at}
 use Rattle.kt_suite.specs.Filters.{counts}
 use Rattle.kt_suite.specs.Selecting.{places, matches_item}
 use Rattle.kt_suite.specs.Tables.{value_cause, pair_fault, table_of, unless}
@@ -45,18 +42,17 @@ all_places filters = places (λ filter. true) 0 filters
 abbrev pub first_match : List Filter → Item → Option ℕ
 first_match filters item = position (matches_item item) filters
 
--- a filter that may be there matches an item
-abbrev pub is_some_match : Item → Option Filter → Bool
-is_some_match item None = false
-is_some_match item (Some filter) = matches_item item filter
-
 -- the filter at a position, if there is one, matches an item
 abbrev pub is_match : List Filter → Item → ℕ → Bool
-is_match filters item place = is_some_match item (slice_get filters place)
+is_match filters item place = option_map_or (matches_item item) (slice_get filters place) false
 
 -- the filter at a position misses an item
 abbrev pub is_miss : List Filter → Item → ℕ → Bool
 is_miss filters item place = not (is_match filters item place)
+
+-- a fault on a line of a file, unless memory for its path ran out
+abbrev pub Blames : List ℕ → ℕ → SuiteCause → SuiteFault → Type 0
+Blames file line cause fault = IsNoMemory fault ⊎ (fault ≡ fault_at file line cause)
 
 -- a script's fault lies in its text
 abbrev pub IsText : ScriptFault → Type 0

@@ -1,18 +1,12 @@
 -- What the reader's own functions do, each on its part of a tree.
 use Rattle.std.specs.Prelude.{ℕ, Bool, true, List, [], ◌∷◌, ◌++◌, ◌≡◌, ◌<◌, ◌≤◌, ◌+◌, length, Some, None, Result, Ok, Err}
-use Rattle.kt_script.specs.declared.syntax.Stmt.{Stmt}
+use Rattle.kt_suite.specs.Types.{Meaning, NoSyntax, Program, ReadFault, Stmt, SuiteCause, SuiteFault, TooMany}
 use Rattle.kt_script.specs.Spelling.{Spells}
-use Rattle.kt_suite.specs.declared.tree.ReadFault.{ReadFault}
-use Rattle.kt_suite.specs.declared.fault.SuiteFault.{SuiteFault}
 use Rattle.kt_suite.specs.declared.registry.Registry.{Registry}
-use Rattle.kt_suite.specs.declared.registry.Program.{Program}
 use Rattle.kt_suite.specs.declared.registry.Step.{Step}
 use Rattle.kt_suite.specs.declared.registry.Step.TheVariants.{Next, Enter}
-use Rattle.kt_suite.specs.declared.statement.Meaning.{Meaning}
 use Rattle.kt_base.specs.Chains.{Chain}
 use Rattle.kt_suite.specs.Answers.{Asked, Read, Exists}
-use Rattle.kt_suite.specs.declared.cause.SuiteCause.{SuiteCause}
-use Rattle.kt_suite.specs.declared.cause.SuiteCause.TheVariants.{NoSyntax, TooMany}
 use Rattle.kt_suite.specs.Faults.{fault_at, IsNoMemory}
 use Rattle.kt_suite.specs.Marks.{Site, site_fault, looked_up, Mark, Asks, File, Listed, Fault, Part, Says, Includes, said, FileSays, entry_fault, Unfolds}
 use Rattle.kt_suite.specs.Meanings.{opening_fault}
