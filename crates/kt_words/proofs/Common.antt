@@ -9,5 +9,6 @@ pub use Rattle.clap.specs.declared.builder.command.Command.TheViews.{out-Command
 pub use Rattle.clap.specs.declared.parser.matches.ArgMatches.TheViews.{out-ArgMatches, out-SubCommand}
 pub use Rattle.kt_base.specs.declared.verdict.Kind.{Kind}
 pub use Rattle.kt_words.specs.Grammar.{bare_app, kyua_app}
+pub use Rattle.kt_words.specs.Inner.Reading.{is_inside}
 pub use Rattle.kt_words.specs.Reading.{Reads, RefusesWords, command_in, junit_in, junit_with, kinds_of, options_in, report_in, report_with, results_in, run_of, texts_given}
-pub use Rattle.kt_words.specs.Words.{comma_words, is_inside, kind_named, kinds_named, with_kind}
+pub use Rattle.kt_words.specs.Words.{comma_words, kind_named, kinds_named, with_kind}

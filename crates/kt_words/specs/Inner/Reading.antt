@@ -1,8 +1,12 @@
--- What a command holds of the values that were found on a command line, each by the name of its option.
-use Rattle.std.specs.Prelude.{◌≡◌, ⊤, ℕ, List, Option, Some, None, Result, Ok, Err}
+-- What private functions read of the words of a command line.
+use Rattle.std.specs.Prelude.{◌≡◌, ◌==◌, ⊤, ℕ, Bool, not, List, Option, Some, None, Result, Ok, Err}
 use Rattle.kt_base.specs.declared.verdict.Kind.{Kind}
 use Rattle.kt_words.specs.declared.command_fault.CommandFault.{CommandFault}
 use Rattle.kt_words.specs.declared.command_fault.CommandFault.TheVariants as fault
+
+-- a byte that is no comma
+abbrev pub is_inside : ℕ → Bool
+is_inside c = not (c == 44)
 
 -- a run, or that it is none
 abbrev pub ReadsRun : Option (Option ℕ) → Result (Option ℕ) CommandFault → Type 0
