@@ -1,5 +1,5 @@
 -- the first state, and what is taken
-use Rattle.kt_sched.proofs.Common.{length, length-filter, slice_get, filter, Option, Some, None, is_some, map, ◌≡◌, ℕ, ◌<◌, Bool, true, false, cond, List, [], refl, sym, ◌∙◌, ap, arith, length-map, option_map, slice_get-map, Job, Case, NoEvent, turns, is_open, IsPlan, nothing_fed, first_case, first_stage, SchedState, Stands, IsStage, is_active_stage, is_owing_stage, is_fresh, positions, Judged, ◌≢◌, ◌≤◌, subst, slice_set, inl, inr, length-set, Entry, Stage, Decided, Finished, Taken, Event, of, IsEntry, decided, IsEntryOf, CaseRecord, Fed, TookEntry, IsAsked, is_over, is_owed, entry_with, record_in, decided_record, decided_record_of, stage_work, work}
+use Rattle.kt_sched.proofs.Common.{length, length-filter, slice_get, filter, Option, Some, None, is_some, map, ◌≡◌, ℕ, ◌<◌, Bool, true, false, cond, List, [], refl, sym, ◌∙◌, ap, arith, length-map, option_map, slice_get-map, Job, Case, NoEvent, turns, is_open, IsPlan, nothing_fed, first_case, first_stage, SchedState, Stands, IsStage, is_active_stage, is_owing_stage, is_fresh, positions, Judged, ◌≢◌, ◌≤◌, subst, slice_set, inl, inr, length-set, Entry, Stage, Decided, Finished, Taken, Event, of, IsEntry, decided, IsEntryOf, CaseRecord, Fed, TookEntry, IsAsked, is_over, is_owed, entry_with, record_in, decided_record, stage_work, work}
 use Rattle.kt_sched.specs.declared.next.Next.TheVariants as next
 use Rattle.kt_sched.proofs.Lists.{filter_none, mapped_at, count_by-set, sum_by-set}
 use Rattle.kt_sched.proofs.Turns.{put_at_positions}
@@ -60,33 +60,33 @@ new_stands {plan} {w = n} h l q e f = rw (e, f, q) (record {
     ready = λ f. put_at_positions 0 (filter (is_open plan n NoEvent) (turns plan));
     ripe = λ i m x o. absurd (cc);
   };
-  told = λ i x y. absurd (cc);
+  has_record = λ i x y. absurd (cc);
   asked = tt;
 })
 
--- what is told of a case is its entry
-told_entry : (i : ℕ) (job : Job) (was : Stage) (es : List Event) (t : CaseRecord) → IsStage i job was es → record_in job was ≡ Some t
+-- the record of a case makes its entry
+record_entry : (i : ℕ) (job : Job) (was : Stage) (es : List Event) (t : CaseRecord) → IsStage i job was es → record_in job was ≡ Some t
     → IsEntry job es (entry_with job t)
-told_entry i job Decided es t s e = rw s.0 (by job.decided refl e)
+record_entry i job Decided es t s e = rw s.0 (by job.decided refl e)
   where
-    by : (o : Option Judged) → job.decided ≡ o → decided_record_of o ≡ Some t → IsEntry job [] (entry_with job t)
+    by : (o : Option Judged) → job.decided ≡ o → option_map decided_record o ≡ Some t → IsEntry job [] (entry_with job t)
     by None d f = absurd (cc)
     by (Some v) d f = subst (λ (x : CaseRecord). IsEntry job [] (entry_with job x)) (same_Some (decided_record v) t f) (decided v d)
-told_entry i job (Finished x) es t s e = subst (λ (y : CaseRecord). IsEntry job es (entry_with job y)) (same_Some x t e) s.1
-told_entry i job was es t s e = absurd (cc)
+record_entry i job (Finished x) es t s e = subst (λ (y : CaseRecord). IsEntry job es (entry_with job y)) (same_Some x t e) s.1
+record_entry i job was es t s e = absurd (cc)
 
 -- and such a case is over
-told_over : (job : Job) (was : Stage) (t : CaseRecord) → record_in job was ≡ Some t
+record_over : (job : Job) (was : Stage) (t : CaseRecord) → record_in job was ≡ Some t
     → (is_over was ≡ true) × (is_active_stage was ≡ false) × (is_owing_stage was ≡ false) × (stage_work was ≡ 1) × (was ≢ Taken)
-told_over job Decided t e = (refl, refl, refl, refl, λ x. absurd (cc))
-told_over job (Finished x) t e = (refl, refl, refl, refl, λ y. absurd (cc))
-told_over job was t e = absurd (cc)
+record_over job Decided t e = (refl, refl, refl, refl, λ x. absurd (cc))
+record_over job (Finished x) t e = (refl, refl, refl, refl, λ y. absurd (cc))
+record_over job was t e = absurd (cc)
 
 pub less_taken : (ys : List Case) (i : ℕ) (cs : List Case) (entry : Entry) → TookEntry ys cs i entry → work cs < work ys
 less_taken ys i cs entry t =
     let f = λ (c : Case). stage_work c.stage in
     let x = sum_by-set f ys i (record { job = t.had; stage = t.was }) (record { job = t.left; stage = Taken }) t.found in
-    subst (λ (xs : List Case). work xs < work ys) (sym t.changed) (omega (arith, x, (told_over t.had t.was t.case_record t.told).3))
+    subst (λ (xs : List Case). work xs < work ys) (sym t.changed) (omega (arith, x, (record_over t.had t.was t.case_record t.has_record).3))
 
 module _ {plan : List Job} {n : ℕ} {fed : Fed} {b : SchedState} {i : ℕ} {cs : List Case} {entry : Entry} (h : Stands plan n fed b)
     (t : TookEntry b.cases cs i entry) where
@@ -97,13 +97,13 @@ module _ {plan : List Job} {n : ℕ} {fed : Fed} {b : SchedState} {i : ℕ} {cs 
   later = slice_set b.cases i new
 
   over : (is_over t.was ≡ true) × (is_active_stage t.was ≡ false) × (is_owing_stage t.was ≡ false) × (stage_work t.was ≡ 1) × (t.was ≢ Taken)
-  over = told_over t.had t.was t.case_record t.told
+  over = record_over t.had t.was t.case_record t.has_record
 
   pub entry_taken : IsEntryOf plan fed.trace i entry
   entry_taken =
       let l = located h i t.had t.was t.found in
       let same = l.kept over.4 in
-      let w = told_entry i l.job t.was (of i fed.trace) t.case_record l.stands (ap (λ (j : Job). record_in j t.was) (sym same) ∙ t.told) in
+      let w = record_entry i l.job t.was (of i fed.trace) t.case_record l.stands (ap (λ (j : Job). record_in j t.was) (sym same) ∙ t.has_record) in
       record {
         job = l.job;
         place = l.place;
@@ -155,7 +155,7 @@ module _ {plan : List Job} {n : ℕ} {fed : Fed} {b : SchedState} {i : ℕ} {cs 
       ];
     };
     puts = h.puts;
-    told = λ k x y. absurd (cc (q, y));
+    has_record = λ k x y. absurd (cc (q, y));
     asked = subst (IsAsked (record b { cases = later })) (sym q) asked;
   })
     where

@@ -1,5 +1,5 @@
 -- what is chosen is the first that holds, what follows of it, and nothing else is next
-use Rattle.kt_sched.proofs.Common.{slice_get, Option, Some, None, drop, filter, is_some, nat_lt, ◌==◌, MatchOption, ◌⊎◌, if◌then◌else◌, ◌≡◌, ℕ, ◌+◌, ◌<◌, Bool, true, false, List, [], ◌∷◌, ◌++◌, length, refl, sym, ◌∙◌, ap, subst, arith, inl, inr, drop_of_length-le, false_from_ne_true, ⊤, nat_tests, slice_get_within, Body, Cleanup, Job, Next, Case, Trace, active, turns, next_to_start, IsBusy, recorded, Fed, has_failed, IsNext, IsChosen, IsHeld, MayBegin, SchedState, Stands, IsSettled, IsOrdinary, listed, positions, opened, is_open, is_decided, is_undecided, is_none, IsPlan, body_starts, map, ◌≢◌, ◌≤◌, Role, Stage, Waiting, Owing, Taken, BodyStarted, end_mark, mark_of, of, history, is_whole, has_whole_history, Follows, WereOpen, IsStage, IsAsked, IsUntaken}
+use Rattle.kt_sched.proofs.Common.{slice_get, Option, Some, None, drop, filter, is_some, nat_lt, ◌==◌, MatchOption, ◌⊎◌, if◌then◌else◌, ◌≡◌, ℕ, ◌+◌, ◌<◌, Bool, true, false, List, [], ◌∷◌, ◌++◌, length, refl, sym, ◌∙◌, ap, subst, arith, inl, inr, drop_of_length-le, false_from_ne_true, ⊤, nat_tests, slice_get_within, Body, Cleanup, Job, Next, Case, Trace, active, turns, next_to_start, IsBusy, recorded, Fed, has_failed, IsNext, IsChosen, IsHeld, MayBegin, SchedState, Stands, IsSettled, positions, opened, is_open, is_decided, is_undecided, is_none, IsPlan, body_starts, map, ◌≢◌, ◌≤◌, Role, Stage, Waiting, Owing, Taken, BodyStarted, end_mark, mark_of, of, history, is_whole, has_whole_history, Follows, WereOpen, IsStage, IsAsked, option_to_list, HasExclusive, CanLend}
 use Rattle.kt_sched.specs.declared.next.Next.TheVariants as next
 use Rattle.kt_sched.proofs.Lists.{filter_none, get_drop, slice_get-drop, within_some, filter_in, list_all_from}
 use Rattle.kt_sched.proofs.Decided.{first_open, room_in}
@@ -43,7 +43,7 @@ module _ {plan : List Job} {n : ℕ} {fed : Fed} {b : SchedState} (h : Stands pl
     where
       has_room : (job : Job) (c : Case) → slice_get b.cases job.position ≡ Some c → c.job ≡ job → (x : Bool) → job.exclusive ≡ x
           → (if x then active plan fed.trace == 0 else nat_lt (active plan fed.trace) n) ≡ true
-          → (b.active < b.width) × (b.active ≡ 0 ⊎ IsOrdinary b.cases job.position)
+          → (b.active < b.width) × (b.active ≡ 0 ⊎ HasExclusive b.cases job.position false)
       has_room job c k e true y m =
           let z : active plan fed.trace ≡ 0 = grind (arith, nat_tests, m) in
           let u : b.active ≡ 0 = omega (arith, z, active_is h) in
@@ -61,7 +61,7 @@ module _ {plan : List Job} {n : ℕ} {fed : Fed} {b : SchedState} (h : Stands pl
           absurd (cc (ap is_some (ap (λ (j : Job). j.decided) (same_Some job u.0.job (sym g ∙ u.0.turn)) ∙ u.3), d))
 
   -- what is put next
-  put_at : (rest : List ℕ) → has_failed fed ≡ false → listed b.ready ++ positions (opened plan n fed.trace b.turn) ≡ rest
+  put_at : (rest : List ℕ) → has_failed fed ≡ false → option_to_list b.ready ++ positions (opened plan n fed.trace b.turn) ≡ rest
       → slice_get (recorded plan n fed.trace) fed.stored ≡ slice_get rest 0
   put_at rest f e = slice_get-drop (recorded plan n fed.trace) fed.stored ∙ ap (λ (xs : List ℕ). slice_get xs 0) (h.puts.ready f ∙ e)
 
@@ -92,7 +92,7 @@ module _ {plan : List Job} {n : ℕ} {fed : Fed} {b : SchedState} (h : Stands pl
   job_is i c g t = let l = located h i c.job c.stage g in l.place ∙ ap Some (sym (l.kept t))
 
   -- a case that is to be started isn't taken
-  pub untaken_start : (i : ℕ) (r : Role) → IsSettled b → IsChosen b (next.Start i r) → IsUntaken b.cases i
+  pub untaken_start : (i : ℕ) (r : Role) → IsSettled b → IsChosen b (next.Start i r) → CanLend b.cases i
   untaken_start i Body s c = let u = upcoming h i c.0 s c.2 in (u.0.case, u.0.found, λ x. absurd (cc (u.1, x)))
   untaken_start i Cleanup s c = let w = owes h i c.1 in (record { job = w.0; stage = Owing w.1 }, w.2, λ t. absurd (cc))
 
@@ -159,7 +159,7 @@ module _ {plan : List Job} {n : ℕ} {fed : Fed} {b : SchedState} (h : Stands pl
   -- what is chosen is asked
   pub stands_asked : (q : Next) → IsSettled b → IsChosen b q → Stands plan n fed (record b { asked = q })
   stands_asked q s c =
-      record { cases = h.cases; turn = h.turn; puts = h.puts; told = λ i e d. absurd (not_done q i c e d); asked = asked_for q s c }
+      record { cases = h.cases; turn = h.turn; puts = h.puts; has_record = λ i e d. absurd (not_done q i c e d); asked = asked_for q s c }
 
 -- where a body may begin, a wait isn't due
 busy_not : (plan : List Job) (n : ℕ) (T : Trace) (i : ℕ) → IsPlan plan → MayBegin plan n T i → IsBusy plan n T → ⊥

@@ -12,34 +12,22 @@ pub use Rattle.std.proofs.lemmas.List.Elements.{filter-append}
 pub use Rattle.std.proofs.lemmas.List.Sums.{count_by-le-length, length-filter, sum_by-append, sum_by-cons}
 pub use Rattle.std.proofs.lemmas.Option.{slice_get-map, slice_get_cases, slice_get_read, slice_get_within}
 pub use Rattle.std.specs.List.{list_all, list_any}
-pub use Rattle.std.specs.Option.{option_map}
+pub use Rattle.std.specs.Option.{option_map, option_to_list}
 pub use Rattle.std.specs.Prelude.{⊤}
 pub use Rattle.kt_base.specs.Moments.{IsMoment, IsStorable}
-pub use Rattle.kt_base.specs.Verdicts.{Judged}
-pub use Rattle.kt_base.specs.declared.entry.Entry.{Entry}
-pub use Rattle.kt_base.specs.declared.child.Role.TheVariants.{Body, Cleanup}
+pub use Rattle.kt_sched.specs.Types.{Answer, Body, CaseRecord, Cleaning, Cleanup, Decided, Ended, EndedBody, Entry, Finished, Judged, Owing, Running, SinkFault, Stage, StartAnswer, Taken, Totals, Waiting}
 pub use Rattle.kt_sched.specs.Common.{Case, IsPlan, Job, Next, Role}
 pub use Rattle.kt_sched.specs.Children.{Child, IsEvidence, IsIdle, MayStart, child_of, pending_after_end, pending_after_start, running_after_end, running_after_start, same_role, with_cleanup_declared}
 pub use Rattle.kt_sched.specs.EntryOf.{AreEntries, Gains, IsEntry, IsEntryOf, cleaned, decided, ended, no_output, refused, uncleaned}
 pub use Rattle.kt_sched.specs.Fed.{Fed, IsAnswerTo, has_failed, nothing_fed, role_runs, runs}
-pub use Rattle.kt_sched.specs.History.{BodyEnded, BodyRefused, BodyStarted, CleanupEnded, CleanupRefused, CleanupStarted, Mark, active, end_mark, has_whole_history, history, is_active, is_body_started, is_whole, mark_of, start_mark}
-pub use Rattle.kt_sched.specs.Inner.Answers.{CanCount, after_put, counted, with_event}
-pub use Rattle.kt_sched.specs.Inner.Cases.{Declares, GoneThrough, IsAfter, Replaced, TookEntry, can_start, first_case, first_stage, is_over, owing_at, ready_at, record_of, stage_runs}
+pub use Rattle.kt_sched.specs.History.{BodyEnded, BodyRefused, BodyStarted, CleanupEnded, CleanupRefused, CleanupStarted, Mark, active, end_mark, has_whole_history, history, is_active, is_body_started, is_whole, mark_of}
+pub use Rattle.kt_sched.specs.Inner.Answers.{CanCount, after_put, counted}
+pub use Rattle.kt_sched.specs.Inner.Cases.{Declares, IsAfter, Replaced, TookEntry, can_start, first_case, first_stage, is_over, owing_at, positions_where, ready_at, record_of, stage_runs}
 pub use Rattle.kt_sched.specs.Inner.Choice.{IsChosen, IsHeld, IsTurn}
-pub use Rattle.kt_sched.specs.Moments.{HasMoment}
 pub use Rattle.kt_sched.specs.Next.{AreWhole, Follows, IsNext, IsUpToDate, MayBegin, MayStartNow, WereOpen}
 pub use Rattle.kt_sched.specs.RecordOrder.{Due, ahead, dues, finished_by, is_begun, is_open, put_at, recorded, was_open}
 pub use Rattle.kt_sched.specs.Run.{Counts, FailedPut, FitsAt, NamesEachOnce, Ran}
-pub use Rattle.kt_sched.specs.SchedState.{AreGone, CaseStands, CasesStand, HasDecided, HasExclusive, HasRecord, HasStarted, HasTurn, Implies, IsAsked, IsOrdinary, IsSettled, IsStage, IsStanding, IsUntaken, PutsStand, SchedState, Stands, Takes, TurnStands, after_event, decided_record, decided_record_of, ended_body, entry_with, is_active_stage, is_decided, is_decided_stage, is_fresh, is_owed, is_owing_stage, is_undecided, listed, opened, positions, record_in, stage_work, work, work_left}
-pub use Rattle.kt_sched.specs.ScheduleRules.{AloneAt, AloneAtStart, BusyAt, Each, IsBusy, IsQuiet, Order, PromptAt, WidthAt, declares, owed}
-pub use Rattle.kt_sched.specs.Trace.{End, Event, Leads, NoEvent, Start, Then, Trace, event_count, first, of, position_of}
+pub use Rattle.kt_sched.specs.SchedState.{AreGone, CanLend, CaseStands, CasesStand, HasDecided, HasExclusive, HasRecord, HasTurn, Implies, IsAsked, IsSettled, IsStage, IsStanding, PutsStand, SchedState, Stands, Takes, TurnStands, decided_record, ended_body, entry_with, is_active_stage, is_decided, is_decided_stage, is_fresh, is_owed, is_owing_stage, is_undecided, opened, positions, record_in, stage_work, work}
+pub use Rattle.kt_sched.specs.ScheduleRules.{AloneAt, IsExclusiveAtStart, BusyAt, Each, IsBusy, IsQuiet, Order, PromptAt, WidthAt, declares, owed}
+pub use Rattle.kt_sched.specs.Trace.{End, Event, HasMoment, Leads, NoEvent, Start, Then, Trace, event_count, first, of, position_of}
 pub use Rattle.kt_sched.specs.TurnOrder.{body_start_of, body_starts, next_to_start, turns, undecided_turns}
-pub use Rattle.kt_sched.specs.declared.next.Answer.{Answer}
-pub use Rattle.kt_sched.specs.declared.stage.CaseRecord.{CaseRecord}
-pub use Rattle.kt_sched.specs.declared.job.Ended.{Ended}
-pub use Rattle.kt_sched.specs.declared.stage.EndedBody.{EndedBody}
-pub use Rattle.kt_sched.specs.declared.sink.SinkFault.{SinkFault}
-pub use Rattle.kt_sched.specs.declared.stage.Stage.{Stage}
-pub use Rattle.kt_sched.specs.declared.stage.Stage.TheVariants.{Cleaning, Decided, Finished, Owing, Running, Taken, Waiting}
-pub use Rattle.kt_sched.specs.declared.job.StartAnswer.{StartAnswer}
-pub use Rattle.kt_sched.specs.declared.totals.Totals.{Totals}

@@ -1,5 +1,5 @@
 -- decided cases: which of them are open from a turn on, and which an event opens
-use Rattle.kt_sched.proofs.Common.{ne_eqb, slice_get, filter, take, drop, Some, not, nat_lt, ◌==◌, ◌&&◌, ◌||◌, if◌then◌else◌, ◌≡◌, ◌≢◌, ℕ, zero, suc, ◌+◌, ◌-◌, ◌<◌, ◌≤◌, ◌⊎◌, Bool, true, false, List, [], ◌∷◌, refl, sym, ◌∙◌, ap, arith, inl, inr, and-true, or-false, and_from, and_parts, list_all, list_any, nat_tests, take-append-drop, filter-append, cases_eq, cases_lt, Job, Event, Trace, Then, active, turns, body_starts, is_open, was_open, is_begun, ahead, IsPlan, HasStarted, AreGone, opened, positions, is_decided, is_undecided}
+use Rattle.kt_sched.proofs.Common.{ne_eqb, slice_get, filter, take, drop, Some, not, nat_lt, ◌==◌, ◌&&◌, ◌||◌, if◌then◌else◌, ◌≡◌, ◌≢◌, ℕ, zero, suc, ◌+◌, ◌-◌, ◌<◌, ◌≤◌, ◌⊎◌, Bool, true, false, List, [], ◌∷◌, refl, sym, ◌∙◌, ap, arith, inl, inr, and-true, or-false, and_from, and_parts, list_all, list_any, nat_tests, take-append-drop, filter-append, cases_eq, cases_lt, Job, Event, Trace, Then, active, turns, body_starts, is_open, was_open, is_begun, ahead, IsPlan, AreGone, opened, positions, is_decided, is_undecided}
 use Rattle.kt_sched.proofs.Lists.{any_none, filter_alike, filter_in, filter_none, get_drop, get_take, list_all_at, list_all_from, mapped_at, none_passes, take_within}
 use Rattle.kt_sched.proofs.Turns.{opens_now, turn_distinct, turn_sorted}
 use Rattle.std.proofs.lemmas.Option.{same_Some}
@@ -27,7 +27,7 @@ any_filtered q p [] k x g e f = absurd (cc)
 any_filtered q p (y ∷ ys) zero x g e f = let s : y ≡ x = cc in rw (s, e, f) refl
 any_filtered q p (y ∷ ys) (suc k) x g e f = grind (arith, any_filtered q p ys k x g e f)
 
-module _ {plan : List Job} (T : Trace) (p : ℕ) (h : IsPlan plan) (s : HasStarted plan T p) where
+module _ {plan : List Job} (T : Trace) (p : ℕ) (h : IsPlan plan) (s : body_starts T ≡ positions (filter is_undecided (take p (turns plan)))) where
   -- the cases before the turn are begun
   begun_before : (j : ℕ) (job : Job) → j < p → slice_get (turns plan) j ≡ Some job → is_begun T job ≡ true
   begun_before j job l g =
@@ -81,7 +81,7 @@ module _ {plan : List Job} (T : Trace) (p : ℕ) (h : IsPlan plan) (s : HasStart
       decided (inr q) d a =
           sym (begun_at job g) ∙ list_all_at (is_begun T) (take k (turns plan)) p job (get_take (turns plan) k p (omega (arith, l, q)) ∙ g) a
 
--- the turn goes on over undecided cases alone
+-- the turn goes on only over undecided cases
 abbrev pub GoesOver : List Job → ℕ → ℕ → Type 0
 GoesOver plan p q = (p ≤ q) × ((k : ℕ) (job : Job) → p ≤ k → k < q → slice_get (turns plan) k ≡ Some job → is_decided job ≡ false)
 

@@ -1,5 +1,6 @@
 -- a state after one event more stands for one event more
-use Rattle.kt_sched.proofs.Common.{ne_eqb, Taken, filter, slice_get, count_by, Option, Some, None, ◌≡◌, ◌≢◌, ℕ, ◌+◌, ◌<◌, ◌≤◌, ◌⊎◌, true, false, cond, List, [], ◌∷◌, ◌++◌, length, drop, take, is_none, is_some, refl, sym, ◌∙◌, ap, subst, arith, slice_set, inl, inr, length-append, append-nil, drop-append-le, length-set, map-append, slice_get_within, cases_lt, cases_eq, Job, Stage, Finished, Case, Event, Then, position_of, of, turns, body_starts, body_start_of, recorded, Fed, has_failed, SchedState, Stands, CasesStand, TurnStands, PutsStand, IsStage, IsAfter, Replaced, IsSettled, HasTurn, is_active_stage, is_owing_stage, is_over, Owing, is_owed, is_fresh, is_undecided, HasRecord, owing_at, ready_at, record_in, listed, positions, opened, stage_work, work, after_event, with_event, Trace, HasStarted}
+use Rattle.kt_sched.specs.declared.next.Next.TheVariants as next
+use Rattle.kt_sched.proofs.Common.{ne_eqb, Taken, filter, slice_get, count_by, Option, Some, None, ◌≡◌, ◌≢◌, ℕ, ◌+◌, ◌<◌, ◌≤◌, ◌⊎◌, true, false, cond, List, [], ◌∷◌, ◌++◌, length, drop, take, is_none, is_some, refl, sym, ◌∙◌, ap, subst, arith, slice_set, inl, inr, length-append, append-nil, drop-append-le, length-set, map-append, slice_get_within, cases_lt, cases_eq, Job, Stage, Finished, Case, Event, Then, position_of, of, turns, body_starts, body_start_of, recorded, Fed, has_failed, SchedState, Stands, CasesStand, TurnStands, PutsStand, IsStage, IsAfter, Replaced, IsSettled, HasTurn, is_active_stage, is_owing_stage, is_over, Owing, is_owed, is_fresh, is_undecided, HasRecord, owing_at, ready_at, record_in, positions, opened, stage_work, work, Trace, option_to_list}
 use Rattle.kt_sched.proofs.Lists.{cond_le, cond_one, cond_zero, pick, count_by-set, counted_one, sum_by-set, take_filter}
 use Rattle.kt_sched.proofs.Turns.{of_same, of_other, opens_now, recorded_more, finished_is}
 use Rattle.kt_sched.proofs.Stages.{fresh_inactive, says, undecided_stage, Moves, moves, owed_moves, stage_moves}
@@ -12,7 +13,7 @@ use Rattle.kt_base.proofs.Lists.{same_number}
 
 -- the turn after an event is past its case, and goes over no other
 pub record Turning (plan : List Job) (T : Trace) (b : SchedState) (i : ℕ) (e : Event) (t : ℕ) : Type 0 where
-  pub starts : HasStarted plan (Then T e) t
+  pub starts : body_starts (Then T e) ≡ positions (filter is_undecided (take t (turns plan)))
   pub over : GoesOver plan b.turn t
   pub within : t ≤ length b.order
   pub here : (k : ℕ) → slice_get b.order k ≡ Some i → k < t
@@ -38,9 +39,13 @@ pub record EventStep (plan : List Job) (n : ℕ) (fed : Fed) (b : SchedState) (e
   pub active : a + cond (is_active_stage was) 1 0 ≡ b.active + cond (is_active_stage now) 1 0
   pub asked : AskedFor b e
 
+-- the state after an event: these cases, this turn, so many active, what is owed and what is ready
+abbrev pub after_event : SchedState → List Case → ℕ → ℕ → Option ℕ → Option ℕ → SchedState
+after_event b cases turn active pending ready = record b { cases = cases; turn = turn; active = active; pending = pending; ready = ready; asked = next.Done }
+
 -- a state after one event more, with less work
 pub record After (plan : List Job) (n : ℕ) (fed : Fed) (b : SchedState) (e : Event) (later : SchedState) : Type 0 where
-  pub stands : Stands plan n (with_event fed e) later
+  pub stands : Stands plan n (record fed { trace = Then fed.trace e }) later
   pub less : work later.cases < work b.cases
 
 owing_is : (stage : Stage) (i : ℕ) → is_owing_stage stage ≡ is_owed (owing_at stage i) i
@@ -204,10 +209,10 @@ module _ {plan : List Job} {n : ℕ} {fed : Fed} {b : SchedState} {e : Event} {c
   readied : (k : ℕ) → ready_at now b.failed i ≡ Some k → (k ≡ i) × (is_over now ≡ true)
   readied k y = (grind (arith, y), grind (arith, y))
 
-  told : (k : ℕ) → k ≡ i → (x : _) × (now ≡ Finished x) → HasRecord later k
-  told k q x = (new, x.0, ap (slice_get later) q ∙ found, ap (record_in s.moved.job) x.1)
+  has_record : (k : ℕ) → k ≡ i → (x : _) × (now ≡ Finished x) → HasRecord later k
+  has_record k q x = (new, x.0, ap (slice_get later) q ∙ found, ap (record_in s.moved.job) x.1)
 
-  puts_step : PutsStand plan n (with_event fed e) b.order t (ready_at now b.failed i) b.failed
+  puts_step : PutsStand plan n (record fed { trace = Then fed.trace e }) b.order t (ready_at now b.failed i) b.failed
   puts_step = record {
     failed = h.puts.failed;
     stopped = λ f. grind (arith, f);
@@ -222,11 +227,11 @@ module _ {plan : List Job} {n : ℕ} {fed : Fed} {b : SchedState} {e : Event} {c
     ripe = λ k m x o. turning.here m (o ∙ ap Some (readied k x).0);
   }
     where
-      own : b.failed ≡ false → pick (is_over now) i [] ≡ listed (ready_at now b.failed i)
+      own : b.failed ≡ false → pick (is_over now) i [] ≡ option_to_list (ready_at now b.failed i)
       own f = grind (arith, f)
 
       ready : has_failed fed ≡ false → drop fed.stored (recorded plan n (Then fed.trace e))
-          ≡ listed (ready_at now b.failed i) ++ positions (opened plan n (Then fed.trace e) t)
+          ≡ option_to_list (ready_at now b.failed i) ++ positions (opened plan n (Then fed.trace e) t)
       ready f =
           let xs = recorded plan n fed.trace in
           let ys = positions (filter (opens_now plan n fed.trace e) (turns plan)) in
@@ -234,7 +239,7 @@ module _ {plan : List Job} {n : ℕ} {fed : Fed} {b : SchedState} {e : Event} {c
           ap (drop fed.stored) more
           ∙ (drop-append-le fed.stored xs (pick (is_over now) i [] ++ ys) h.puts.stored
           ∙ rw (nothing, own (h.puts.failed ∙ f))
-          (ap (λ (jobs : List Job). listed (ready_at now b.failed i) ++ positions jobs) (newly_open e turning.over (h.puts.gone f) (none f))))
+          (ap (λ (jobs : List Job). option_to_list (ready_at now b.failed i) ++ positions jobs) (newly_open e turning.over (h.puts.gone f) (none f))))
 
   pub event_taken : After plan n fed b e (after_event b cs t a (owing_at now i) (ready_at now b.failed i))
   event_taken = subst (λ (xs : List Case). After plan n fed b e (after_event b xs t a (owing_at now i) (ready_at now b.failed i)))
@@ -243,7 +248,7 @@ module _ {plan : List Job} {n : ℕ} {fed : Fed} {b : SchedState} {e : Event} {c
           cases = cases_step;
           turn = turn_step;
           puts = puts_step;
-          told = λ k x y. let w = readied k x in told k w.0 (m.told w.1);
+          has_record = λ k x y. let w = readied k x in has_record k w.0 (m.has_record w.1);
           asked = tt;
         };
         less = omega (arith, sum_by-set (λ (c : Case). stage_work c.stage) b.cases i _ new s.moved.found, m.works);

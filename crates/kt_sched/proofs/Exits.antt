@@ -1,9 +1,8 @@
 -- how a run ends
 use Rattle.kt_sched.proofs.Common.{Result, Option, Some, None, is_some, Ok, Err, ◌≡◌, ℕ, Bool, if◌then◌else◌, List, [], refl, append-nil, take, sym, ◌∙◌, ap, subst, arith, Job, SinkFault, Totals, Implies, IsIdle, IsPlan, AreEntries, Each, BusyAt, Trace, recorded, body_starts, Fed, IsNext, Follows, Ran, NoEvent, SchedState}
 use Rattle.kt_sched.specs.Run.{EndsAs}
-use Rattle.kt_sched.specs.declared.run_fault.RunFault.{RunFault}
+use Rattle.kt_sched.specs.Types.{NoMemory, RunFault, SinkFailed}
 use Rattle.kt_base.specs.declared.no_memory.NoMemory.{NoMemory as Refusal}
-use Rattle.kt_sched.specs.declared.run_fault.RunFault.TheVariants.{NoMemory, SinkFailed}
 use Rattle.kt_sched.specs.declared.next.Next.TheVariants as next
 use Rattle.kt_sched.specs.declared.launcher.Launcher as launcher
 use Rattle.kt_sched.specs.declared.sink.Sink as sink

@@ -2,7 +2,7 @@
 use Rattle.kt_base.specs.Kinds.{good as is_good}
 use Rattle.kt_sched.specs.declared.sink.Sink as sink
 use Rattle.kt_sched.specs.EntryOf as recorded
-use Rattle.kt_sched.proofs.Common.{slice_get, filter, Option, Some, None, map, Result, Ok, is_some, not, ◌≡◌, ◌≢◌, ℕ, ◌≤◌, ◌⊎◌, false, List, [], ◌∷◌, ◌++◌, length, take, refl, sym, ◌∙◌, ap, subst, arith, length-append, inl, inr, length-map, map-append, take-append-le, cases_eq, slice_get_within, Entry, Job, SinkFault, Totals, Event, Trace, Then, position_of, event_count, mark_of, history, is_whole, turns, Due, dues, put_at, finished_by, recorded, IsEntry, Gains, IsEntryOf, AreEntries, IsPlan, Fed, has_failed, with_event, IsUpToDate, counted, FailedPut, Counts, if◌then◌else◌, true, cases_lt, of, Mark, BodyStarted, BodyRefused, BodyEnded, CleanupStarted, CleanupRefused, CleanupEnded, has_whole_history, AreWhole, WereOpen, NamesEachOnce, list_all, ◌==◌, Bool, ⊤, Start, End, NoEvent, Each, IsMoment, IsStorable, HasMoment, FitsAt}
+use Rattle.kt_sched.proofs.Common.{slice_get, filter, Option, Some, None, map, Result, Ok, is_some, not, ◌≡◌, ◌≢◌, ℕ, ◌≤◌, ◌⊎◌, false, List, [], ◌∷◌, ◌++◌, length, take, refl, sym, ◌∙◌, ap, subst, arith, length-append, inl, inr, length-map, map-append, take-append-le, cases_eq, slice_get_within, Entry, Job, SinkFault, Totals, Event, Trace, Then, position_of, event_count, mark_of, history, is_whole, turns, Due, dues, put_at, finished_by, recorded, IsEntry, Gains, IsEntryOf, AreEntries, IsPlan, Fed, has_failed, IsUpToDate, counted, FailedPut, Counts, if◌then◌else◌, true, cases_lt, of, Mark, BodyStarted, BodyRefused, BodyEnded, CleanupStarted, CleanupRefused, CleanupEnded, has_whole_history, AreWhole, WereOpen, NamesEachOnce, list_all, ◌==◌, Bool, ⊤, Start, End, NoEvent, Each, IsMoment, IsStorable, HasMoment, FitsAt}
 use Rattle.kt_sched.proofs.Lists.{in_append, append_left, count-cons, count_by-append, mapped_at, none_past, list_all_at, within_some}
 use Rattle.kt_sched.proofs.Turns.{of_other, opens_now}
 use Rattle.kt_sched.proofs.Once.{NotWhole, Recorded, recorded_event, is_done, names_once}
@@ -82,7 +82,7 @@ module _ {S : Type 0} {s : sink.Ghosts S} {plan : List Job} {n : ℕ} {fed : Fed
     (g : Gained s plan n fed totals fault before mid) where
   -- after an event that comes where all is stored
   pub gained_event : (ev : Event) → IsPlan plan → fed.stored ≤ length (recorded plan n fed.trace) → (has_failed fed ≡ false → IsUpToDate plan n fed)
-      → NotWhole plan fed.trace (position_of ev) → Gained s plan n (with_event fed ev) totals fault before mid
+      → NotWhole plan fed.trace (position_of ev) → Gained s plan n (record fed { trace = Then fed.trace ev }) totals fault before mid
   gained_event ev p within z h =
       let T = fed.trace in
       let xs = recorded plan n T in
@@ -100,7 +100,7 @@ module _ {S : Type 0} {s : sink.Ghosts S} {plan : List Job} {n : ℕ} {fed : Fed
       }
     where
       by : (fault : Option SinkFault) → GainsUpTo s.puts plan n fed g.gained fault before mid
-          → GainsUpTo s.puts plan n (with_event fed ev) g.gained fault before mid
+          → GainsUpTo s.puts plan n (record fed { trace = Then fed.trace ev }) g.gained fault before mid
       by None w =
           let k = event_count (Then fed.trace ev) in
           let xs = finished_by plan fed.trace ev in

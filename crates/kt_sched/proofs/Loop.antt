@@ -1,6 +1,6 @@
 -- the run loop: what holds before each turn, and how each answer keeps it
 use Rattle.kt_base.specs.Kinds.{good as is_good}
-use Rattle.kt_sched.proofs.Common.{Bool, option_map, Option, Some, None, is_some, not, Ok, Err, ◌^◌, ◌≡◌, ◌<◌, ℕ, ◌+◌, ◌-◌, true, false, if◌then◌else◌, ◌==◌, List, [], ◌∷◌, ◌++◌, refl, append-nil, append_assoc, length-append, count_by-le-length, false_from_ne_true, filter, take, length, slice_get, slice_get_within, sym, ◌∙◌, ap, subst, arith, Role, Body, Cleanup, Entry, Job, StartAnswer, Ended, SinkFault, Totals, Child, IsEvidence, IsIdle, IsMoment, HasMoment, MayStart, IsPlan, IsEntryOf, AreEntries, IsStorable, Start, End, Each, FitsAt, Trace, event_count, owed, is_owed, history, is_whole, runs, turns, recorded, Due, dues, is_open, running_after_start, running_after_end, pending_after_start, pending_after_end, child_of, CanCount, counted, FailedPut, Fed, after_put, with_event, nothing_fed, IsNext, Follows, NoEvent, Case, Implies, SchedState, Stands, Takes, stage_runs}
+use Rattle.kt_sched.proofs.Common.{Bool, option_map, Option, Some, None, is_some, not, Ok, Err, ◌^◌, ◌≡◌, ◌<◌, ℕ, ◌+◌, ◌-◌, true, false, if◌then◌else◌, ◌==◌, List, [], ◌∷◌, ◌++◌, refl, append-nil, append_assoc, length-append, count_by-le-length, false_from_ne_true, filter, take, length, slice_get, slice_get_within, sym, ◌∙◌, ap, subst, arith, Role, Body, Cleanup, Entry, Job, StartAnswer, Ended, SinkFault, Totals, Child, IsEvidence, IsIdle, IsMoment, HasMoment, MayStart, IsPlan, IsEntryOf, AreEntries, IsStorable, Start, End, Each, FitsAt, Trace, event_count, owed, is_owed, history, is_whole, runs, turns, recorded, Due, dues, is_open, running_after_start, running_after_end, pending_after_start, pending_after_end, child_of, CanCount, counted, FailedPut, Fed, after_put, nothing_fed, IsNext, Follows, NoEvent, Case, Implies, SchedState, Stands, Takes, stage_runs, Then}
 use Rattle.kt_sched.specs.declared.next.Next.TheVariants as next
 use Rattle.kt_sched.specs.declared.launcher.Launcher as launcher
 use Rattle.kt_sched.specs.declared.sink.Sink as sink
@@ -101,7 +101,7 @@ module _ {L S : Type 0} {l : launcher.Ghosts L} {s : sink.Ghosts S} {plan : List
         → ((k : ℕ) → l.pending new k ≡ pending_after_start (l.pending mid) job.position role k) → Takes b (Start i role a) later
         → Loop l s plan n old before later new after totals fault
     loop_start a new later w m u v z = record {
-      fed = with_event fed (Start i role a);
+      fed = record fed { trace = Then fed.trace (Start i role a) };
       stands = z.stands plan n fed (y plan n fed k.stands);
       going = record {
         leads = (mid, job, k.going.leads, place, w);
@@ -137,7 +137,7 @@ module _ {L S : Type 0} {l : launcher.Ghosts L} {s : sink.Ghosts S} {plan : List
         → ((k : ℕ) → l.pending new k ≡ pending_after_end (l.running mid) (l.pending mid) e k)
         → Takes b (End e) later → Loop l s plan n old before later new after totals fault
     loop_end new later wait v m u o z = let ran = while_runs e.role (history e.position T) one.0 in let x = wait plan n fed k.stands in record {
-      fed = with_event fed (End e);
+      fed = record fed { trace = Then fed.trace (End e) };
       stands = z.stands plan n fed (y plan n fed k.stands);
       going = record {
         leads = (mid, k.going.leads, v);

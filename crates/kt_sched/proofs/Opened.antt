@@ -1,5 +1,5 @@
 -- a decided case becomes ready, and an answer to a put
-use Rattle.kt_sched.proofs.Common.{◌==◌, ◌<◌, nat_lt, nat_tests, if◌then◌else◌, not, slice_get, Option, Some, None, filter, is_some, ◌≡◌, ℕ, ◌+◌, after_put, Bool, true, false, List, ◌∷◌, refl, sym, ◌∙◌, ap, subst, arith, inl, inr, append-nil, cases_eq, Judged, Job, Stage, Decided, Case, CaseRecord, of, active, turns, is_open, Fed, has_failed, SchedState, Stands, IsStage, HasRecord, HasTurn, HasDecided, AreGone, is_decided, is_undecided, decided_record_of, decided_record, record_in, positions, opened, slice_get_within, ◌≤◌, ◌++◌, length, drop, recorded, listed}
+use Rattle.kt_sched.proofs.Common.{◌==◌, ◌<◌, nat_lt, nat_tests, if◌then◌else◌, not, slice_get, Option, Some, None, filter, is_some, ◌≡◌, ℕ, ◌+◌, after_put, Bool, true, false, List, ◌∷◌, refl, sym, ◌∙◌, ap, subst, arith, inl, inr, append-nil, cases_eq, Judged, Job, Stage, Decided, Case, CaseRecord, of, active, turns, is_open, Fed, has_failed, SchedState, Stands, IsStage, HasRecord, HasTurn, HasDecided, AreGone, is_decided, is_undecided, decided_record, record_in, positions, opened, slice_get_within, ◌≤◌, ◌++◌, length, drop, recorded, option_to_list, option_map}
 use Rattle.kt_sched.specs.declared.next.Next.TheVariants as next
 use Rattle.kt_sched.proofs.Lists.{slice_get-drop, drop_at, take_filter}
 use Rattle.kt_sched.proofs.Stages.{decided_stage}
@@ -8,7 +8,7 @@ use Rattle.kt_sched.proofs.Upcoming.{exclusive_needs_none}
 use Rattle.kt_sched.proofs.Decided.{open_here}
 use Rattle.std.proofs.lemmas.Option.{same_Some}
 
-record_there : (o : Option Judged) → is_some o ≡ true → (t : CaseRecord) × (decided_record_of o ≡ Some t)
+record_there : (o : Option Judged) → is_some o ≡ true → (t : CaseRecord) × (option_map decided_record o ≡ Some t)
 record_there None e = absurd (cc)
 record_there (Some v) e = (decided_record v, refl)
 
@@ -29,10 +29,10 @@ module _ {plan : List Job} {n : ℕ} {fed : Fed} {b : SchedState} {i : ℕ} (h :
       let m = room_at (active plan fed.trace) n a.job.exclusive l (λ e. active_is h ∙ exclusive_needs_none h t.1 a.place t.3 e) in
       (z, s.1, open_here fed.trace b.turn h.cases.is_plan h.turn.starts n a.job a.turn s.1 m)
 
-  pub told_now : HasRecord b.cases i
-  told_now =
+  pub record_now : HasRecord b.cases i
+  record_now =
       let t = record_there a.job.decided ripe.1 in
-      (a.case, t.0, a.found, ap (record_in a.case.job) ripe.0 ∙ (ap (λ (j : Job). decided_record_of j.decided) a.kept ∙ t.1))
+      (a.case, t.0, a.found, ap (record_in a.case.job) ripe.0 ∙ (ap (λ (j : Job). option_map decided_record j.decided) a.kept ∙ t.1))
 
   gone_now : has_failed fed ≡ false → AreGone plan n fed.trace (b.turn + 1)
   gone_now f = record {
@@ -72,7 +72,7 @@ module _ {plan : List Job} {n : ℕ} {fed : Fed} {b : SchedState} {i : ℕ} (h :
       ready = λ f. h.puts.ready f ∙ (rw e (ap positions run ∙ ap (λ k. k ∷ positions (opened plan n fed.trace (b.turn + 1))) a.at));
       ripe = λ j m x o. let q = one_place h m b.turn i (o ∙ sym x) t.1 in omega (arith, q);
     };
-    told = λ j x y. subst (HasRecord b.cases) (same_Some i j x) told_now;
+    has_record = λ j x y. subst (HasRecord b.cases) (same_Some i j x) record_now;
     asked = tt;
   }
     where
@@ -86,7 +86,7 @@ put h i q true = record {
   cases = h.cases;
   turn = h.turn;
   puts = record { failed = refl; stopped = λ g. refl; stored = h.puts.stored; gone = λ g. absurd (cc); ready = λ g. absurd (cc); ripe = λ k m x. absurd (cc) };
-  told = λ k x y. absurd (cc);
+  has_record = λ k x y. absurd (cc);
   asked = tt;
 }
 put {plan} {n} {fed} {b} h i q false =
@@ -94,7 +94,7 @@ put {plan} {n} {fed} {b} h i q false =
     let f : false ≡ has_failed fed = sym a.0 ∙ h.puts.failed in
     let xs = recorded plan n fed.trace in
     let ys = positions (opened plan n fed.trace b.turn) in
-    let w = h.puts.ready (sym f) ∙ ap (λ o. listed o ++ ys) a.1 in
+    let w = h.puts.ready (sym f) ∙ ap (λ o. option_to_list o ++ ys) a.1 in
     let g = slice_get-drop xs fed.stored ∙ ap (λ (zs : List ℕ). slice_get zs 0) w in
     let e : drop (fed.stored + 1) xs ≡ ys = cc (sym (drop_at xs fed.stored i g) ∙ w) in
     let l : fed.stored + 1 ≤ length xs = omega (arith, slice_get_within xs fed.stored i g) in
@@ -102,6 +102,6 @@ put {plan} {n} {fed} {b} h i q false =
       cases = h.cases;
       turn = h.turn;
       puts = record { failed = f; stopped = λ g. refl; stored = l; gone = h.puts.gone; ready = λ g. e; ripe = λ k m x o. absurd (cc) };
-      told = λ k x y. absurd (cc);
+      has_record = λ k x y. absurd (cc);
       asked = tt;
     }

@@ -1,6 +1,6 @@
 -- what runs and what is owed after a trace, as a launcher shows it, and the rules that a trace keeps
-use Rattle.kt_sched.proofs.Common.{is_some, IfSome, append-nil, ◌≤◌, arith, nat_tests, MayStart, HasMoment, NoEvent, Leads, first, event_count, body_starts, body_start_of, Each, WidthAt, AloneAt, PromptAt, BusyAt, Fed, FitsAt, has_failed, IsUpToDate, MayStartNow, pending_after_start, slice_get, Option, Some, None, if◌then◌else◌, ◌&&◌, ◌≡◌, ◌≢◌, ℕ, ◌==◌, Bool, true, false, List, [], ◌∷◌, ◌++◌, refl, sym, ◌∙◌, ap, subst, option_map, Role, Body, Cleanup, Job, StartAnswer, Ended, Child, child_of, same_role, running_after_start, running_after_end, pending_after_end, with_cleanup_declared, Event, Start, End, Trace, Then, position_of, Mark, BodyStarted, BodyEnded, CleanupStarted, mark_of, end_mark, start_mark, history, owed, declares, is_owed, role_runs, runs}
-use Rattle.kt_sched.specs.declared.job.StartAnswer.TheVariants as told
+use Rattle.kt_sched.proofs.Common.{is_some, IfSome, append-nil, ◌≤◌, arith, nat_tests, MayStart, HasMoment, NoEvent, Leads, first, event_count, body_starts, body_start_of, Each, WidthAt, AloneAt, PromptAt, BusyAt, Fed, FitsAt, has_failed, IsUpToDate, MayStartNow, pending_after_start, slice_get, Option, Some, None, if◌then◌else◌, ◌&&◌, ◌≡◌, ◌≢◌, ℕ, ◌==◌, Bool, true, false, List, [], ◌∷◌, ◌++◌, refl, sym, ◌∙◌, ap, subst, option_map, Role, Body, Cleanup, Job, StartAnswer, Ended, Child, child_of, same_role, running_after_start, running_after_end, pending_after_end, with_cleanup_declared, Event, Start, End, Trace, Then, position_of, Mark, BodyStarted, BodyEnded, CleanupStarted, mark_of, end_mark, history, owed, declares, is_owed, role_runs, runs}
+use Rattle.kt_sched.specs.declared.job.StartAnswer.TheVariants as start
 use Rattle.kt_sched.specs.declared.launcher.Launcher as launcher
 use Rattle.kt_sched.proofs.Turns.{history_same, history_other}
 
@@ -50,22 +50,22 @@ module _ (plan : List Job) (T : Trace) (running : ℕ → Role → Option Child)
 
   module _ (i : ℕ) (job : Job) (role r : Role) (g : slice_get plan i ≡ Some job) (p : job.position ≡ i) (w : history i T ≡ history_before role) where
     pub start_runs : (a : StartAnswer) (k : ℕ) → running_after_start running job role a k r ≡ running_of plan (Then T (Start i role a)) k r
-    start_runs (told.Started m) k =
+    start_runs (start.Started m) k =
         ap (λ j. if k == j && same_role r role then Some (child_of job) else running k r) p
-        ∙ changed (Start i role (told.Started m)) role r k (Some (child_of job)) (starts role r (h i r ∙ runs_now plan T i r (history_before role) w)
-        ∙ sym (runs_same plan T (Start i role (told.Started m)) r (history_before role) w))
+        ∙ changed (Start i role (start.Started m)) role r k (Some (child_of job)) (starts role r (h i r ∙ runs_now plan T i r (history_before role) w)
+        ∙ sym (runs_same plan T (Start i role (start.Started m)) r (history_before role) w))
       where
         starts : (role r : Role) → running i r ≡ runs_by plan i r (history_before role)
-            → (if same_role r role then Some (child_of job) else running i r) ≡ runs_by plan i r (history_before role ++ start_mark role (told.Started m) ∷ [])
+            → (if same_role r role then Some (child_of job) else running i r) ≡ runs_by plan i r (history_before role ++ mark_of (Start i role (start.Started m)) ∷ [])
         starts Body Body e = sym (ap (option_map child_of) g)
         starts Cleanup Cleanup e = sym (ap (option_map child_of) g)
         starts role r e = e
-    start_runs (told.Refused c) k = grind (arith, nat_tests, here, h k r, runs_other plan T e k r)
+    start_runs (start.Refused c) k = grind (arith, nat_tests, here, h k r, runs_other plan T e k r)
       where
         e : Event
-        e = Start i role (told.Refused c)
+        e = Start i role (start.Refused c)
 
-        starts_not : (role r : Role) → runs_by plan i r (history_before role) ≡ runs_by plan i r (history_before role ++ start_mark role (told.Refused c) ∷ [])
+        starts_not : (role r : Role) → runs_by plan i r (history_before role) ≡ runs_by plan i r (history_before role ++ mark_of (Start i role (start.Refused c)) ∷ [])
         starts_not Body Body = refl
         starts_not Cleanup Cleanup = refl
         starts_not role r = refl

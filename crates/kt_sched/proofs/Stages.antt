@@ -1,6 +1,6 @@
 -- what a stage says of its case's history, and how it moves on by an event
 use Rattle.kt_sched.proofs.Common.{false_from_ne_true, and_right, not, None, is_none, is_some, map, not, ◌&&◌, ◌≡◌, ◌≢◌, ℕ, Bool, true, false, List, [], ◌∷◌, refl, sym, ◌∙◌, ap, list_any, Role, Body, Cleanup, Job, Stage, Waiting, Decided, Running, Owing, Cleaning, Finished, Taken, EndedBody, Event, Mark, BodyStarted, BodyEnded, CleanupStarted, mark_of, is_whole, is_body_started, role_runs, stage_runs, IsStage, is_over, is_active_stage, is_owing_stage, is_fresh, is_decided_stage, slice_get, Some, ◌<◌, ◌⊎◌, ◌-◌, ◌++◌, subst, arith, inl, inr, and_from, CleanupRefused, end_mark, CaseRecord, ended_body, Start, End, Trace, Then, position_of, body_start_of, no_output, IsEntry, ended, refused, uncleaned, cleaned, IsAfter, declares, owed, owing_at, entry_with, record_of, stage_work}
-use Rattle.kt_sched.specs.declared.job.StartAnswer.TheVariants as told
+use Rattle.kt_sched.specs.declared.job.StartAnswer.TheVariants as start
 
 abbrev pub marks_active : Job → List Mark → Bool
 marks_active job w = list_any is_body_started w && not (is_whole job w)
@@ -97,24 +97,24 @@ pub record Moves (was : Stage) (e : Event) (now : Stage) : Type 0 where
   pub fresh : is_over was ≡ false
   pub works : stage_work now < stage_work was
   pub begins : is_fresh now ≡ false
-  pub told : is_over now ≡ true → (t : CaseRecord) × (now ≡ Finished t)
+  pub has_record : is_over now ≡ true → (t : CaseRecord) × (now ≡ Finished t)
   pub kind : ((is_fresh was ≡ true) × (body_start_of e ≡ position_of e ∷ [])) ⊎ ((is_active_stage was ≡ true) × (body_start_of e ≡ []))
 
 pub moves : (cleanup : Bool) (was : Stage) (e : Event) (now : Stage) → IsAfter cleanup was e now → Moves was e now
-moves c Waiting (Start i Body (told.Started m)) (Running k) h =
-    record { fresh = refl; works = omega arith; begins = refl; told = λ y. absurd (cc); kind = inl (refl, refl) }
-moves c Waiting (Start i Body (told.Refused x)) (Finished t) h =
-    record { fresh = refl; works = omega arith; begins = refl; told = λ y. (t, refl); kind = inl (refl, refl) }
-moves c (Owing b) (Start i Cleanup (told.Started m)) (Cleaning x) h =
-    record { fresh = refl; works = omega arith; begins = refl; told = λ y. absurd (cc); kind = inr (refl, refl) }
-moves c (Owing b) (Start i Cleanup (told.Refused x)) (Finished t) h =
-    record { fresh = refl; works = omega arith; begins = refl; told = λ y. (t, refl); kind = inr (refl, refl) }
+moves c Waiting (Start i Body (start.Started m)) (Running k) h =
+    record { fresh = refl; works = omega arith; begins = refl; has_record = λ y. absurd (cc); kind = inl (refl, refl) }
+moves c Waiting (Start i Body (start.Refused x)) (Finished t) h =
+    record { fresh = refl; works = omega arith; begins = refl; has_record = λ y. (t, refl); kind = inl (refl, refl) }
+moves c (Owing b) (Start i Cleanup (start.Started m)) (Cleaning x) h =
+    record { fresh = refl; works = omega arith; begins = refl; has_record = λ y. absurd (cc); kind = inr (refl, refl) }
+moves c (Owing b) (Start i Cleanup (start.Refused x)) (Finished t) h =
+    record { fresh = refl; works = omega arith; begins = refl; has_record = λ y. (t, refl); kind = inr (refl, refl) }
 moves c (Running m) (End e) (Owing b) h =
-    record { fresh = refl; works = omega arith; begins = refl; told = λ y. absurd (cc); kind = inr (refl, refl) }
+    record { fresh = refl; works = omega arith; begins = refl; has_record = λ y. absurd (cc); kind = inr (refl, refl) }
 moves c (Running m) (End e) (Finished t) h =
-    record { fresh = refl; works = omega arith; begins = refl; told = λ y. (t, refl); kind = inr (refl, refl) }
+    record { fresh = refl; works = omega arith; begins = refl; has_record = λ y. (t, refl); kind = inr (refl, refl) }
 moves c (Cleaning b) (End e) (Finished t) h =
-    record { fresh = refl; works = omega arith; begins = refl; told = λ y. (t, refl); kind = inr (refl, refl) }
+    record { fresh = refl; works = omega arith; begins = refl; has_record = λ y. (t, refl); kind = inr (refl, refl) }
 moves c was e now h = absurd h
 
 body_runs : (r : Role) (m : ℕ) → stage_runs r (Running m) ≡ true → r ≡ Body
@@ -128,10 +128,10 @@ cleanup_runs Cleanup b h = refl
 -- what is owed after an event is what its case owes
 pub owed_moves : (plan : List Job) (T : Trace) (job : Job) (was : Stage) (e : Event) (now : Stage) → slice_get plan (position_of e) ≡ Some job
     → IsAfter job.cleanup was e now → owed plan (Then T e) ≡ owing_at now (position_of e)
-owed_moves plan T job Waiting (Start i Body (told.Started m)) (Running k) g h = refl
-owed_moves plan T job Waiting (Start i Body (told.Refused x)) (Finished t) g h = refl
-owed_moves plan T job (Owing b) (Start i Cleanup (told.Started m)) (Cleaning x) g h = refl
-owed_moves plan T job (Owing b) (Start i Cleanup (told.Refused x)) (Finished t) g h = refl
+owed_moves plan T job Waiting (Start i Body (start.Started m)) (Running k) g h = refl
+owed_moves plan T job Waiting (Start i Body (start.Refused x)) (Finished t) g h = refl
+owed_moves plan T job (Owing b) (Start i Cleanup (start.Started m)) (Cleaning x) g h = refl
+owed_moves plan T job (Owing b) (Start i Cleanup (start.Refused x)) (Finished t) g h = refl
 owed_moves plan T job (Running m) (End e) (Owing b) g h = rw (body_runs e.role m h.0, g, declares, h.1) refl
 owed_moves plan T job (Running m) (End e) (Finished t) g h = rw (body_runs e.role m h.0, g, declares, h.1) refl
 owed_moves plan T job (Cleaning b) (End e) (Finished t) g h = rw (cleanup_runs e.role b h.0) refl
@@ -143,14 +143,14 @@ entry_as {job} {es} e = subst (λ x. IsEntry job es (entry_with job x)) (sym e)
 -- and the stage stands for one event more
 pub stage_moves : (job : Job) (was : Stage) (e : Event) (now : Stage) (es : List Event) → IsStage (position_of e) job was es → IsAfter job.cleanup was e now
     → IsStage (position_of e) job now (es ++ e ∷ [])
-stage_moves job Waiting (Start i Body (told.Started m)) (Running k) es s h = (rw (s.0, h) refl, s.1)
-stage_moves job Waiting (Start i Body (told.Refused c)) (Finished t) es s h =
+stage_moves job Waiting (Start i Body (start.Started m)) (Running k) es s h = (rw (s.0, h) refl, s.1)
+stage_moves job Waiting (Start i Body (start.Refused c)) (Finished t) es s h =
     rw s.0 (ap is_none s.1, entry_as h.1 (refused i c t.verdict h.0))
-stage_moves job (Owing b) (Start i Cleanup (told.Started m)) (Cleaning x) es s h =
-    let e = Start i Cleanup (told.Started m) in
+stage_moves job (Owing b) (Start i Cleanup (start.Started m)) (Cleaning x) es s h =
+    let e = Start i Cleanup (start.Started m) in
     subst (λ (y : EndedBody). IsStage i job (Cleaning y) (es ++ e ∷ [])) (sym h)
     (s.0, m, ap (λ (es : List Event). es ++ e ∷ []) s.1, s.2, s.3, s.4, s.5, s.6)
-stage_moves job (Owing b) (Start i Cleanup (told.Refused c)) (Finished t) es s h =
+stage_moves job (Owing b) (Start i Cleanup (start.Refused c)) (Finished t) es s h =
     let of_end = λ (x : EndedBody). record_of t.verdict (record { started = b.started; ended = x.ended; verdict = x.verdict; output = x.output })
     x.ended no_output in
     rw s.1 (
@@ -159,7 +159,7 @@ stage_moves job (Owing b) (Start i Cleanup (told.Refused c)) (Finished t) es s h
     )
 stage_moves job (Running m) (End e) (Owing b) es s h =
     let same : m ≡ b.started = ap (λ (y : EndedBody). y.started) (sym h.3) in
-    let ends = ap (λ (es : List Event). es ++ End e ∷ []) s.0 ∙ ap (λ y. Start e.position Body (told.Started y) ∷ End e ∷ []) same in
+    let ends = ap (λ (es : List Event). es ++ End e ∷ []) s.0 ∙ ap (λ y. Start e.position Body (start.Started y) ∷ End e ∷ []) same in
     (e, ends, body_runs e.role m h.0, h.1, h.2, h.3 ∙ ap (λ y. ended_body b.verdict y e) same, s.1)
 stage_moves job (Running m) (End e) (Finished t) es s h =
     rw s.0 (

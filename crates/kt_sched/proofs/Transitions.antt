@@ -1,11 +1,11 @@
 -- the answers of a launcher, each of which the state takes
-use Rattle.kt_sched.proofs.Common.{ne_eqb, ◌≢◌, slice_get, length, Option, Some, None, ◌≡◌, ℕ, ◌+◌, ◌<◌, Bool, true, false, cond, List, refl, sym, ◌∙◌, ap, subst, arith, length-set, slice_get_within, Next, Role, Body, Cleanup, Ended, StartAnswer, Stage, Waiting, Owing, Taken, Case, same_role, Event, Start, End, Job, Fed, body_start_of, stage_runs, SchedState, Stands, IsAfter, IsStanding, Takes, Replaced, Declares, can_start, owing_at, ready_at, is_active_stage, is_over, is_owed, after_event}
+use Rattle.kt_sched.proofs.Common.{ne_eqb, ◌≢◌, slice_get, length, Option, Some, None, ◌≡◌, ℕ, ◌+◌, ◌<◌, Bool, true, false, cond, List, refl, sym, ◌∙◌, ap, subst, arith, length-set, slice_get_within, Next, Role, Body, Cleanup, Ended, StartAnswer, Stage, Waiting, Owing, Taken, Case, same_role, Event, Start, End, Job, Fed, body_start_of, stage_runs, SchedState, Stands, IsAfter, IsStanding, Takes, Replaced, Declares, can_start, owing_at, ready_at, is_active_stage, is_over, is_owed}
 use Rattle.kt_sched.specs.declared.next.Next.TheVariants as next
 use Rattle.kt_sched.proofs.Lists.{cond_one}
 use Rattle.kt_sched.proofs.Stages.{runs_active, moves}
 use Rattle.kt_sched.proofs.Located.{asked_as, located, owes, replaced_twice, some_active}
 use Rattle.kt_sched.proofs.Upcoming.{upcoming}
-use Rattle.kt_sched.proofs.EventSteps.{After, AskedFor, OwedBy, event_taken}
+use Rattle.kt_sched.proofs.EventSteps.{After, AskedFor, OwedBy, after_event, event_taken}
 use Rattle.std.proofs.lemmas.Option.{same_Some}
 
 -- a case that can be started, and counted

@@ -1,11 +1,6 @@
 -- Which children of a launcher run, and which cleanups are pending.
 use Rattle.std.specs.Prelude.{ℕ, Bool, true, false, ◌==◌, ◌&&◌, ◌≡◌, Option, Some, None, ⊤, if◌then◌else◌}
-use Rattle.kt_base.specs.declared.child.Role.{Role}
-use Rattle.kt_base.specs.declared.child.Role.TheVariants.{Body, Cleanup}
-use Rattle.kt_sched.specs.declared.job.Job.{Job}
-use Rattle.kt_sched.specs.declared.job.StartAnswer.{StartAnswer}
-use Rattle.kt_sched.specs.declared.job.StartAnswer.TheVariants.{Started, Refused}
-use Rattle.kt_sched.specs.declared.job.Ended.{Ended}
+use Rattle.kt_sched.specs.Types.{Body, Cleanup, Ended, Job, Refused, Role, StartAnswer, Started}
 use Rattle.kt_base.specs.declared.child.Interface.{Interface}
 use Rattle.kt_base.specs.declared.child.Interface.TheVariants as interface
 use Rattle.kt_claim.specs.declared.evidence.Evidence.{Evidence}
@@ -31,9 +26,8 @@ IsEvidence kind role other = ⊥
 -- whether two roles are the same
 abbrev pub same_role : Role → Role → Bool
 same_role Body Body = true
-same_role Body Cleanup = false
-same_role Cleanup Body = false
 same_role Cleanup Cleanup = true
+same_role one other = false
 
 -- a body starts if its case neither runs nor is pending, a cleanup if its case is pending
 abbrev pub MayStart : (ℕ → Role → Option Child) → (ℕ → Bool) → ℕ → Role → Type 0

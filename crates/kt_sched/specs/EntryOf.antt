@@ -1,16 +1,9 @@
 -- The entry of a case, from its job and its own events.
 use Rattle.std.specs.Prelude.{ℕ, true, List, [], ◌∷◌, ◌≡◌, ◌-◌, Some, Result, Ok, slice_get, ⊤}
-use Rattle.kt_base.specs.declared.child.Role.TheVariants.{Body, Cleanup}
-use Rattle.kt_base.specs.Verdicts.{Judged}
-use Rattle.kt_base.specs.declared.entry.Output.{Output}
-use Rattle.kt_base.specs.declared.entry.Entry.{Entry}
+use Rattle.kt_sched.specs.Types.{Body, Cleanup, Ended, Entry, Job, Judged, Output, Refused, SinkFault, Started}
 use Rattle.kt_base.specs.declared.child.Refused.{Refused as Cause}
 use Rattle.kt_status.specs.declared.cleanup_end.CleanupEnd.TheVariants as cleanup
 use Rattle.kt_status.specs.Tables.{IsVerdict, IsVerdictOfRefusal, IsVerdictAfter}
-use Rattle.kt_sched.specs.declared.job.Job.{Job}
-use Rattle.kt_sched.specs.declared.job.StartAnswer.TheVariants.{Started, Refused}
-use Rattle.kt_sched.specs.declared.job.Ended.{Ended}
-use Rattle.kt_sched.specs.declared.sink.SinkFault.{SinkFault}
 use Rattle.kt_sched.specs.Trace.{Event, Start, End, Trace, of}
 use Rattle.kt_sched.specs.History.{history, is_whole}
 
@@ -32,7 +25,7 @@ entry job verdict started millis body cleanup = record {
   meta = job.meta;
 }
 
--- the entry of a case, from its job and its own events alone
+-- the entry of a case, only from its job and its own events
 pub data IsEntry (job : Job) : List Event → Entry → Type 0 where
   decided : (v : Judged) → job.decided ≡ Some v → IsEntry job [] (entry job v 0 0 no_output no_output)
   refused : (i : ℕ) (cause : Cause) (v : Judged) → IsVerdictOfRefusal cause v
@@ -62,5 +55,4 @@ pub record IsEntryOf (plan : List Job) (T : Trace) (i : ℕ) (entry : Entry) : T
 abbrev pub AreEntries : List Job → Trace → List ℕ → List Entry → Type 0
 AreEntries plan T [] [] = ⊤
 AreEntries plan T (p ∷ ps) (e ∷ es) = IsEntryOf plan T p e × AreEntries plan T ps es
-AreEntries plan T [] (e ∷ es) = ⊥
-AreEntries plan T (p ∷ ps) [] = ⊥
+AreEntries plan T ps es = ⊥

@@ -1,9 +1,7 @@
 -- The words of faults, as their lines have them.
 use Rattle.std.specs.Prelude.{ℕ, List, codes}
-use Rattle.kt_sched.specs.declared.sink.SinkFault.{SinkFault}
+use Rattle.kt_sched.specs.Types.{NoMemory, RunFault, SinkFailed, SinkFault}
 use Rattle.kt_sched.specs.declared.sink.SinkFault.TheVariants.{Memory, Other}
-use Rattle.kt_sched.specs.declared.run_fault.RunFault.{RunFault}
-use Rattle.kt_sched.specs.declared.run_fault.RunFault.TheVariants.{NoMemory, SinkFailed}
 
 -- why an entry was not put
 abbrev pub sink_words : SinkFault → List ℕ

@@ -1,11 +1,7 @@
 -- The answers that a scheduler got so far, and those that it may get next.
 use Rattle.std.specs.Prelude.{ℕ, Bool, true, false, List, [], ◌∷◌, ◌≡◌, ◌+◌, Option, Some, None, is_some, ⊤}
-use Rattle.kt_base.specs.declared.child.Role.{Role}
-use Rattle.kt_base.specs.declared.child.Role.TheVariants.{Body, Cleanup}
-use Rattle.kt_sched.specs.declared.job.StartAnswer.TheVariants as told
-use Rattle.kt_sched.specs.declared.next.Next.{Next}
+use Rattle.kt_sched.specs.Types.{Answer, Body, Cleanup, Next, Refused, Role, Started}
 use Rattle.kt_sched.specs.declared.next.Next.TheVariants as next
-use Rattle.kt_sched.specs.declared.next.Answer.{Answer}
 use Rattle.kt_sched.specs.declared.next.Answer.TheVariants as answer
 use Rattle.kt_sched.specs.Trace.{Start, End, Trace, NoEvent, Then, event_count}
 use Rattle.kt_sched.specs.History.{Mark, BodyStarted, BodyEnded, CleanupStarted, history}
@@ -26,8 +22,8 @@ has_failed fed = is_some fed.stopped
 
 -- one more answer, to what was asked
 abbrev pub fed_after : Fed → Next → Answer → Fed
-fed_after fed (next.Start i role) (answer.Started moment) = record fed { trace = Then fed.trace (Start i role (told.Started moment)) }
-fed_after fed (next.Start i role) (answer.Refused cause) = record fed { trace = Then fed.trace (Start i role (told.Refused cause)) }
+fed_after fed (next.Start i role) (answer.Started moment) = record fed { trace = Then fed.trace (Start i role (Started moment)) }
+fed_after fed (next.Start i role) (answer.Refused cause) = record fed { trace = Then fed.trace (Start i role (Refused cause)) }
 fed_after fed next.Wait (answer.Ended ended) = record fed { trace = Then fed.trace (End ended) }
 fed_after fed (next.Put i) answer.Stored = record fed { stored = fed.stored + 1 }
 fed_after fed (next.Put i) answer.StoreFailed = record fed { stopped = Some (event_count fed.trace) }

@@ -1,11 +1,7 @@
 -- Histories: what the events of one case say, and which of them are whole.
 use Rattle.std.specs.Prelude.{ℕ, Bool, true, false, List, [], ◌∷◌, ◌&&◌, not, map, count_by, is_some, is_none}
 use Rattle.std.specs.List.{list_any}
-use Rattle.kt_base.specs.declared.child.Role.{Role}
-use Rattle.kt_base.specs.declared.child.Role.TheVariants.{Body, Cleanup}
-use Rattle.kt_sched.specs.declared.job.Job.{Job}
-use Rattle.kt_sched.specs.declared.job.StartAnswer.{StartAnswer}
-use Rattle.kt_sched.specs.declared.job.StartAnswer.TheVariants.{Started, Refused}
+use Rattle.kt_sched.specs.Types.{Body, Cleanup, Job, Refused, Role, Started}
 use Rattle.kt_sched.specs.Trace.{Event, Start, End, Trace, of}
 
 -- what an event says of its case
@@ -17,13 +13,6 @@ pub data Mark : Type 0 where
   CleanupRefused : Mark
   CleanupEnded : Mark
 
--- what the answer to a start says
-abbrev pub start_mark : Role → StartAnswer → Mark
-start_mark Body (Started moment) = BodyStarted
-start_mark Body (Refused cause) = BodyRefused
-start_mark Cleanup (Started moment) = CleanupStarted
-start_mark Cleanup (Refused cause) = CleanupRefused
-
 -- what a child's end says
 abbrev pub end_mark : Role → Mark
 end_mark Body = BodyEnded
@@ -31,7 +20,10 @@ end_mark Cleanup = CleanupEnded
 
 -- what an event says
 abbrev pub mark_of : Event → Mark
-mark_of (Start i role answer) = start_mark role answer
+mark_of (Start i Body (Started moment)) = BodyStarted
+mark_of (Start i Body (Refused cause)) = BodyRefused
+mark_of (Start i Cleanup (Started moment)) = CleanupStarted
+mark_of (Start i Cleanup (Refused cause)) = CleanupRefused
 mark_of (End ended) = end_mark ended.role
 
 -- the history of the case at a position
@@ -50,11 +42,7 @@ is_whole job other = false
 -- whether a body was started
 abbrev pub is_body_started : Mark → Bool
 is_body_started BodyStarted = true
-is_body_started BodyRefused = false
-is_body_started BodyEnded = false
-is_body_started CleanupStarted = false
-is_body_started CleanupRefused = false
-is_body_started CleanupEnded = false
+is_body_started other = false
 
 -- whether a case's history is whole
 abbrev pub has_whole_history : Trace → Job → Bool

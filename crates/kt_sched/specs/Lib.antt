@@ -1,6 +1,5 @@
 pub mod Common
 pub mod Plan
-pub mod Moments
 pub mod Children
 pub mod Trace
 pub mod History
@@ -14,3 +13,4 @@ pub mod Next
 pub mod SchedState
 pub mod Inner
 pub mod Run
+pub mod Types

@@ -1,15 +1,12 @@
 -- What is to be done next.
 use Rattle.std.specs.Prelude.{ℕ, true, false, List, [], ◌∷◌, ◌≡◌, ◌<◌, ◌⊎◌, Some, None, slice_get, is_some, ⊤}
 use Rattle.std.specs.List.{list_all}
-use Rattle.kt_base.specs.declared.child.Role.{Role}
-use Rattle.kt_base.specs.declared.child.Role.TheVariants.{Body, Cleanup}
-use Rattle.kt_sched.specs.declared.job.Job.{Job}
-use Rattle.kt_sched.specs.declared.next.Next.{Next}
+use Rattle.kt_sched.specs.Types.{Body, Cleanup, Job, Next, Role}
 use Rattle.kt_sched.specs.declared.next.Next.TheVariants as next
 use Rattle.kt_sched.specs.Trace.{Trace, of}
 use Rattle.kt_sched.specs.History.{BodyStarted, BodyEnded, history, is_whole, has_whole_history, active}
 use Rattle.kt_sched.specs.TurnOrder.{next_to_start}
-use Rattle.kt_sched.specs.ScheduleRules.{owed, IsBusy, AloneAtStart}
+use Rattle.kt_sched.specs.ScheduleRules.{owed, IsBusy, IsExclusiveAtStart}
 use Rattle.kt_sched.specs.RecordOrder.{recorded, was_open}
 use Rattle.kt_sched.specs.Fed.{Fed, has_failed, runs}
 
@@ -23,7 +20,7 @@ pub record MayBegin (plan : List Job) (n : ℕ) (T : Trace) (i : ℕ) : Type 0 w
   pub next : next_to_start plan T ≡ Some job
   pub place : job.position ≡ i
   pub room : active plan T < n
-  pub alone : AloneAtStart plan T i Body
+  pub alone : IsExclusiveAtStart plan T i Body
 
 -- what is to be done after these answers: the first that holds; after a failed put nothing is put and no body started
 abbrev pub IsNext : List Job → ℕ → Fed → Next → Type 0
@@ -43,7 +40,7 @@ pub record MayStartNow (plan : List Job) (T : Trace) (i : ℕ) (role : Role) : T
   pub job : Job
   pub place : slice_get plan i ≡ Some job
   pub unfinished : is_whole job (history i T) ≡ false
-  pub alone : AloneAtStart plan T i role
+  pub alone : IsExclusiveAtStart plan T i role
 
 -- each case that has an event has a whole history
 abbrev pub AreWhole : List Job → Trace → Type 0

@@ -1,8 +1,8 @@
 -- Plans: one job a case, each at its position.
 use Rattle.std.specs.Prelude.{ℕ, List, true, ◌≡◌, ◌≤◌, Some, slice_get}
+use Rattle.kt_sched.specs.Types.{Job}
 use Rattle.kt_base.specs.Limits.{longest_timeout, largest_width}
 use Rattle.kt_base.specs.declared.child.Interface.TheVariants.{Atf}
-use Rattle.kt_sched.specs.declared.job.Job.{Job}
 
 -- a job that can be started: its time is limited, and only an ATF case declares a cleanup
 pub record IsFit (job : Job) : Type 0 where

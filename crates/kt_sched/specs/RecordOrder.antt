@@ -1,7 +1,7 @@
 -- The record order: when each case is due to be put.
 use Rattle.std.specs.Prelude.{ℕ, Bool, List, [], ◌∷◌, ◌++◌, ◌==◌, ◌&&◌, ◌||◌, nat_lt, not, map, filter, is_some, is_none, if◌then◌else◌}
 use Rattle.std.specs.List.{list_any, list_all}
-use Rattle.kt_sched.specs.declared.job.Job.{Job}
+use Rattle.kt_sched.specs.Types.{Job}
 use Rattle.kt_sched.specs.Trace.{Event, Trace, NoEvent, Then, position_of, event_count}
 use Rattle.kt_sched.specs.History.{has_whole_history, active}
 use Rattle.kt_sched.specs.TurnOrder.{body_starts, turns}

@@ -1,21 +1,15 @@
 -- What a run did to its launcher and its sink.
 use Rattle.std.specs.Prelude.{ℕ, List, [], ◌++◌, ◌==◌, ◌≡◌, ◌<◌, ◌≤◌, Result, Ok, Err, slice_get, Some, length, take, count_by, not}
-use Rattle.kt_base.specs.declared.entry.Entry.{Entry}
+use Rattle.kt_sched.specs.Types.{Entry, Job, NoMemory, RunFault, SinkFailed, SinkFault, Totals}
 use Rattle.kt_base.specs.Kinds.{good as is_good}
-use Rattle.kt_sched.specs.declared.job.Job.{Job}
 use Rattle.kt_sched.specs.declared.launcher.Launcher as launcher
 use Rattle.kt_sched.specs.declared.sink.Sink as sink
-use Rattle.kt_sched.specs.declared.sink.SinkFault.{SinkFault}
-use Rattle.kt_sched.specs.declared.totals.Totals.{Totals}
-use Rattle.kt_sched.specs.declared.run_fault.RunFault.{RunFault}
-use Rattle.kt_sched.specs.declared.run_fault.RunFault.TheVariants.{NoMemory, SinkFailed}
-use Rattle.kt_sched.specs.Trace.{Event, Start, End, Trace, NoEvent, Leads, of}
+use Rattle.kt_sched.specs.Trace.{Event, Start, End, HasMoment, Trace, NoEvent, Leads, of}
 use Rattle.kt_sched.specs.ScheduleRules.{Each, Legal, Stopped}
 use Rattle.kt_sched.specs.RecordOrder.{Due, dues, recorded}
 use Rattle.kt_sched.specs.EntryOf.{Gains, IsEntryOf, AreEntries}
 use Rattle.kt_sched.specs.Children.{IsEvidence}
 use Rattle.kt_base.specs.Moments.{IsMoment}
-use Rattle.kt_sched.specs.Moments.{HasMoment}
 
 -- the moment lies in the range, and the evidence is of the job's interface
 abbrev pub FitsAt : List Job → Trace → Event → Type 0

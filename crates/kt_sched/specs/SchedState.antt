@@ -1,19 +1,8 @@
 -- The scheduler's state, and what it stands for.
 use Rattle.std.specs.Prelude.{ℕ, Bool, true, false, List, [], ◌∷◌, ◌++◌, ◌==◌, ◌≡◌, ◌≢◌, ◌<◌, ◌≤◌, ◌⊎◌, Option, Some, None, map, take, drop, filter, count_by, sum_by, length, slice_get, is_some, is_none, ⊤}
-use Rattle.kt_base.specs.declared.child.Role.TheVariants.{Body, Cleanup}
-use Rattle.kt_base.specs.Verdicts.{Judged}
-use Rattle.kt_base.specs.declared.entry.Entry.{Entry}
-use Rattle.kt_sched.specs.declared.job.Job.{Job}
-use Rattle.kt_sched.specs.declared.job.StartAnswer.TheVariants as told
-use Rattle.kt_sched.specs.declared.job.Ended.{Ended}
-use Rattle.kt_sched.specs.declared.next.Next.{Next}
+use Rattle.std.specs.Option.{option_map, option_to_list}
+use Rattle.kt_sched.specs.Types.{Answer, Body, Case, CaseRecord, Cleaning, Cleanup, Decided, Ended, EndedBody, Entry, Finished, Job, Judged, Next, Owing, Running, Stage, Started, Taken, Waiting}
 use Rattle.kt_sched.specs.declared.next.Next.TheVariants as next
-use Rattle.kt_sched.specs.declared.next.Answer.{Answer}
-use Rattle.kt_sched.specs.declared.stage.Stage.{Stage}
-use Rattle.kt_sched.specs.declared.stage.Stage.TheVariants.{Waiting, Decided, Running, Owing, Cleaning, Finished, Taken}
-use Rattle.kt_sched.specs.declared.stage.Case.{Case}
-use Rattle.kt_sched.specs.declared.stage.CaseRecord.{CaseRecord}
-use Rattle.kt_sched.specs.declared.stage.EndedBody.{EndedBody}
 use Rattle.kt_status.specs.Tables.{IsVerdict}
 use Rattle.kt_sched.specs.Trace.{Event, Start, End, Trace, Then, of}
 use Rattle.kt_sched.specs.History.{mark_of, is_whole}
@@ -74,15 +63,10 @@ Works next.Done old new = ⊤
 abbrev pub decided_record : Judged → CaseRecord
 decided_record verdict = record { verdict = verdict; started = 0; millis = 0; body = no_output; cleanup = no_output }
 
--- the record of a case with a decided verdict, if it has one
-abbrev pub decided_record_of : Option Judged → Option CaseRecord
-decided_record_of None = None
-decided_record_of (Some verdict) = Some (decided_record verdict)
-
 -- the record of a case that is over or decided
 abbrev pub record_in : Job → Stage → Option CaseRecord
 record_in job (Finished t) = Some t
-record_in job Decided = decided_record_of job.decided
+record_in job Decided = option_map decided_record job.decided
 record_in job _ = None
 
 -- the entry of a job with this record
@@ -97,12 +81,12 @@ ended_body verdict started e = record { started = started; ended = e.moment; ver
 abbrev pub IsStage : ℕ → Job → Stage → List Event → Type 0
 IsStage i job Waiting es = (es ≡ []) × (job.decided ≡ None)
 IsStage i job Decided es = (es ≡ []) × (is_some job.decided ≡ true)
-IsStage i job (Running m) es = (es ≡ Start i Body (told.Started m) ∷ []) × (job.decided ≡ None)
+IsStage i job (Running m) es = (es ≡ Start i Body (Started m) ∷ []) × (job.decided ≡ None)
 IsStage i job (Owing b) es =
-    (e : Ended) × (es ≡ Start i Body (told.Started b.started) ∷ End e ∷ []) × (e.role ≡ Body) × (job.cleanup ≡ true)
+    (e : Ended) × (es ≡ Start i Body (Started b.started) ∷ End e ∷ []) × (e.role ≡ Body) × (job.cleanup ≡ true)
     × IsVerdict e.evidence e.outcome b.verdict × (b ≡ ended_body b.verdict b.started e) × (job.decided ≡ None)
 IsStage i job (Cleaning b) es =
-    (e : Ended) × (m : ℕ) × (es ≡ Start i Body (told.Started b.started) ∷ End e ∷ Start i Cleanup (told.Started m) ∷ []) × (e.role ≡ Body) × (job.cleanup ≡ true)
+    (e : Ended) × (m : ℕ) × (es ≡ Start i Body (Started b.started) ∷ End e ∷ Start i Cleanup (Started m) ∷ []) × (e.role ≡ Body) × (job.cleanup ≡ true)
     × IsVerdict e.evidence e.outcome b.verdict × (b ≡ ended_body b.verdict b.started e) × (job.decided ≡ None)
 IsStage i job (Finished t) es = (is_whole job (map mark_of es) ≡ true) × IsEntry job es (entry_with job t)
 IsStage i job Taken es = is_whole job (map mark_of es) ≡ true
@@ -114,18 +98,9 @@ pub record CaseStands (T : Trace) (i : ℕ) (job : Job) (cases : List Case) : Ty
   pub stage : IsStage i job case.stage (of i T)
   pub kept : case.stage ≢ Taken → case.job ≡ job
 
--- the position that is ready, as a list
-abbrev pub listed : Option ℕ → List ℕ
-listed None = []
-listed (Some i) = i ∷ []
-
 -- whether a case is exclusive
 abbrev pub HasExclusive : List Case → ℕ → Bool → Type 0
 HasExclusive cases i flag = (c : Case) × (slice_get cases i ≡ Some c) × (c.job.exclusive ≡ flag)
-
--- a case that isn't exclusive
-abbrev pub IsOrdinary : List Case → ℕ → Type 0
-IsOrdinary cases i = HasExclusive cases i false
 
 -- whether a case that waits for its turn is decided
 abbrev pub is_decided_stage : Stage → Bool
@@ -139,7 +114,7 @@ HasDecided cases i flag = (c : Case) × (slice_get cases i ≡ Some c) × (is_de
 -- the case that has its turn, if no put failed and there is room for it: fewer cases are active than the width, and none is if this one is
 -- exclusive
 abbrev pub HasTurn : SchedState → ℕ → Type 0
-HasTurn b i = (b.failed ≡ false) × (slice_get b.order b.turn ≡ Some i) × (b.active < b.width) × (b.active ≡ 0 ⊎ IsOrdinary b.cases i)
+HasTurn b i = (b.failed ≡ false) × (slice_get b.order b.turn ≡ Some i) × (b.active < b.width) × (b.active ≡ 0 ⊎ HasExclusive b.cases i false)
 
 -- no decided case can be put
 abbrev pub IsSettled : SchedState → Type 0
@@ -157,21 +132,9 @@ IsAsked b next.Done = ⊤
 abbrev pub HasRecord : List Case → ℕ → Type 0
 HasRecord cases i = (c : Case) × (t : CaseRecord) × (slice_get cases i ≡ Some c) × (record_in c.job c.stage ≡ Some t)
 
--- a case that is not yet taken
-abbrev pub IsUntaken : List Case → ℕ → Type 0
-IsUntaken cases i = (c : Case) × (slice_get cases i ≡ Some c) × (c.stage ≢ Taken)
-
--- how many answers may still be taken
-abbrev pub work_left : SchedState → ℕ
-work_left b = work b.cases
-
--- the entry of this case can be taken
-abbrev pub HoldsEntry : SchedState → ℕ → Type 0
-HoldsEntry b i = HasRecord b.cases i
-
--- the job of this case can be lent
-abbrev pub CanLend : SchedState → ℕ → Type 0
-CanLend b i = IsUntaken b.cases i
+-- the job of this case can be lent: it is not yet taken
+abbrev pub CanLend : List Case → ℕ → Type 0
+CanLend cases i = (c : Case) × (slice_get cases i ≡ Some c) × (c.stage ≢ Taken)
 
 -- the verdict is decided
 abbrev pub is_decided : Job → Bool
@@ -189,10 +152,6 @@ opened plan n T turn = filter (is_open plan n T) (drop turn (turns plan))
 abbrev pub positions : List Job → List ℕ
 positions jobs = map (λ (job : Job). job.position) jobs
 
--- the bodies that were started are the undecided ones before a turn
-abbrev pub HasStarted : List Job → Trace → ℕ → Type 0
-HasStarted plan T turn = body_starts T ≡ positions (filter is_undecided (take turn (turns plan)))
-
 -- the decided cases before a turn had their due, those from there on have it now or not yet
 pub record AreGone (plan : List Job) (n : ℕ) (T : Trace) (turn : ℕ) : Type 0 where
   pub gone : (k : ℕ) (job : Job) → k < turn → slice_get (turns plan) k ≡ Some job → is_decided job ≡ true → was_open plan n T job ≡ true
@@ -208,7 +167,7 @@ abbrev pub is_owed : Option ℕ → ℕ → Bool
 is_owed None k = false
 is_owed (Some i) k = k == i
 
--- how the cases stand for a trace, and what is owed: so many of them are active, no more than the width, and one alone if one of these is
+-- how the cases stand for a trace, and what is owed: so many of them are active, no more than the width, and only one if one of these is
 -- exclusive
 pub record CasesStand (plan : List Job) (n : ℕ) (T : Trace) (cases : List Case) (a width : ℕ) (pending : Option ℕ) : Type 0 where
   pub is_plan : IsPlan plan
@@ -224,11 +183,11 @@ pub record CasesStand (plan : List Job) (n : ℕ) (T : Trace) (cases : List Case
   pub owing : (k : ℕ) (c : Case) → slice_get cases k ≡ Some c → is_owing_stage c.stage ≡ is_owed pending k
   pub owed_within : (k : ℕ) → pending ≡ Some k → k < length cases
 
--- how a turn stands for a trace: the cases from it on weren't begun
+-- how a turn stands for a trace: the bodies that were started are the undecided ones before it, and the cases from it on weren't begun
 pub record TurnStands (plan : List Job) (T : Trace) (cases : List Case) (order : List ℕ) (turn : ℕ) : Type 0 where
   pub walk : order ≡ positions (turns plan)
   pub within : turn ≤ length order
-  pub starts : HasStarted plan T turn
+  pub starts : body_starts T ≡ positions (filter is_undecided (take turn (turns plan)))
   pub met : (k i : ℕ) (c : Case) → slice_get order k ≡ Some i → slice_get cases i ≡ Some c
       → (turn ≤ k → is_fresh c.stage ≡ true) × (k < turn → c.stage ≢ Waiting)
 
@@ -238,7 +197,7 @@ pub record PutsStand (plan : List Job) (n : ℕ) (fed : Fed) (order : List ℕ) 
   pub stopped : stop ≡ true → next ≡ None
   pub stored : fed.stored ≤ length (recorded plan n fed.trace)
   pub gone : has_failed fed ≡ false → AreGone plan n fed.trace turn
-  pub ready : has_failed fed ≡ false → drop fed.stored (recorded plan n fed.trace) ≡ listed next ++ positions (opened plan n fed.trace turn)
+  pub ready : has_failed fed ≡ false → drop fed.stored (recorded plan n fed.trace) ≡ option_to_list next ++ positions (opened plan n fed.trace turn)
   pub ripe : (i m : ℕ) → next ≡ Some i → slice_get order m ≡ Some i → m < turn
 
 -- the state stands for a plan, a width and the answers fed so far
@@ -246,16 +205,12 @@ pub record Stands (plan : List Job) (n : ℕ) (fed : Fed) (b : SchedState) : Typ
   pub cases : CasesStand plan n fed.trace b.cases b.active b.width b.pending
   pub turn : TurnStands plan fed.trace b.cases b.order b.turn
   pub puts : PutsStand plan n fed b.order b.turn b.ready b.failed
-  pub told : (i : ℕ) → b.ready ≡ Some i → b.asked ≡ next.Done → HasRecord b.cases i
+  pub has_record : (i : ℕ) → b.ready ≡ Some i → b.asked ≡ next.Done → HasRecord b.cases i
   pub asked : IsAsked b b.asked
 
 -- what holds of each plan, width and answers that the state stands for
 abbrev pub Implies : SchedState → (List Job → ℕ → Fed → Type 0) → Type 0
 Implies b P = (plan : List Job) (n : ℕ) (fed : Fed) → Stands plan n fed b → P plan n fed
-
--- the state after an event: these cases, this turn, so many active, what is owed and what is ready
-abbrev pub after_event : SchedState → List Case → ℕ → ℕ → Option ℕ → Option ℕ → SchedState
-after_event b cases turn active pending ready = record b { cases = cases; turn = turn; active = active; pending = pending; ready = ready; asked = next.Done }
 
 -- the state stands for some plan, width and answers
 abbrev pub IsStanding : SchedState → Type 0
@@ -268,5 +223,5 @@ IsAnswer b answer = (plan : List Job) × (n : ℕ) × (fed : Fed) × Stands plan
 -- an event leads the scheduler from the first state to the second: it stands for one event more, and has less work left
 pub record Takes (old : SchedState) (e : Event) (new : SchedState) : Type 0 where
   pub stands : Implies old (λ plan n fed. Stands plan n (record fed { trace = Then fed.trace e }) new)
-  pub less : work_left new < work_left old
+  pub less : work new.cases < work old.cases
   pub asked : new.asked ≡ next.Done

@@ -1,9 +1,7 @@
 -- The rules of the schedule, as facts on each event and the events before it.
 use Rattle.std.specs.Prelude.{ℕ, Bool, true, false, List, [], ◌&&◌, ◌||◌, ◌≡◌, ◌<◌, ◌⊎◌, Option, Some, None, map, take, length, slice_get, IfSome, MatchOption, if◌then◌else◌, ⊤}
 use Rattle.std.specs.List.{list_all}
-use Rattle.kt_base.specs.declared.child.Role.{Role}
-use Rattle.kt_base.specs.declared.child.Role.TheVariants.{Body, Cleanup}
-use Rattle.kt_sched.specs.declared.job.Job.{Job}
+use Rattle.kt_sched.specs.Types.{Body, Cleanup, Job, Role}
 use Rattle.kt_sched.specs.Children.{same_role}
 use Rattle.kt_sched.specs.Trace.{Event, Start, End, Trace, NoEvent, Then, of, first}
 use Rattle.kt_sched.specs.History.{has_whole_history, is_active, active}
@@ -21,8 +19,7 @@ Order plan T = body_starts T ≡ map (λ job. job.position) (take (length (body_
 -- a body starts only while fewer than n cases are active
 abbrev pub WidthAt : List Job → ℕ → Trace → Event → Type 0
 WidthAt plan n T (Start i Body answer) = active plan T < n
-WidthAt plan n T (Start i Cleanup answer) = ⊤
-WidthAt plan n T (End ended) = ⊤
+WidthAt plan n T other = ⊤
 
 -- no case is active and every ordinary history is whole
 abbrev pub IsQuiet : List Job → Trace → Type 0
@@ -30,13 +27,13 @@ IsQuiet plan T = (active plan T ≡ 0) × (list_all (λ (job : Job). job.exclusi
 
 -- a start after some events: an exclusive body starts only where all is quiet, and while an exclusive case is active only its own
 -- cleanup starts
-pub record AloneAtStart (plan : List Job) (T : Trace) (i : ℕ) (role : Role) : Type 0 where
+pub record IsExclusiveAtStart (plan : List Job) (T : Trace) (i : ℕ) (role : Role) : Type 0 where
   pub quiet : (job : Job) → slice_get plan i ≡ Some job → job.exclusive ≡ true → role ≡ Body → IsQuiet plan T
   pub own : (job : Job) (k : ℕ) → slice_get plan k ≡ Some job → job.exclusive ≡ true → is_active T job ≡ true → (k ≡ i) × (role ≡ Cleanup)
 
 -- the rule for an event: a start keeps this, and an end is free
 abbrev pub AloneAt : List Job → Trace → Event → Type 0
-AloneAt plan T (Start i role answer) = AloneAtStart plan T i role
+AloneAt plan T (Start i role answer) = IsExclusiveAtStart plan T i role
 AloneAt plan T (End ended) = ⊤
 
 -- whether the case at a position declares a cleanup

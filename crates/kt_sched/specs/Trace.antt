@@ -1,14 +1,17 @@
 -- Traces: the answers of a launcher, one after the other.
-use Rattle.std.specs.Prelude.{ℕ, List, [], ◌∷◌, ◌++◌, ◌==◌, ◌≡◌, ◌+◌, Some, slice_get, nat_le, if◌then◌else◌}
-use Rattle.kt_base.specs.declared.child.Role.{Role}
-use Rattle.kt_sched.specs.declared.job.Job.{Job}
-use Rattle.kt_sched.specs.declared.job.StartAnswer.{StartAnswer}
-use Rattle.kt_sched.specs.declared.job.Ended.{Ended}
+use Rattle.std.specs.Prelude.{ℕ, List, [], ◌∷◌, ◌++◌, ◌==◌, ◌≡◌, ◌+◌, ⊤, Some, slice_get, nat_le, if◌then◌else◌}
+use Rattle.kt_sched.specs.Types.{Ended, Job, Refused, Role, StartAnswer, Started}
+use Rattle.kt_base.specs.Moments.{IsMoment}
 
 -- one answer of a launcher
 pub data Event : Type 0 where
   Start : (position : ℕ) (role : Role) (answer : StartAnswer) → Event
   End : (ended : Ended) → Event
+
+-- the moment of a start, if there is one
+abbrev pub HasMoment : StartAnswer → Type 0
+HasMoment (Started moment) = IsMoment moment
+HasMoment (Refused cause) = ⊤
 
 -- a launcher's answers, one after the other
 pub data Trace : Type 0 where

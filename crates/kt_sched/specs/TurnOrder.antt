@@ -1,14 +1,12 @@
 -- The turn order, and the bodies that were started.
 use Rattle.std.specs.Prelude.{ℕ, List, [], ◌∷◌, ◌++◌, not, filter, length, Option, slice_get, is_none}
-use Rattle.kt_base.specs.declared.child.Role.TheVariants.{Body, Cleanup}
-use Rattle.kt_sched.specs.declared.job.Job.{Job}
-use Rattle.kt_sched.specs.Trace.{Event, Start, End, Trace, NoEvent, Then}
+use Rattle.kt_sched.specs.Types.{Body, Job}
+use Rattle.kt_sched.specs.Trace.{Event, Start, Trace, NoEvent, Then}
 
 -- the position of a body's start, if the event is one
 abbrev pub body_start_of : Event → List ℕ
 body_start_of (Start i Body answer) = i ∷ []
-body_start_of (Start i Cleanup answer) = []
-body_start_of (End ended) = []
+body_start_of other = []
 
 -- the positions of the body starts, in order
 abbrev pub body_starts : Trace → List ℕ

@@ -10,7 +10,7 @@ pub trait Launcher {
     ghost use Rattle.kt_sched.specs.declared.job.Ended.{Ended};
     ghost use Rattle.kt_sched.specs.Children.{Child, MayStart, IsEvidence, running_after_start, running_after_end, pending_after_start, pending_after_end};
     ghost use Rattle.kt_base.specs.Moments.{IsMoment};
-    ghost use Rattle.kt_sched.specs.Moments.{HasMoment};
+    ghost use Rattle.kt_sched.specs.Trace.{HasMoment};
     ghost use Rattle.kt_sched.specs.Plan.{IsFit};
 
     /// What is known of the running child of a position in a role, if there is one.

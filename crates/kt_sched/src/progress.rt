@@ -11,16 +11,16 @@ use kt_base::Role;
 use std::alloc::Global;
 
 /// The stage of a case after the answer to a start.
-pub fn after_start(alloc: Global, was: Stage, role: Role, told: StartAnswer) -> Stage
+pub fn after_start(alloc: Global, was: Stage, role: Role, answer: StartAnswer) -> Stage
     requires { can_start role was ≡ true }
-    ensures { (i : ℕ) (cleanup : Bool) → IsAfter cleanup was (Start i role told) result }
+    ensures { (i : ℕ) (cleanup : Bool) → IsAfter cleanup was (Start i role answer) result }
 {
     match (role, was) {
-        (Role::Body, Stage::Waiting) => match told {
+        (Role::Body, Stage::Waiting) => match answer {
             StartAnswer::Started(moment) => Stage::Running(moment),
             StartAnswer::Refused(cause) => Stage::Finished(refused_record(alloc, cause)),
         },
-        (Role::Cleanup, Stage::Owing(body)) => match told {
+        (Role::Cleanup, Stage::Owing(body)) => match answer {
             StartAnswer::Started(_) => Stage::Cleaning(body),
             StartAnswer::Refused(_) => Stage::Finished(uncleaned_record(alloc, body)),
         },

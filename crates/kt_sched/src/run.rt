@@ -29,8 +29,8 @@ pub fn run_cases<L: Launcher, S: Sink>(
     loop {
         match sched.next() {
             Next::Start(i, role) => {
-                let told = launcher.start(sched.job(i), role);
-                sched.started(i, role, told);
+                let answer = launcher.start(sched.job(i), role);
+                sched.started(i, role, answer);
             }
             Next::Wait => {
                 let ended = launcher.wait();

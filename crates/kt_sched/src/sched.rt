@@ -58,7 +58,7 @@ impl Model for Sched {
 
 impl Sched {
     ghost use Rattle.std.specs.Prelude.{◌≡◌, ℕ, length, ◌^◌, Some, slice_get, IfOk, ◌<◌, ◌+◌, true, false};
-    ghost use Rattle.kt_sched.specs.Common.{Next, Start, End, Case, Role, IsPlan, IsWidth, after_put, fed_after, nothing_fed, IsNext, Follows, IsEntryOf, IsChosen, IsTurn, stage_runs, Implies, SchedState, Stands, IsAnswer, IsSettled, HasRecord, CanLend, HoldsEntry, Takes, work_left, Works};
+    ghost use Rattle.kt_sched.specs.Common.{Next, Start, End, Case, Role, IsPlan, IsWidth, after_put, fed_after, nothing_fed, IsNext, Follows, IsEntryOf, IsChosen, IsTurn, stage_runs, Implies, SchedState, Stands, IsAnswer, IsSettled, HasRecord, CanLend, Takes, work, Works};
 
     /// The core before its first answer.
     pub fn new(alloc: Global, plan: Items<Job>, width: u32) -> Result<Sched, NoMemory>
@@ -87,7 +87,7 @@ impl Sched {
 
     /// The plan's job at a position, until its entry is taken.
     pub fn job(&self, position: u32) -> &Job
-        requires { CanLend self.now position }
+        requires { CanLend self.now.cases position }
         ensures { Implies self.now (λ plan _ _. slice_get plan position ≡ Some result.now) }
     {
         &self.cases[position as usize].job
@@ -96,8 +96,8 @@ impl Sched {
     /// The entry of a case that is to be put.
     pub fn take(&mut self, position: u32) -> Entry
         requires asked { self.old.asked ≡ Next.Put position }
-        requires told { HoldsEntry self.old position }
-        ensures less { work_left self.new < work_left self.old }
+        requires has_record { HasRecord self.old.cases position }
+        ensures less { work self.new.cases < work self.old.cases }
         ensures asked { self.new.asked ≡ Next.Put position }
         ensures stands { Implies self.old (λ plan n fed. Stands plan n fed self.new) }
         ensures entry { Implies self.old (λ plan _ fed. IsEntryOf plan fed.trace position result) }
@@ -109,7 +109,7 @@ impl Sched {
     /// Takes the answer to what was asked last: `started`, `ended` and `put` in one, for who keeps the answers.
     pub fn feed(&mut self, answer: Answer)
         requires { IsAnswer self.old answer }
-        ensures works { Works self.old.asked (work_left self.old) (work_left self.new) }
+        ensures works { Works self.old.asked (work self.old.cases) (work self.new.cases) }
         ensures asked { self.new.asked ≡ Next.Done }
         ensures stands { Implies self.old
             (λ plan n fed. Stands plan n (fed_after fed self.old.asked answer) self.new) }
@@ -129,13 +129,13 @@ impl Sched {
     }
 
     /// A start that was asked for was answered.
-    pub(crate) fn started(&mut self, i: u32, role: Role, told: StartAnswer)
+    pub(crate) fn started(&mut self, i: u32, role: Role, answer: StartAnswer)
         requires { self.old.asked ≡ Next.Start i role }
-        ensures { Takes self.old (Start i role told) self.new }
+        ensures { Takes self.old (Start i role answer) self.new }
     {
         let was = replace_stage(&mut self.cases, i, Stage::Taken);
         let ran = is_active(&was);
-        let stage = after_start(self.alloc, was, role, told);
+        let stage = after_start(self.alloc, was, role, answer);
         self.turn = turn_after(self.turn, self.order.len(), role);
         self.active = active_after(self.active, self.width, ran, is_active(&stage));
         self.pending = owing(&stage, i);
@@ -169,11 +169,12 @@ impl Sched {
             (λ plan n fed. (other : Next) → IsNext plan n fed other → other ≡ result) }
         ensures follows { Implies self.old (λ plan n fed. Follows plan n fed result) }
         ensures stands { Implies self.old (λ plan n fed. Stands plan n fed self.new) }
-        ensures same { work_left self.new ≡ work_left self.old }
+        ensures same { work self.new.cases ≡ work self.old.cases }
         ensures asked { self.new.asked ≡ result }
-        ensures lends { (i : ℕ) (role : Role) → result ≡ Next.Start i role → CanLend self.new i }
-        ensures told { self.old.asked ≡ Next.Done → (i : ℕ) → result ≡ Next.Put i
-            → HoldsEntry self.new i }
+        ensures lends { (i : ℕ) (role : Role) → result ≡ Next.Start i role
+            → CanLend self.new.cases i }
+        ensures has_record { self.old.asked ≡ Next.Done → (i : ℕ) → result ≡ Next.Put i
+            → HasRecord self.new.cases i }
     {
         self.open_decided();
         let next = self.choice();
@@ -186,7 +187,7 @@ impl Sched {
         ensures stands { Implies self.old (λ plan n fed. Stands plan n fed self.new) }
         ensures same { self.new.cases ≡ self.old.cases }
         ensures settled { IsSettled self.new }
-        ensures told { self.old.asked ≡ Next.Done → (i : ℕ) → self.new.ready ≡ Some i
+        ensures has_record { self.old.asked ≡ Next.Done → (i : ℕ) → self.new.ready ≡ Some i
             → HasRecord self.new.cases i }
     {
         let None = self.ready else {

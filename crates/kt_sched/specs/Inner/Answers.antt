@@ -1,14 +1,10 @@
 -- How answers are fed and entries counted.
 use Rattle.std.specs.Prelude.{ℕ, Bool, true, false, Some, not, cond, ◌+◌, ◌≤◌}
+use Rattle.kt_sched.specs.Types.{Totals}
 use Rattle.kt_base.specs.declared.verdict.Kind.{Kind}
 use Rattle.kt_base.specs.Kinds.{good as is_good}
-use Rattle.kt_sched.specs.declared.totals.Totals.{Totals}
-use Rattle.kt_sched.specs.Trace.{Event, Then, event_count}
+use Rattle.kt_sched.specs.Trace.{event_count}
 use Rattle.kt_sched.specs.Fed.{Fed}
-
--- one more event
-abbrev pub with_event : Fed → Event → Fed
-with_event fed e = record fed { trace = Then fed.trace e }
 
 -- one more put, which failed or not
 abbrev pub after_put : Fed → Bool → Fed

@@ -1,18 +1,6 @@
 -- What the steps of the core do to its cases.
-use Rattle.std.specs.Prelude.{ℕ, Bool, true, false, List, ◌++◌, ◌≡◌, ◌-◌, Option, Some, None, filter, map, drop, not, slice_get, slice_set, if◌then◌else◌}
-use Rattle.kt_base.specs.declared.entry.Entry.{Entry}
-use Rattle.kt_base.specs.declared.entry.Output.{Output}
-use Rattle.kt_base.specs.declared.child.Role.{Role}
-use Rattle.kt_base.specs.declared.child.Role.TheVariants.{Body, Cleanup}
-use Rattle.kt_base.specs.Verdicts.{Judged}
-use Rattle.kt_sched.specs.declared.job.Job.{Job}
-use Rattle.kt_sched.specs.declared.job.Ended.{Ended}
-use Rattle.kt_sched.specs.declared.stage.Stage.{Stage}
-use Rattle.kt_sched.specs.declared.stage.Stage.TheVariants.{Waiting, Decided, Running, Owing, Cleaning, Finished, Taken}
-use Rattle.kt_sched.specs.declared.stage.Case.{Case}
-use Rattle.kt_sched.specs.declared.stage.EndedBody.{EndedBody}
-use Rattle.kt_sched.specs.declared.stage.CaseRecord.{CaseRecord}
-use Rattle.kt_sched.specs.declared.job.StartAnswer.TheVariants as told
+use Rattle.std.specs.Prelude.{ℕ, Bool, true, false, List, ◌≡◌, ◌-◌, Option, Some, None, filter, map, not, slice_get, slice_set, if◌then◌else◌}
+use Rattle.kt_sched.specs.Types.{Body, Case, CaseRecord, Cleaning, Cleanup, Decided, Ended, EndedBody, Entry, Finished, Job, Judged, Output, Owing, Refused, Role, Running, Stage, Started, Taken, Waiting}
 use Rattle.kt_status.specs.declared.cleanup_end.CleanupEnd.TheVariants as end
 use Rattle.kt_status.specs.Tables.{IsVerdict, IsVerdictOfRefusal, IsVerdictAfter}
 use Rattle.kt_sched.specs.EntryOf.{no_output}
@@ -64,7 +52,7 @@ pub record TookEntry (old new : List Case) (i : ℕ) (entry : Entry) : Type 0 wh
   pub left : Job
   pub case_record : CaseRecord
   pub found : slice_get old i ≡ Some (record { job = had; stage = was })
-  pub told : record_in had was ≡ Some case_record
+  pub has_record : record_in had was ≡ Some case_record
   pub is : entry ≡ entry_with had case_record
   pub changed : new ≡ slice_set old i (record { job = left; stage = Taken })
 
@@ -90,10 +78,10 @@ can_start role other = false
 
 -- how a case, with or without a declared cleanup, stands after an event
 abbrev pub IsAfter : Bool → Stage → Event → Stage → Type 0
-IsAfter cleanup Waiting (Start i Body (told.Started m)) (Running k) = k ≡ m
-IsAfter cleanup Waiting (Start i Body (told.Refused c)) (Finished t) = IsVerdictOfRefusal c t.verdict × (t ≡ decided_record t.verdict)
-IsAfter cleanup (Owing b) (Start i Cleanup (told.Started m)) (Cleaning x) = x ≡ b
-IsAfter cleanup (Owing b) (Start i Cleanup (told.Refused c)) (Finished t) =
+IsAfter cleanup Waiting (Start i Body (Started m)) (Running k) = k ≡ m
+IsAfter cleanup Waiting (Start i Body (Refused c)) (Finished t) = IsVerdictOfRefusal c t.verdict × (t ≡ decided_record t.verdict)
+IsAfter cleanup (Owing b) (Start i Cleanup (Started m)) (Cleaning x) = x ≡ b
+IsAfter cleanup (Owing b) (Start i Cleanup (Refused c)) (Finished t) =
     IsVerdictAfter b.verdict end.Refused t.verdict × (t ≡ record_of t.verdict b b.ended no_output)
 IsAfter cleanup (Running m) (End e) (Owing b) =
     (stage_runs e.role (Running m) ≡ true) × (cleanup ≡ true) × IsVerdict e.evidence e.outcome b.verdict × (b ≡ ended_body b.verdict m e)
@@ -127,7 +115,3 @@ same_flag false b = not b
 -- the positions of the cases that are exclusive, or of those that aren't
 abbrev pub positions_where : Bool → List Job → List ℕ
 positions_where flag jobs = map (λ (job : Job). job.position) (filter (λ (job : Job). same_flag flag job.exclusive) jobs)
-
--- the first i jobs of a plan were visited
-abbrev pub GoneThrough : Bool → List Job → List ℕ → ℕ → List ℕ → Type 0
-GoneThrough flag plan old i order = old ++ positions_where flag plan ≡ order ++ positions_where flag (drop i plan)

@@ -1,7 +1,6 @@
 -- Which case has its turn, and what is chosen.
 use Rattle.std.specs.Prelude.{ℕ, true, ◌≡◌, ◌<◌, ◌≤◌, ◌⊎◌, length, slice_get, Option, Some, None}
-use Rattle.kt_base.specs.declared.child.Role.TheVariants.{Body, Cleanup}
-use Rattle.kt_sched.specs.declared.next.Next.{Next}
+use Rattle.kt_sched.specs.Types.{Body, Cleanup, Next}
 use Rattle.kt_sched.specs.declared.next.Next.TheVariants as next
 use Rattle.kt_sched.specs.SchedState.{SchedState, HasExclusive, HasTurn}
 

@@ -16,17 +16,17 @@ returns-in_err-sched-clause-ran g c =
     let p = err_from_is_err_and c.from_residual.result c.from_residual.ensures.1 in
     rw (p.1, p.2) (ran_not g.L.Launcher g.S.Sink c.args.plan c.args.width c.args.launcher.now c.args.sink.now c.requires.plan _)
 
-pub start-told-requires-clause-may : goal.start-told-requires-clause-may
-start-told-requires-clause-may g c =
+pub start-answer-requires-clause-may : goal.start-answer-requires-clause-may
+start-answer-requires-clause-may g c =
     let e = c.in-Start.ensures in
     loop_may_start c.requires.plan c.loop-i.invariant c.in-Start.i c.in-Start.role e.next e.follows _ e.stands c.job.result.now c.job.ensures _ (cc)
 
 pub loop-i-preserved-in-Start : goal.loop-i-preserved-in-Start
 loop-i-preserved-in-Start g c =
     let e = c.in-Start.ensures in
-    let s = c.start-told.ensures in
+    let s = c.start-answer.ensures in
     loop_start c.requires.plan c.loop-i.invariant c.in-Start.i c.in-Start.role e.next e.follows _ e.stands c.job.result.now c.job.ensures
-    c.start-told.result c.start-told.new.self _ s.leads s.moment s.running s.pending c.started.ensures
+    c.start-answer.result c.start-answer.new.self _ s.leads s.moment s.running s.pending c.started.ensures
 
 pub wait-ended-requires : goal.wait-ended-requires
 wait-ended-requires g c = loop_may_wait c.requires.plan c.loop-i.invariant c.in-Wait.ensures.follows

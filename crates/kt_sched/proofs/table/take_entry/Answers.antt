@@ -12,7 +12,7 @@ returns c =
       case_record = w.0;
       found = slice_get_read c.args.cases.now.items (length c.args.cases.now.items) c.args.i case refl
           (slice_get_within c.args.cases.now.items c.args.i c.requires.0 c.requires.2) c.index_mut-case.ensures.value;
-      told = w.1;
+      has_record = w.1;
       is = w.2;
       changed = ap (λ (s : Stage). Rattle.std.specs.Prelude.slice_set c.args.cases.now.items c.args.i (record { job = c.entry_from.new.case.job; stage = s }))
           c.entry_from.ensures.taken;

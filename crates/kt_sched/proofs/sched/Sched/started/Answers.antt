@@ -5,7 +5,7 @@ use Rattle.kt_sched.proofs.sched.Sched.started.Goals as goal
 
 pub returns : goal.returns
 returns c =
-    started c.self.view_is c.self.invariant c.args.i c.args.role c.args.told c.requires c.replace_stage-was.ensures
+    started c.self.view_is c.self.invariant c.args.i c.args.role c.args.answer c.requires c.replace_stage-was.ensures
     c.replace_stage-taken.ensures (c.after_start-stage.ensures c.args.i) c.turn_after-self-inside.ensures c.is_active-ran.ensures c.is_active.ensures
     c.active_after-self-inside.ensures c.owing-self-inside.ensures c.ready-self-inside.ensures
 
