@@ -9,23 +9,16 @@ pub use Rattle.std.specs.List.{All}
 pub use Rattle.std.specs.Process.{SameDir, SameEnv, SameProgramAndArgs, clears_env, command_args, command_program, command_var, status_bits}
 pub use Rattle.std.specs.Str.{bytes_eq}
 unfoldable pub use Rattle.std.specs.Str.{chars}
-pub use Rattle.kt_base.specs.Chains.{Chain}
+pub use Rattle.kt_child.specs.Types.{Body, Case, Chain, Child, Cleanup, Ended, FileRead, Job, OsFault, Outcome, Paths, Polled, Role, Spawning, StartAnswer, Watch, Watched}
 pub use Rattle.kt_base.specs.Utf8.{utf8}
-pub use Rattle.kt_base.specs.declared.child.Outcome.{Outcome}
 pub use Rattle.kt_base.specs.declared.child.Refused.{Refused}
-pub use Rattle.kt_base.specs.declared.child.Role.{Role}
-pub use Rattle.kt_base.specs.declared.child.Role.TheVariants.{Body, Cleanup}
 pub use Rattle.kt_sched.specs.Children.{IsEvidence, pending_after_end, running_after_end, same_role, with_cleanup_declared}
 pub use Rattle.kt_sched.specs.Trace.{End, Leads, NoEvent, Start, Then, Trace}
-pub use Rattle.kt_sched.specs.declared.job.Ended.{Ended}
-pub use Rattle.kt_sched.specs.declared.job.Job.{Job}
-pub use Rattle.kt_sched.specs.declared.job.StartAnswer.{StartAnswer}
-pub use Rattle.kt_child.specs.Driving.Starting.{Begun}
-pub use Rattle.kt_child.specs.Driving.Board.{Alive, Board, Ends, Hears, IsOver, alive_of, board, board_of}
+pub use Rattle.kt_child.specs.Driving.Starting.{Ask, Begun, SetUpAs, Started, Tried, cause_of, child_asks, open_ask, spawn_ask, spawned, work_ask}
+pub use Rattle.kt_child.specs.Driving.Board.{Alive, Board, Ends, Hears, IsOver, Starts, Waited, alive_after, alive_of, board, board_of}
 pub use Rattle.kt_child.specs.Driving.ChildrenState.{ChildrenState, cases_of, is_among, pending_with, shown, shown_at, shown_in}
 pub use Rattle.kt_child.specs.Driving.JobPlan.{case_of, job_purpose, limit_of, spawning_for, spawning_of, want_of}
 pub use Rattle.kt_child.specs.Driving.DriverSteps.{DriverStarts, DriverWaits}
-pub use Rattle.kt_child.specs.Driving.Board.{Starts, Waited, alive_after}
 pub use Rattle.kt_child.specs.Driving.Numbers.{AttemptsDiffer, IsApart, ListOf, Request, Serves, ServesAll, Wait, is_attempt, numbers, NumbersDiffer}
 pub use Rattle.kt_child.specs.Driving.Roots.{FailedRoots, root_of}
 pub use Rattle.kt_child.specs.Driving.Runs.{Runs, RunsFrom}
@@ -39,20 +32,10 @@ pub use Rattle.kt_child.specs.Planning.ChildPlan.{child_of, paths_of, test_varia
 pub use Rattle.kt_child.specs.Polling.ChildOutcome.{Heard, HeardKill, HeardPoll, Yields, YieldsAfterKill, answered, running}
 pub use Rattle.kt_child.specs.Polling.Polls.{asked_by_poll, heard_of, is_killed, after_poll, watch_after}
 pub use Rattle.kt_child.specs.Polling.Turns.{PolledAll, PolledLast, PolledUntil, WaitedOn, advanced, advanced_below, last_turn, whole_turn}
-pub use Rattle.kt_child.specs.Driving.Starting.{Ask, SetUpAs, Started, Tried, cause_of, child_asks, open_ask, spawn_ask, spawned, work_ask}
 pub use Rattle.kt_child.specs.System.Calls.{Call, Kill, MakeDir, Now, Pause, Poll, ReadFile, RemoveTree, SetLimit}
 pub use Rattle.kt_child.specs.declared.driving.driver.Driver.{Driver}
 pub use Rattle.kt_child.specs.declared.ending.ReadEnd.{ReadEnd}
 pub use Rattle.kt_child.specs.declared.ending.ReadEnd.TheVariants.{Complete}
 pub use Rattle.kt_child.specs.declared.host.host_child.HostChild.{HostChild}
-pub use Rattle.kt_child.specs.declared.planning.Case.{Case}
-pub use Rattle.kt_child.specs.declared.planning.Spawning.{Spawning}
-pub use Rattle.kt_child.specs.declared.planning.workdir.Paths.{Paths}
 pub use Rattle.kt_child.specs.declared.polling.AfterPoll.{AfterPoll}
 pub use Rattle.kt_child.specs.declared.polling.AfterPoll.TheVariants.{More}
-pub use Rattle.kt_child.specs.declared.polling.Watch.{Watch}
-pub use Rattle.kt_child.specs.declared.polling.Watched.{Watched}
-pub use Rattle.kt_child.specs.declared.system.OsFault.{OsFault}
-pub use Rattle.kt_child.specs.declared.system.Child.{Child}
-pub use Rattle.kt_child.specs.declared.system.FileRead.{FileRead}
-pub use Rattle.kt_child.specs.declared.system.Polled.{Polled}

@@ -2,8 +2,7 @@
 use Rattle.std.proofs.Common.{Option, Some, None, IfSome, Result, Ok, Err, IsErrAnd, OnOk, ◌≡◌, ℕ, ◌+◌, ◌≤◌, List, length, arith, rules}
 use Rattle.kt_child.proofs.Common.{FileRead, OsFault}
 use Rattle.std.specs.Io.KnownBytes.{Consumes}
-use Rattle.kt_child.specs.Host.HostAnswers.{IsFront}
-use Rattle.kt_child.specs.Host.HostFiles.{TakesAtMost}
+use Rattle.kt_child.specs.Host.HostAnswers.{IsFront, TakesAtMost}
 
 -- what was read of a file so far, a number of bytes at the most
 pub record HasRead (limit : ℕ) (left rest : Option (List ℕ)) (bytes : List ℕ) : Type 0 where

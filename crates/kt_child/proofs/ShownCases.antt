@@ -1,5 +1,5 @@
 -- What is shown of the cases that run.
-use Rattle.std.proofs.Common.{◌≡◌, ◌≢◌, ℕ, zero, suc, ◌≤◌, ◌==◌, ◌&&◌, List, [], ◌∷◌, ◌++◌, slice_get, Bool, Option, Some, None, refl, sym, ◌∙◌, ap, subst, arith, if◌then◌else◌, remove}
+use Rattle.std.proofs.Common.{◌≡◌, ◌≢◌, ℕ, zero, suc, ◌≤◌, ◌==◌, ◌&&◌, List, [], ◌∷◌, ◌++◌, slice_get, Bool, Option, Some, None, refl, ◌∙◌, ap, arith, if◌then◌else◌, remove}
 use Rattle.kt_child.proofs.Common.{nat_tests, Role, Case, same_role, count_at, one_if, shown, shown_at}
 use Rattle.kt_sched.specs.Children.{Child as Shown}
 use Rattle.kt_child.proofs.CaseCounts.{apart, count_there, own_role, position, times_less}

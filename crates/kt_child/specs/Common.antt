@@ -8,11 +8,9 @@ pub use Rattle.kt_base.specs.Utf8.{utf8}
 pub use Rattle.kt_claim.specs.ClaimReading.{HasRead}
 pub use Rattle.kt_claim.specs.StreamReading.{HasStream}
 pub use Rattle.kt_sched.specs.Children.{IsEvidence, IsIdle, MayStart, pending_after_end, pending_after_start, running_after_end, running_after_start}
-pub use Rattle.kt_sched.specs.Moments.{HasMoment}
 pub use Rattle.kt_sched.specs.Plan.{IsFit, IsPlan, IsWidth}
 pub use Rattle.kt_sched.specs.Run.{Ran}
-pub use Rattle.kt_sched.specs.Trace.{Leads, Trace}
-pub use Rattle.kt_child.specs.Driving.Starting.{Begun}
+pub use Rattle.kt_sched.specs.Trace.{HasMoment, Leads, Trace}
 pub use Rattle.kt_child.specs.Driving.ChildrenState.{idle_state, is_among, shown_in}
 pub use Rattle.kt_child.specs.Driving.Board.{TakesNumber, Waited, board, board_of}
 pub use Rattle.kt_child.specs.Driving.DriverSteps.{DriverStarts, DriverWaits}
@@ -21,13 +19,12 @@ pub use Rattle.kt_child.specs.Driving.Lists.{ListsBy, RanList, WatchedList}
 pub use Rattle.kt_child.specs.Driving.Numbers.{AttemptsDiffer, NumbersDiffer}
 pub use Rattle.kt_child.specs.Driving.Roots.{FindsRoot, driver_words, root_of}
 pub use Rattle.kt_child.specs.Driving.Runs.{EndsAreTold, RunsFrom}
-pub use Rattle.kt_child.specs.Driving.Starting.{SetUp, SetUpIn, SetUpNew, Started, Tried, cause_of, child_asks, furnish_asks, spawn_ask, spawned}
+pub use Rattle.kt_child.specs.Driving.Starting.{Begun, SetUp, SetUpIn, SetUpNew, Started, Tried, cause_of, child_asks, furnish_asks, spawn_ask, spawned}
 pub use Rattle.kt_child.specs.Ending.Ends.{Leaves, Removes, err_of, is_over, out_of}
 pub use Rattle.kt_child.specs.Ending.Gathering.{Gathers, IsClaim, IsTap, ReadsClaim, ReadsTap}
 pub use Rattle.kt_child.specs.Ending.Parts.{IsEnd, Reads, end_of, next_part}
 pub use Rattle.kt_child.specs.Ending.Reads.{IsListWithin, IsReadWithin, bytes_of, list_of}
-pub use Rattle.kt_child.specs.Host.HostAnswers.{HostLeads, IsFront, IsHostRead, IsOpened, IsPolledOf, limit_after}
-pub use Rattle.kt_child.specs.Host.HostFiles.{TakesAtMost}
+pub use Rattle.kt_child.specs.Host.HostAnswers.{HostLeads, IsFront, IsHostRead, IsOpened, IsPolledOf, TakesAtMost, limit_after}
 pub use Rattle.kt_child.specs.Host.HostStands.{AllProceed, AllStay, IsLastEnd, OthersStay, Proceeds, stand_in, stand_of}
 pub use Rattle.kt_child.specs.Host.Lateness.{IsAnyLate, IsLate, IsLateAt, Looks, Sees}
 pub use Rattle.kt_child.specs.Inner.Children.{IsOn, IsOnBy, IsWatched, TakesBytes, count_in, state_after_start, with_pending}

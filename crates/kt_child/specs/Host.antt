@@ -1,5 +1,4 @@
 -- The system of the host.
 pub mod HostAnswers
-pub mod HostFiles
 pub mod HostStands
 pub mod Lateness

@@ -1,6 +1,7 @@
 -- The types that the definitions of this crate name, passed on from one place. Declares nothing.
 pub use Rattle.kt_base.specs.Chains.{Chain}
 pub use Rattle.kt_base.specs.declared.child.Interface.{Interface}
+pub use Rattle.kt_base.specs.declared.child.Interface.TheVariants.{Atf}
 pub use Rattle.kt_base.specs.declared.child.Outcome.{Outcome}
 pub use Rattle.kt_base.specs.declared.child.Role.{Role}
 pub use Rattle.kt_base.specs.declared.child.Role.TheVariants.{Body, Cleanup}
@@ -11,6 +12,7 @@ pub use Rattle.kt_sched.specs.Trace.{Trace}
 pub use Rattle.kt_sched.specs.declared.job.Ended.{Ended}
 pub use Rattle.kt_sched.specs.declared.job.Job.{Job}
 pub use Rattle.kt_sched.specs.declared.job.StartAnswer.{StartAnswer}
+pub use Rattle.kt_sched.specs.declared.job.StartAnswer.TheVariants.{Refused, Started}
 pub use Rattle.kt_child.specs.declared.planning.Case.{Case}
 pub use Rattle.kt_child.specs.declared.planning.Spawning.{Spawning}
 pub use Rattle.kt_child.specs.declared.planning.Want.{Want}
@@ -20,5 +22,7 @@ pub use Rattle.kt_child.specs.declared.polling.Watched.{Watched}
 pub use Rattle.kt_child.specs.declared.system.Child.{Child}
 pub use Rattle.kt_child.specs.declared.system.EnvPlan.{EnvPlan}
 pub use Rattle.kt_child.specs.declared.system.FileRead.{FileRead}
+pub use Rattle.kt_child.specs.declared.system.FileRead.TheVariants.{Missing, Part}
 pub use Rattle.kt_child.specs.declared.system.OsFault.{OsFault}
 pub use Rattle.kt_child.specs.declared.system.Polled.{Polled}
+pub use Rattle.kt_child.specs.declared.system.Polled.TheVariants.{Exited, Running, Signaled}

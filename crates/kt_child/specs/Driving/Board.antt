@@ -1,9 +1,8 @@
 -- The board of a driver: its running children with what each has answered, the cases that are owed a cleanup, and the next number.
 use Rattle.std.specs.Prelude.{◌≡◌, ℕ, ◌+◌, ◌-◌, ◌<◌, ◌^◌, ◌⊎◌, List, [], ◌∷◌, ◌++◌, Bool, Option, Some, None, Result, map, remove, slice_get}
-use Rattle.kt_child.specs.Types.{Body, Case, Chain, Cleanup, Ended, Job, OsFault, Outcome, Polled, Role, StartAnswer, Watched}
-use Rattle.kt_base.specs.declared.child.Refused.TheVariants.{Directory}
-use Rattle.kt_sched.specs.declared.job.StartAnswer.TheVariants.{Started as StartedAt, Refused as RefusedFor}
+use Rattle.kt_child.specs.Types.{Body, Case, Chain, Cleanup, Ended, Job, OsFault, Outcome, Polled, Refused as RefusedFor, Role, StartAnswer, Started as StartedAt, Watched}
 use Rattle.kt_child.specs.declared.driving.driver.Driver.{Driver}
+use Rattle.kt_base.specs.declared.child.Refused.TheVariants.{Directory}
 use Rattle.kt_child.specs.System.Calls.{Call, Kill, Pause, Poll}
 use Rattle.kt_child.specs.Planning.ChildPlan.{child_of, paths_of}
 use Rattle.kt_child.specs.Polling.ChildOutcome.{Heard, HeardKill, HeardPoll, Yields, answered}

@@ -8,14 +8,11 @@ use Rattle.kt_child.specs.Driving.Lists.{ListsBy}
 
 -- over a system whose calls are related so
 module _ {O : Type 0} (leads : O → Call → O → Type 0) where
-  -- a job's child is started on the board
-  abbrev pub StartsBy : Driver O → Job → Role → StartAnswer → Driver O → Type 0
-  StartsBy old job role answer new =
-      (calls : List Call) × Chain leads old.os calls new.os × Starts old.source old.root (board old) job role calls answer (board new)
-
-  -- a start of a driver; where programs lie and the root directory stay
+  -- a start of a job's child; where programs lie and the root directory stay
   abbrev pub DriverStarts : Driver O → Job → Role → StartAnswer → Driver O → Type 0
-  DriverStarts old job role answer new = StartsBy old job role answer new × (new.source ≡ old.source) × (new.root ≡ old.root)
+  DriverStarts old job role answer new =
+      ((calls : List Call) × Chain leads old.os calls new.os × Starts old.source old.root (board old) job role calls answer (board new))
+      × (new.source ≡ old.source) × (new.root ≡ old.root)
 
   -- a wait: its polls go in turns, and one child ends
   abbrev pub DriverWaits : Driver O → Ended → Driver O → Type 0

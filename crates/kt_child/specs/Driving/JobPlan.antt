@@ -1,7 +1,6 @@
 -- What a child is started for, and with.
 use Rattle.std.specs.Prelude.{ℕ, List, [], ◌++◌, codes, if◌then◌else◌, false}
-use Rattle.kt_child.specs.Types.{Body, Case, Cleanup, Job, Paths, Role, Spawning, Variable, Want}
-use Rattle.kt_base.specs.declared.child.Interface.TheVariants.{Atf}
+use Rattle.kt_child.specs.Types.{Atf, Body, Case, Cleanup, Job, Paths, Role, Spawning, Variable, Want}
 use Rattle.kt_base.specs.Texts.{is_empty}
 use Rattle.kt_suite.specs.Paths.{parent_of}
 use Rattle.kt_child.specs.declared.planning.Want.TheVariants.{List as Listing, Body as BodyOf, Cleanup as CleanupOf}

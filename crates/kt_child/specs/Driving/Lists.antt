@@ -1,9 +1,9 @@
 -- A program's list of test cases, asked of the program itself.
 use Rattle.std.specs.Prelude.{◌≡◌, ◌<◌, ◌+◌, ◌-◌, ◌^◌, ◌⊎◌, ℕ, List, [], ◌∷◌, ◌++◌, Bool, Result, Ok, Err}
-use Rattle.kt_base.specs.declared.child.Refused.TheVariants.{Memory, Directory}
 use Rattle.kt_child.specs.Types.{Case, Chain, FileRead, ListBytes, Listing, OsFault, Outcome, Spawning, Variable, Watched}
-use Rattle.kt_atflist.specs.declared.listing.Listing.TheVariants.{Refused as RefusedFor, Ended}
 use Rattle.kt_child.specs.declared.driving.driver.Driver.{Driver}
+use Rattle.kt_base.specs.declared.child.Refused.TheVariants.{Memory, Directory}
+use Rattle.kt_atflist.specs.declared.listing.Listing.TheVariants.{Refused as RefusedFor, Ended}
 use Rattle.kt_child.specs.System.Calls.{Call, ReadFile, RemoveTree}
 use Rattle.kt_child.specs.Driving.Board.{Alive, IsOver, alive_of}
 use Rattle.kt_child.specs.Driving.JobPlan.{list_case, list_purpose, spawning_for}

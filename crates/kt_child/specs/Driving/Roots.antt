@@ -1,9 +1,9 @@
 -- The root directory of a driver.
 use Rattle.std.specs.Prelude.{◌≡◌, ◌<◌, ℕ, zero, suc, List, [], ◌∷◌, ◌++◌, Result, Ok, Err, codes}
 use Rattle.std.specs.Fmt.{decimal}
+use Rattle.kt_child.specs.Types.{OsFault}
 use Rattle.kt_child.specs.declared.driving.driver.DriverFault.{DriverFault}
 use Rattle.kt_child.specs.declared.driving.driver.DriverFault.TheVariants.{NoMemory, NoWorkDirectory}
-use Rattle.kt_child.specs.Types.{OsFault}
 use Rattle.kt_child.specs.System.Calls.{Call, MakeDir}
 
 -- a root directory by its number

@@ -1,11 +1,10 @@
 -- What a driver asks over a whole trace, answer by answer.
 use Rattle.std.specs.Prelude.{◌≡◌, ℕ, List, [], ◌++◌, Some, slice_get}
 use Rattle.kt_child.specs.Types.{Chain, Job, Trace}
-use Rattle.kt_sched.specs.Trace.{NoEvent, Then, Event, Start, End, Leads}
 use Rattle.kt_child.specs.declared.driving.driver.Driver.{Driver}
+use Rattle.kt_sched.specs.Trace.{NoEvent, Then, Event, Start, End, Leads}
 use Rattle.kt_child.specs.System.Calls.{Call}
-use Rattle.kt_child.specs.Driving.Board.{Board, Ends, board}
-use Rattle.kt_child.specs.Driving.Board.{Starts}
+use Rattle.kt_child.specs.Driving.Board.{Board, Ends, Starts, board}
 use Rattle.kt_child.specs.Driving.DriverSteps.{DriverStarts, DriverWaits}
 
 -- for the jobs of this plan, whose programs lie in the directory `source`, and whose work directories below `root`

@@ -1,6 +1,6 @@
 -- The start of a child: which questions are put, and where one is refused.
 use Rattle.std.specs.Prelude.{◌≡◌, ℕ, List, [], ◌∷◌, ◌++◌, Result, Ok, Err, is_err, ◌⊎◌}
-use Rattle.kt_child.specs.Types.{Body, Case, Cleanup, OsFault, Role, Spawning, StartAnswer, Watched}
+use Rattle.kt_child.specs.Types.{Body, Case, Cleanup, OsFault, Refused as RefusedFor, Role, Spawning, StartAnswer, Started as StartedAt, Watched}
 use Rattle.kt_base.specs.declared.child.Refused.{Refused}
 use Rattle.kt_base.specs.declared.child.Refused.TheVariants.{Directory, Output, Spawn as NotSpawned, Memory as NoMemory}
 use Rattle.kt_child.specs.declared.system.OsFault.TheVariants.{Failed, Memory}
@@ -8,7 +8,6 @@ use Rattle.kt_child.specs.Polling.ChildOutcome.{fresh}
 use Rattle.kt_child.specs.Ending.Ends.{Removes}
 use Rattle.kt_child.specs.System.Moments.{moment_of}
 use Rattle.kt_child.specs.System.Calls.{Call, SetLimit, MakeDir, OpenOutput, Spawn, Now}
-use Rattle.kt_sched.specs.declared.job.StartAnswer.TheVariants.{Started as StartedAt, Refused as RefusedFor}
 use Rattle.kt_sched.specs.Children.{same_role}
 
 -- a question by its answer, with the cause of a start that is refused there
@@ -24,13 +23,11 @@ cause_of cause (Memory refusal) = NoMemory
 -- the questions are put one after the other, until one fails: then the start is refused with its cause
 abbrev pub Tried : List Ask → List Call → Result (Unit {0}) Refused → Type 0
 Tried [] [] (Ok done) = Unit {0}
-Tried [] [] (Err cause) = ⊥
-Tried [] (call ∷ calls) result = ⊥
-Tried (ask ∷ asks) [] result = ⊥
 Tried (ask ∷ asks) (call ∷ calls) (Err cause) =
     ((fault : OsFault) × (call ≡ ask.call (Err fault)) × (calls ≡ []) × (cause ≡ cause_of ask.cause fault))
     ⊎ ((call ≡ ask.call (Ok tt)) × Tried asks calls (Err cause))
 Tried (ask ∷ asks) (call ∷ calls) (Ok done) = (call ≡ ask.call (Ok tt)) × Tried asks calls (Ok done)
+Tried asks calls result = ⊥
 
 -- the child is spawned
 abbrev pub spawn_ask : Spawning → Ask

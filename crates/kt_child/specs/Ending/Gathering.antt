@@ -38,13 +38,9 @@ ReadsClaim path calls found = (end : ReadEnd) × (bytes : List ℕ) × Reads pat
 abbrev pub ReadsTap : List ℕ → List Call → Tap → Type 0
 ReadsTap path calls found = (end : ReadEnd) × (bytes : List ℕ) × Reads path 65536 16777216 [] calls end bytes × IsTap end bytes found
 
--- an ATF body leaves its result file, a TAP body its output
-abbrev pub BodyGathers : Interface → Paths → List Call → Evidence → Type 0
-BodyGathers interface.Atf paths calls left = (found : Claim) × ReadsClaim paths.result calls found × (left ≡ evidence.Atf found)
-BodyGathers interface.Tap paths calls left = (found : Tap) × ReadsTap paths.out calls found × (left ≡ evidence.Tap found)
-BodyGathers interface.Plain paths calls left = (calls ≡ []) × (left ≡ evidence.Plain)
-
--- of other children nothing is asked
+-- an ATF body leaves its result file, a TAP body its output; of other children nothing is asked
 abbrev pub Gathers : Interface → Role → Paths → List Call → Evidence → Type 0
-Gathers kind Body paths calls left = BodyGathers kind paths calls left
 Gathers kind Cleanup paths calls left = (calls ≡ []) × (left ≡ evidence.Plain)
+Gathers interface.Atf Body paths calls left = (found : Claim) × ReadsClaim paths.result calls found × (left ≡ evidence.Atf found)
+Gathers interface.Tap Body paths calls left = (found : Tap) × ReadsTap paths.out calls found × (left ≡ evidence.Tap found)
+Gathers interface.Plain Body paths calls left = (calls ≡ []) × (left ≡ evidence.Plain)

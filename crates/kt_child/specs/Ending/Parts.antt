@@ -1,7 +1,6 @@
 -- A file that is read in parts.
 use Rattle.std.specs.Prelude.{◌≡◌, ℕ, ◌+◌, ◌-◌, ◌<◌, ◌==◌, min, List, [], ◌∷◌, ◌++◌, length, true, false, Option, Some, None, Result, Ok, Err, ◌⊎◌, leb, if◌then◌else◌}
-use Rattle.kt_child.specs.Types.{FileRead, OsFault}
-use Rattle.kt_child.specs.declared.system.FileRead.TheVariants.{Missing as NoFile, Part}
+use Rattle.kt_child.specs.Types.{FileRead, Missing as NoFile, OsFault, Part}
 use Rattle.kt_child.specs.declared.ending.ReadEnd.{ReadEnd}
 use Rattle.kt_child.specs.declared.ending.ReadEnd.TheVariants.{Missing, Unreadable, TooLong, Complete}
 use Rattle.kt_child.specs.Ending.Reads.{bytes_of}

@@ -1,8 +1,7 @@
 -- What is read of the files that a child left.
 use Rattle.std.specs.Prelude.{ℕ, ◌≤◌, List, [], length, true, false, Result, Ok}
-use Rattle.kt_child.specs.Types.{FileRead, ListBytes, OsFault}
+use Rattle.kt_child.specs.Types.{FileRead, ListBytes, OsFault, Part}
 use Rattle.kt_atflist.specs.declared.listing.ListBytes.TheVariants.{Read, Unreadable, TooLong}
-use Rattle.kt_child.specs.declared.system.FileRead.TheVariants.{Part}
 
 -- the bytes of an answer
 abbrev pub bytes_of : Result FileRead OsFault → List ℕ

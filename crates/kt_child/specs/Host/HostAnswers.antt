@@ -1,13 +1,11 @@
 -- What the host may answer, whatever the system does.
-use Rattle.std.specs.Prelude.{◌≡◌, ◌≢◌, ◌≤◌, ◌/◌, ◌%◌, ◌==◌, ◌<◌, ℕ, List, length, take, true, false, Some, None, IsSome, ◌⊎◌, Bool, Option, Result, Ok, Err}
+use Rattle.std.specs.Prelude.{◌≡◌, ◌≢◌, ◌≤◌, ◌/◌, ◌%◌, ◌==◌, ◌<◌, ℕ, List, length, take, true, false, Some, None, IfSome, IsSome, IsSomeAnd, ◌+◌, ◌⊎◌, Bool, Option, Result, Ok, Err}
 use Rattle.std.specs.Process.{status_bits}
 use Rattle.std.specs.IoError.{error_kind}
 use Rattle.std.specs.declared.io.Error.{Error}
 use Rattle.std.specs.declared.io.ErrorKind.TheVariants.{NotFound}
 use Rattle.std.specs.declared.process.status.ExitStatus.{ExitStatus}
-use Rattle.kt_child.specs.Types.{Child, FileRead, OsFault, Polled}
-use Rattle.kt_child.specs.declared.system.FileRead.TheVariants.{Missing, Part}
-use Rattle.kt_child.specs.declared.system.Polled.TheVariants.{Running, Exited, Signaled}
+use Rattle.kt_child.specs.Types.{Child, Exited, FileRead, Missing, OsFault, Part, Polled, Running, Signaled}
 use Rattle.kt_child.specs.Host.HostStands.{Stand, Proceeds, AllProceed, AllStay, OthersStay}
 use Rattle.kt_child.specs.Ending.Reads.{IsReadWithin}
 use Rattle.kt_child.specs.System.Calls.{Call, SetLimit, OpenOutput, Spawn, Poll, Kill, Pause, ReadFile, ReadPart}
@@ -34,6 +32,10 @@ IsFront limit xs (Ok Missing) = ⊥
 IsFront limit xs (Ok (Part bytes true)) = (bytes ≡ take limit xs) × (limit < length xs)
 IsFront limit xs (Ok (Part bytes false)) = (bytes ≡ xs) × (length xs ≤ limit)
 
+-- no more than this many bytes were taken of a file whose bytes are known
+abbrev pub TakesAtMost : ℕ → Option (List ℕ) → Option (List ℕ) → Type 0
+TakesAtMost limit left rest = IfSome left (λ xs. IsSomeAnd rest (λ ys. length xs ≤ length ys + limit))
+
 -- a read of a file that was opened never reports a missing file
 abbrev pub IsOpened : Result FileRead OsFault → Type 0
 IsOpened (Ok Missing) = ⊥
@@ -59,9 +61,8 @@ TellsEnd child old answer new IsLast =
 -- that fails may forget it.
 abbrev pub HostPolls : Child → (Child → Stand) → Result Polled OsFault → (Child → Stand) → (Child → ExitStatus → Type 0) → Option Bool → Type 0
 HostPolls child old (Ok Running) new IsLast late = IsSome (old child) × (late ≢ Some true → old child ≡ Some None) × AllStay old new
-HostPolls child old (Ok (Exited code)) new IsLast late = TellsEnd child old (Ok (Exited code)) new IsLast
-HostPolls child old (Ok (Signaled signal core)) new IsLast late = TellsEnd child old (Ok (Signaled signal core)) new IsLast
 HostPolls child old (Err fault) new IsLast late = (Proceeds (old child) (new child) ⊎ (new child ≡ None)) × OthersStay child old new
+HostPolls child old answer new IsLast late = TellsEnd child old answer new IsLast
 
 -- An answer of the host, by how its children stand before and after, and the last end that was reported. A child for which
 -- an output is opened has no process then; a start gives it one, and a start that fails leaves none; only a child with a

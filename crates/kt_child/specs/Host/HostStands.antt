@@ -42,6 +42,6 @@ AllProceed old new = (c : Child) → Proceeds (old c) (new c)
 abbrev pub AllStay : (Child → Stand) → (Child → Stand) → Type 0
 AllStay old new = (c : Child) → new c ≡ old c
 
--- and so does each but one
+-- each child but this one stands as it did
 abbrev pub OthersStay : Child → (Child → Stand) → (Child → Stand) → Type 0
 OthersStay child old new = (c : Child) → same_child child c ≡ false → new c ≡ old c

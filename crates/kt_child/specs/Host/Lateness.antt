@@ -12,14 +12,14 @@ use Rattle.kt_child.specs.declared.host.host_child.HostChild.{HostChild}
 abbrev pub IsLate : ℕ → ℕ → ℕ → Type 0
 IsLate limit told millis = (told < 100 * limit) × (10 * (told + 2) < millis)
 
--- it is at this time: it has a process, of which no end was seen
+-- a child is heard late at this time: it has a process, of which no end was seen
 abbrev pub IsLateAt : {P I O E : Type 0} → Instant → HostChild P I O E → Type 0
 IsLateAt now h =
     (h.seen ≡ false) × IsSome h.process
     × IsSomeAnd h.pace.started (λ start. IsLate h.pace.limit h.pace.told ((instant_nanos now - instant_nanos start) / 1000000))
 
 module _ {P I O E : Type 0} (held : List (Child × HostChild P I O E)) where
-  -- some of these children is
+  -- one of these children is heard late
   abbrev pub IsAnyLate : Instant → Type 0
   IsAnyLate now = (place : ℕ) × IsSomeAnd (slice_get (values_of held) place) (IsLateAt now)
 

@@ -1,7 +1,6 @@
 -- The children of a driver, as private functions keep and poll them.
 use Rattle.std.specs.Prelude.{map, ℕ, ◌==◌, Bool, true, false, ◌≡◌, ◌+◌, ◌≤◌, List, [], ◌∷◌, All, ◌*◌, ◌<◌, ◌++◌}
-use Rattle.kt_child.specs.Types.{Case, StartAnswer, Watch, Watched}
-use Rattle.kt_sched.specs.declared.job.StartAnswer.TheVariants.{Started as StartedAt, Refused as RefusedFor}
+use Rattle.kt_child.specs.Types.{Case, Refused as RefusedFor, StartAnswer, Started as StartedAt, Watch, Watched}
 use Rattle.kt_child.specs.Driving.ChildrenState.{ChildrenState, cases_of}
 
 -- a child that is not over: fewer than 100 polls a second of its limit before a kill, fewer than 500 after it

@@ -2,9 +2,8 @@
 use Rattle.std.specs.Prelude.{◌≡◌, ◌≢◌, Result, Ok, Err, ℕ, List, [], ◌∷◌, false, Option, Some, None, IsSome, map, if◌then◌else◌, ◌++◌, ◌+◌, ◌≤◌, ◌<◌, length, IfSome, Bool, ◌*◌, ◌-◌, ◌/◌, max, min}
 use Rattle.std.specs.declared.io.ErrorKind.{ErrorKind}
 use Rattle.std.specs.declared.io.ErrorKind.TheVariants.{NotFound, OutOfMemory}
-use Rattle.kt_child.specs.Types.{EnvPlan, FileRead, OsFault, Variable}
+use Rattle.kt_child.specs.Types.{EnvPlan, FileRead, Missing, OsFault, Part, Variable}
 use Rattle.kt_child.specs.declared.system.OsFault.TheVariants.{Failed, Memory}
-use Rattle.kt_child.specs.declared.system.FileRead.TheVariants.{Missing, Part}
 use Rattle.std.specs.Str.{bytes_eq}
 use Rattle.std.specs.Process.{clears_env, command_args, command_dir, command_program, command_var}
 use Rattle.std.specs.declared.process.command.Command.{Command}
@@ -28,7 +27,7 @@ abbrev pub after_removed : List (List ℕ) → List ℕ → Option (Option (List
 after_removed [] name said = said
 after_removed (gone ∷ names) name said = after_removed names name (if bytes_eq (utf8 gone) name then Some None else said)
 
--- and after these were set; the last of a name counts
+-- what is set of a variable, after these variables were set; the last of a name counts
 abbrev pub after_set : List Variable → List ℕ → Option (Option (List ℕ)) → Option (Option (List ℕ))
 after_set [] name said = said
 after_set (v ∷ variables) name said = after_set variables name (if bytes_eq (utf8 v.name) name then Some (Some (utf8 v.value)) else said)

@@ -6,7 +6,7 @@ use Rattle.kt_child.specs.System.Calls.{Call}
 use Rattle.kt_child.specs.Driving.ChildrenState.{is_among, shown_in}
 use Rattle.kt_child.specs.Driving.DriverSteps.{DriverStarts}
 use Rattle.kt_sched.specs.Children.{pending_after_start, running_after_start}
-use Rattle.kt_sched.specs.Moments.{HasMoment}
+use Rattle.kt_sched.specs.Trace.{HasMoment}
 
 -- a start of a driver, its moment, and what it shows of the children that run and of the cleanups that are owed
 pub record IsStart {O : Type 0} (leads : O → Call → O → Type 0) (old : Driver O) (job : Job) (role : Role) (answer : StartAnswer) (new : Driver O) : Type 0 where

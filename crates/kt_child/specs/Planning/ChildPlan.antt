@@ -1,8 +1,7 @@
 -- What a child is given: its paths, its environment and its words.
 use Rattle.std.specs.Prelude.{ℕ, List, [], ◌∷◌, ◌++◌, map, codes}
 use Rattle.std.specs.Fmt.{decimal}
-use Rattle.kt_child.specs.Types.{Case, Child, EnvPlan, Interface, Paths, Variable, Want}
-use Rattle.kt_base.specs.declared.child.Interface.TheVariants.{Atf}
+use Rattle.kt_child.specs.Types.{Atf, Case, Child, EnvPlan, Interface, Paths, Variable, Want}
 use Rattle.kt_child.specs.declared.planning.Want.TheVariants.{List as Listing, Body, Cleanup}
 
 -- the name of a case's child

@@ -1,8 +1,7 @@
 -- The outcome of a child, by its own answers.
 use Rattle.std.specs.Prelude.{◌≡◌, ℕ, ◌*◌, ◌<◌, List, [], ◌∷◌, ◌++◌, Bool, true, false, Option, Some, None, Result, Ok, Err, replicate, ◌⊎◌, if◌then◌else◌}
-use Rattle.kt_child.specs.Types.{OsFault, Outcome, Polled, Watch}
+use Rattle.kt_child.specs.Types.{Exited as PolledExit, OsFault, Outcome, Polled, Running, Signaled as PolledSignal, Watch}
 use Rattle.kt_base.specs.declared.child.Outcome.TheVariants.{Exited, Signaled, TimedOut, WaitFailed}
-use Rattle.kt_child.specs.declared.system.Polled.TheVariants.{Running, Exited as PolledExit, Signaled as PolledSignal}
 
 -- what one child answered: a poll or a kill
 pub data Heard : Type 0 where

@@ -1,8 +1,7 @@
 -- One poll of a child: what is asked, what it means, and what is kept.
 use Rattle.std.specs.Prelude.{ℕ, ◌+◌, ◌*◌, ◌==◌, List, [], ◌∷◌, Bool, true, false, not, ◌&&◌, Result, Ok, Err, if◌then◌else◌}
+use Rattle.kt_child.specs.Types.{Child, Exited as PolledExit, OsFault, Polled, Running, Signaled as PolledSignal, Watch}
 use Rattle.kt_base.specs.declared.child.Outcome.TheVariants.{Exited, Signaled, TimedOut, WaitFailed}
-use Rattle.kt_child.specs.Types.{Child, OsFault, Polled, Watch}
-use Rattle.kt_child.specs.declared.system.Polled.TheVariants.{Running, Exited as PolledExit, Signaled as PolledSignal}
 use Rattle.kt_child.specs.declared.polling.AfterPoll.{AfterPoll}
 use Rattle.kt_child.specs.declared.polling.AfterPoll.TheVariants.{More, Ended}
 use Rattle.kt_child.specs.System.Calls.{Call, Poll, Kill}

@@ -1,7 +1,7 @@
 -- The moments that the system returns.
 use Rattle.std.specs.Prelude.{ℕ, Result, Ok, Err, leb, if◌then◌else◌}
-use Rattle.kt_base.specs.Limits.{latest_moment}
 use Rattle.kt_child.specs.Types.{OsFault}
+use Rattle.kt_base.specs.Limits.{latest_moment}
 
 -- a moment that can be recorded stands for itself, another for 0
 abbrev pub recordable_moment : ℕ → ℕ

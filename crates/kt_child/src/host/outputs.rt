@@ -12,7 +12,7 @@ use std::os::unix::fs::{DirBuilderExt, OpenOptionsExt, PermissionsExt};
 use std::rt::Files;
 use std::{fs, io};
 
-/// The permissions of a directory of the driver, for its owner alone (this profile).
+/// The permissions of a directory of the driver, only for its owner (this profile).
 const DIRECTORY_MODE: u32 = 0o700;
 
 /// The permissions of the file of an output (this profile).
@@ -27,7 +27,7 @@ fn give_rights<R: Files>(rt: &R, path: &str) -> io::Result<()> {
     given
 }
 
-/// Makes a directory for its owner alone, who gets its rights back where the umask is narrow.
+/// Makes a directory only for its owner, who gets its rights back where the umask is narrow.
 pub(crate) fn create_directory<R: Files>(rt: &R, dir: &str, narrow: bool) -> io::Result<()> {
     DirBuilder::new().mode(DIRECTORY_MODE).create(rt, dir)?;
     if narrow { give_rights(rt, dir) } else { Ok(()) }
@@ -72,7 +72,7 @@ fn lies_in_directory<R: Files>(rt: &R, path: &str) -> io::Result<bool> {
     }
 }
 
-/// Makes a new file for its owner alone. A path that exists, or a link in place of its directory, is
+/// Makes a new file only for its owner. A path that exists, or a link in place of its directory, is
 /// a fault. A second file of a directory is made without another look at that.
 pub(crate) fn create_output<R: Files>(
     rt: &R,
