@@ -1,8 +1,8 @@
 -- The filters of a command, word by word and together.
-use Rattle.std.proofs.Common.{arith, Option, Some, None, Result, Ok, Err, IsErrAnd, find, option_map, slice_get, ◌≡◌, ℕ, suc, ◌<◌, Bool, true, false, List, [], ◌∷◌, length, get_or, take, refl, sym, ap, ◌∙◌, subst, ◌⊎◌, inr}
+use Rattle.std.proofs.Common.{arith, Option, Some, None, Result, Ok, Err, IsErrAnd, find, option_map, option_and_then, slice_get, ◌≡◌, ℕ, suc, ◌<◌, Bool, true, false, List, [], ◌∷◌, length, get_or, take, refl, sym, ap, ◌∙◌, subst, ◌⊎◌, inr}
 use Rattle.kt_plan.proofs.Common.{err_from_is_err_and, Filter, FilterFault, ChecksTogether, apart, position_in, shared, Filters, clash, each_of, filters_of, in_front, lacks_case, right, unnamed, unparsed, IsShort, Stop}
 use Rattle.std.proofs.lemmas.Option.{slice_get_read, slice_get_within}
-use Rattle.kt_suite.specs.Disjoint.{IsDisjoint, IsFirstFault, fault_after, is_same_filter, overlap}
+use Rattle.kt_suite.specs.Disjoint.{IsDisjoint, IsFirstFault, overlap}
 use Rattle.kt_suite.specs.Disjoint as of
 use Rattle.kt_plan.specs.declared.stop.Stop.TheVariants as stop
 
@@ -24,19 +24,18 @@ position_found : (position : ℕ) (filter : Filter) (found : Option Filter) (fau
 position_found position filter None fault e = absurd (cc)
 position_found position filter (Some earlier) fault e = let same : of.clash position filter earlier ≡ fault = cc in rw (← same) (grind arith)
 
-position_behind : (earlier : List Filter) (position : ℕ) (o : Option Filter) (fault : FilterFault) → fault_after earlier position o ≡ Some fault → position_in fault ≡ position
-position_behind earlier position None fault e = absurd (cc)
-position_behind earlier position (Some filter) fault e = position_found position filter (find (overlap filter) earlier) fault e
-
-within_at : (filters earlier : List Filter) (position : ℕ) (o : Option Filter) (fault : FilterFault) → slice_get filters position ≡ o → fault_after earlier position o ≡ Some fault → position < length filters
-within_at filters earlier position None fault g e = absurd (cc)
-within_at filters earlier position (Some filter) fault g e = slice_get_within filters position filter g
+fault_found : (filters : List Filter) (position : ℕ) (o : Option Filter) (fault : FilterFault) → slice_get filters position ≡ o
+    → option_and_then (λ (filter : Filter). option_map (of.clash position filter) (find (overlap filter) (take position filters))) o ≡ Some fault
+    → (position_in fault ≡ position) × (position < length filters)
+fault_found filters position None fault g e = absurd (cc)
+fault_found filters position (Some filter) fault g e =
+    (position_found position filter (find (overlap filter) (take position filters)) fault e, slice_get_within filters position filter g)
 
 -- a fault of several filters names one of them
 pub is_within : (filters : List Filter) (fault : FilterFault) → IsFirstFault filters fault → position_in fault < length filters
 is_within filters fault f =
-    subst (λ (n : ℕ). n < length filters) (sym (position_behind (take f.0 filters) f.0 (slice_get filters f.0) fault f.1))
-    (within_at filters (take f.0 filters) f.0 (slice_get filters f.0) fault refl f.1)
+    let w = fault_found filters f.0 (slice_get filters f.0) fault refl f.1 in
+    subst (λ (n : ℕ). n < length filters) (sym w.0) w.1
 
 -- and the word at its position
 pub names_word : (words : List (List ℕ)) (filters : List Filter) (fault : FilterFault) (n : ℕ) (found word : List ℕ) → length words ≡ length filters → IsFirstFault filters fault
@@ -44,7 +43,7 @@ pub names_word : (words : List (List ℕ)) (filters : List Filter) (fault : Filt
 names_word words filters fault n found word same f at read copied =
     let p = is_within filters fault f in
     let q : n < length words = subst (λ (k : ℕ). k < length words) (sym at) (subst (λ (k : ℕ). position_in fault < k) (sym same) p) in
-    let e : n ≡ f.0 = at ∙ position_behind (take f.0 filters) f.0 (slice_get filters f.0) fault f.1 in
+    let e : n ≡ f.0 = at ∙ (fault_found filters f.0 (slice_get filters f.0) fault refl f.1).0 in
     let s : slice_get words n ≡ Some found = slice_get_read words (length words) n found refl q read in
     shared word fault (record {
       position = f.0;

@@ -29,7 +29,7 @@ module _ {W : Type 0} (asks : W → Asked → W → Type 0) (tells : W → Told 
   pub tree_stopped : (fault : SuiteFault) (why : Stop) → Answered asks old mid (λ asked. LoadsOrShort kyuafile asked (Err fault))
       → ((refusal : OutOfMemory) × (why ≡ stop.NoMemory refusal) × (fault.cause ≡ NoMemory refusal)) ⊎ ((why ≡ stop.Tree fault) × (IsNoMemory fault → ⊥))
       → Collected asks tells settings kyuafile old mid (Err why)
-  tree_stopped fault why a t = record { asked = a.asked; told = []; loaded = mid; chain = a.chain; lists = refl; holds = by t a.holds }
+  tree_stopped fault why a t = record { asked = a.asked; answers = []; loaded = mid; chain = a.chain; lists = refl; holds = by t a.holds }
     where
       by : ((refusal : OutOfMemory) × (why ≡ stop.NoMemory refusal) × (fault.cause ≡ NoMemory refusal)) ⊎ ((why ≡ stop.Tree fault) × (IsNoMemory fault → ⊥)) → LoadsOrShort kyuafile a.asked (Err fault)
           → CollectsOrShort settings kyuafile a.asked [] (Err why)
@@ -43,11 +43,11 @@ module _ {W : Type 0} (asks : W → Asked → W → Type 0) (tells : W → Told 
     loads = loaded_all programs a.asked kyuafile a.holds
 
     -- memory ran out while the programs were listed
-    pub lists_stopped : (shown : List Program) (r : Result Chosen Stop) (why : Stop) → shown ≡ programs → Answered tells mid new (λ told. OffersFirst settings.config settings.filters shown told) → r ≡ Err why → RanOut why
+    pub lists_stopped : (shown : List Program) (r : Result Chosen Stop) (why : Stop) → shown ≡ programs → Answered tells mid new (λ answers. OffersFirst settings.config settings.filters shown answers) → r ≡ Err why → RanOut why
         → Collected asks tells settings kyuafile old new r
     lists_stopped shown r why same b e short = record {
       asked = a.asked;
-      told = b.asked;
+      answers = b.asked;
       loaded = mid;
       chain = a.chain;
       lists = b.chain;
@@ -58,9 +58,9 @@ module _ {W : Type 0} (asks : W → Asked → W → Type 0) (tells : W → Told 
     }
 
     module _ (shown : List Program) (filters : List Filter) (found : List Candidate) (same : shown ≡ programs) (own : filters ≡ settings.filters)
-        (b : Answered tells mid new (λ told. Offers settings.config settings.filters shown told found)) where
+        (b : Answered tells mid new (λ answers. Offers settings.config settings.filters shown answers found)) where
       collected : (r : Result Chosen Stop) → CollectsOrShort settings kyuafile a.asked b.asked r → Collected asks tells settings kyuafile old new r
-      collected r h = record { asked = a.asked; told = b.asked; loaded = mid; chain = a.chain; lists = b.chain; holds = h }
+      collected r h = record { asked = a.asked; answers = b.asked; loaded = mid; chain = a.chain; lists = b.chain; holds = h }
 
       offers : Offers settings.config settings.filters programs b.asked found
       offers = subst (λ (ps : List Program). Offers settings.config settings.filters ps b.asked found) same b.holds

@@ -9,33 +9,23 @@ pub use Rattle.kt_base.specs.Texts.{is_empty}
 pub use Rattle.kt_base.specs.Utf8.{utf8}
 pub use Rattle.kt_base.specs.declared.child.Interface.TheVariants.{Atf, Plain, Tap}
 pub use Rattle.kt_config.specs.FaultWords.{config_words}
-pub use Rattle.kt_config.specs.Values.{Values}
+pub use Rattle.kt_plan.specs.Types.{Candidate, CaseOptions, Chosen, Definition, Filter, FilterFault, Host, Job, Need, Program, Settings, Stop, SuiteFault, Values}
 pub use Rattle.kt_config.specs.declared.fault.ConfigFault.{ConfigFault}
-pub use Rattle.kt_config.specs.declared.meaning.Definition.{Definition}
 pub use Rattle.kt_metadata.specs.Requirements.{IsNoted, first_reason, is_found, is_same_need, needed, rows}
-pub use Rattle.kt_metadata.specs.declared.host.Host.{Host}
-pub use Rattle.kt_metadata.specs.declared.host.Need.{Need}
 pub use Rattle.kt_metadata.specs.declared.meta.Meta.{Meta}
 pub use Rattle.kt_sched.specs.Children.{Child, IsIdle}
 pub use Rattle.kt_sched.specs.Plan.{IsFit, IsPlan}
-pub use Rattle.kt_sched.specs.declared.job.Job.{Job}
 pub use Rattle.kt_suite.proofs.FaultWords.{utf8-script}
 pub use Rattle.kt_suite.specs.Answers.{Answered, Asked}
 pub use Rattle.kt_suite.specs.Matching.{MayMatch}
 pub use Rattle.kt_suite.specs.Paths.{name_in}
 pub use Rattle.kt_suite.specs.Selecting.{is_selected, most_items, places}
 pub use Rattle.kt_suite.specs.declared.cause.SuiteCause.TheVariants.{NoMemory, Unreadable}
-pub use Rattle.kt_suite.specs.declared.fault.SuiteFault.{SuiteFault}
-pub use Rattle.kt_suite.specs.declared.filter.Filter.{Filter}
-pub use Rattle.kt_suite.specs.declared.filter.FilterFault.{FilterFault}
-pub use Rattle.kt_suite.specs.declared.registry.Program.{Program}
 unfoldable pub use lib.Utf8.{encode}
 pub use Rattle.kt_plan.specs.Collecting.{Collects, IsWanted, ListsCases, Offers, OffersFirst, OffersOne, asks, candidates_of, chosen, chosen_of, item_of, listed, listing, loading, no_further, offering, one_and, passes, selected_cases, single, too_many, unlisted, unloaded, variables_for}
 pub use Rattle.kt_plan.specs.Configuring.{Configures, Filters, IsConfiguration, ReadsConfig, ReadsFirst, Settles, after_file, before_file, behind, clash, defined, each_of, failed, filter_of, filters_of, in_front, lacks_case, missing, none, read, refused, right, seen, settled, stopped, unconfigured, unfiltered, unnamed, unparsed, unread, word_meaning, words_meaning}
-pub use Rattle.kt_plan.specs.Inner.Collecting.{Collected, CollectsOrShort, ListsFirst, after_list, before_list}
+pub use Rattle.kt_plan.specs.Inner.Collecting.{Collected, CollectsOrShort, ListsFirst, LoadsOrShort, RanShort, after_list, before_list, places_from}
 pub use Rattle.kt_plan.specs.Inner.Configuring.{ChecksTogether, Configured, Gives, GivesMore, GivesOne, OrShort, SettlesOrShort, apart, position_in, shared, unread_stop}
-pub use Rattle.kt_plan.specs.Inner.Listings.{LoadsOrShort, RanShort}
-pub use Rattle.kt_plan.specs.Inner.Picks.{places_from}
 pub use Rattle.kt_plan.specs.Inner.Planning.{Notes}
 pub use Rattle.kt_plan.specs.Listings.{Loads, before_tree, by_tree, named, unfinished}
 pub use Rattle.kt_plan.specs.Planning.{ArePlanned, IsDecided, IsJobOf, LooksFor, Surveys, SurveysFirst, asked, finds, is_atf, meta_in, needs_among, needs_by, needs_in, needs_of, no_job, nothing, planned}
@@ -43,8 +33,3 @@ pub use Rattle.kt_plan.specs.Questions.{AreFirst, leads_by, of_host, of_tree}
 pub use Rattle.kt_plan.specs.StopWords.{quoted_words}
 pub use Rattle.kt_plan.specs.Stops.{IsShort, RanOut}
 pub use Rattle.kt_plan.specs.Told.{Finds, HasDisk, HasMemory, IsRoot, Lists, ReadConfig, Told}
-pub use Rattle.kt_plan.specs.declared.cases.Chosen.{Chosen}
-pub use Rattle.kt_plan.specs.declared.cases.Candidate.{Candidate}
-pub use Rattle.kt_words.specs.declared.options.CaseOptions.{CaseOptions}
-pub use Rattle.kt_plan.specs.declared.options.Settings.{Settings}
-pub use Rattle.kt_plan.specs.declared.stop.Stop.{Stop}

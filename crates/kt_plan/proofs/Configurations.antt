@@ -4,8 +4,7 @@ use Rattle.kt_plan.proofs.Common.{err_from_is_err_and, Definition, ConfigFault, 
 use Rattle.kt_config.specs.Holding.{Holds}
 use Rattle.kt_plan.proofs.Chains.{answered-as, answered-once}
 use Rattle.kt_config.specs.Reading.{IsDue, IsRead}
-use Rattle.kt_suite.specs.declared.tree.ReadFault.{ReadFault}
-use Rattle.kt_suite.specs.declared.tree.ReadFault.TheVariants.{Missing, Failed, Memory}
+use Rattle.kt_plan.specs.Types.{Failed, Memory, Missing, ReadFault}
 use Rattle.kt_plan.specs.declared.stop.Stop.TheVariants as stop
 
 -- ---- words in order
@@ -18,15 +17,15 @@ behind-in_front before one (Err fault) = refl
 -- ---- the configuration file
 
 -- all that is asked for it is what is asked first
-pub file_first : (path : Option (List ℕ)) (told : List Told) (meant : Result (List Definition) Stop) → ReadsConfig path told meant → ReadsFirst path told
+pub file_first : (path : Option (List ℕ)) (answers : List Told) (meant : Result (List Definition) Stop) → ReadsConfig path answers meant → ReadsFirst path answers
 file_first _ _ _ none = before_file None
 file_first _ _ _ (unread path fault u) = after_file path (Err fault)
 file_first _ _ _ (seen path bytes meant c) = after_file path (Ok bytes)
 
 -- and so for the configuration
-pub configuration_first : (options : CaseOptions) (told : List Told) (meant : Result (List Definition) Stop) → Configures options told meant → ReadsFirst options.config told
-configuration_first options told _ (stopped fault r) = file_first options.config told (Err fault) r
-configuration_first options told _ (defined before r) = file_first options.config told (Ok before) r
+pub configuration_first : (options : CaseOptions) (answers : List Told) (meant : Result (List Definition) Stop) → Configures options answers meant → ReadsFirst options.config answers
+configuration_first options answers _ (stopped fault r) = file_first options.config answers (Err fault) r
+configuration_first options answers _ (defined before r) = file_first options.config answers (Ok before) r
 
 -- it is read
 pub read_config_file : (bytes : List ℕ) (config : Values) → IsRead bytes config → Configured (IsConfiguration bytes) (Ok config)
@@ -43,11 +42,11 @@ none_given path config e h = record { meant = Ok []; means = subst (λ (p : Opti
 module _ {W : Type 0} (tells : W → Told → W → Type 0) (old new : W) where
   -- the configuration is that of a path, or memory ran out
   abbrev pub Reads : Option (List ℕ) → Result Values Stop → Type 0
-  Reads path outcome = Answered tells old new (λ told. OrShort outcome path told (Configured (ReadsConfig path told) outcome))
+  Reads path outcome = Answered tells old new (λ answers. OrShort outcome path answers (Configured (ReadsConfig path answers) outcome))
 
   -- the configuration of a command, or memory ran out
   abbrev pub Configuration : CaseOptions → Result Values Stop → Type 0
-  Configuration options outcome = Answered tells old new (λ told. OrShort outcome options.config told (Configured (Configures options told) outcome))
+  Configuration options outcome = Answered tells old new (λ answers. OrShort outcome options.config answers (Configured (Configures options answers) outcome))
 
   -- it can't be read
   pub file_unread : (path : List ℕ) (answer : Result (List ℕ) ReadFault) (fault : ReadFault) → tells old (ReadConfig path answer) new → answer ≡ Err fault → Reads (Some path) (Err (unread_stop fault))
@@ -75,44 +74,44 @@ module _ {W : Type 0} (tells : W → Told → W → Type 0) (old new : W) where
       → Configuration options outcome
   configured_not options found outcome fault e r a =
       let p = err_from_is_err_and outcome r in
-      answered-as a (λ told h. subst (λ (o : Result Values Stop). OrShort o options.config told (Configured (Configures options told) o)) (sym (p.1 ∙ ap (λ (x : Stop). Err x) p.2))
-      (by told (subst (λ (o : Result Values Stop). OrShort o options.config told (Configured (ReadsConfig options.config told) o)) e h)))
+      answered-as a (λ answers h. subst (λ (o : Result Values Stop). OrShort o options.config answers (Configured (Configures options answers) o)) (sym (p.1 ∙ ap (λ (x : Stop). Err x) p.2))
+      (by answers (subst (λ (o : Result Values Stop). OrShort o options.config answers (Configured (ReadsConfig options.config answers) o)) e h)))
     where
-      meant : (told : List Told) (m : Result (List Definition) Stop) → ReadsConfig options.config told m → Gives (Err fault) m → Configured (Configures options told) (Err fault)
-      meant told (Ok definitions) m g = absurd g
-      meant told (Err f) m g = record { meant = Err f; means = stopped f m; gives = g }
+      meant : (answers : List Told) (m : Result (List Definition) Stop) → ReadsConfig options.config answers m → Gives (Err fault) m → Configured (Configures options answers) (Err fault)
+      meant answers (Ok definitions) m g = absurd g
+      meant answers (Err f) m g = record { meant = Err f; means = stopped f m; gives = g }
 
-      by : (told : List Told) → OrShort {T = Values} (Err fault) options.config told (Configured (ReadsConfig options.config told) (Err fault))
-          → OrShort {T = Values} (Err fault) options.config told (Configured (Configures options told) (Err fault))
-      by told (inl s) = inl s
-      by told (inr c) = inr (meant told c.meant c.means c.gives)
+      by : (answers : List Told) → OrShort {T = Values} (Err fault) options.config answers (Configured (ReadsConfig options.config answers) (Err fault))
+          → OrShort {T = Values} (Err fault) options.config answers (Configured (Configures options answers) (Err fault))
+      by answers (inl s) = inl s
+      by answers (inr c) = inr (meant answers c.meant c.means c.gives)
 
   -- the definitions that were found, and what follows from them
   pub with_definitions : {found : Result Values Stop} {config : Values} {path : Option (List ℕ)} {P : List Told → Type 0}
       (Means : List Told → Result (List Definition) Stop → Type 0) → found ≡ Ok config
-      → Answered tells old new (λ told. OrShort found path told (Configured (Means told) found))
-      → ((told : List Told) (definitions : List Definition) → Means told (Ok definitions) → Gives (Ok config) (Ok definitions) → P told) → Answered tells old new P
+      → Answered tells old new (λ answers. OrShort found path answers (Configured (Means answers) found))
+      → ((answers : List Told) (definitions : List Definition) → Means answers (Ok definitions) → Gives (Ok config) (Ok definitions) → P answers) → Answered tells old new P
   with_definitions {config = config} {path = path} {P = P} Means e a f =
-      answered-as a (λ told h. by told (subst (λ (o : Result Values Stop). OrShort o path told (Configured (Means told) o)) e h))
+      answered-as a (λ answers h. by answers (subst (λ (o : Result Values Stop). OrShort o path answers (Configured (Means answers) o)) e h))
     where
-      meant : (told : List Told) (m : Result (List Definition) Stop) → Means told m → Gives (Ok config) m → P told
-      meant told (Ok definitions) m g = f told definitions m g
-      meant told (Err fault) m g = absurd g
+      meant : (answers : List Told) (m : Result (List Definition) Stop) → Means answers m → Gives (Ok config) m → P answers
+      meant answers (Ok definitions) m g = f answers definitions m g
+      meant answers (Err fault) m g = absurd g
 
-      by : (told : List Told) → OrShort {T = Values} (Ok config) path told (Configured (Means told) (Ok config)) → P told
-      by told (inl s) = absurd s.0
-      by told (inr c) = meant told c.meant c.means c.gives
+      by : (answers : List Told) → OrShort {T = Values} (Ok config) path answers (Configured (Means answers) (Ok config)) → P answers
+      by answers (inl s) = absurd s.0
+      by answers (inr c) = meant answers c.meant c.means c.gives
 
   -- the words of `-v` follow the file
   pub configured_both : (options : CaseOptions) (found outcome : Result Values Stop) (config : Values) → found ≡ Ok config → GivesMore config outcome (words_meaning options.variables) → Reads options.config found
       → Configuration options outcome
-  configured_both options found outcome config e m a = with_definitions (ReadsConfig options.config) e a (λ told before r g.
+  configured_both options found outcome config e m a = with_definitions (ReadsConfig options.config) e a (λ answers before r g.
       inr (record { meant = behind before (words_meaning options.variables); means = defined before r; gives = m before g }))
 
   -- memory ran out after the file
   pub configured_short : (options : CaseOptions) (found outcome : Result Values Stop) (config : Values) → found ≡ Ok config → IsShort outcome → Reads options.config found → Configuration options outcome
   configured_short options found outcome config e short a =
-      with_definitions (ReadsConfig options.config) e a (λ told before r g. inl (short, file_first options.config told (Ok before) r))
+      with_definitions (ReadsConfig options.config) e a (λ answers before r g. inl (short, file_first options.config answers (Ok before) r))
 
 -- ---- the words of `-v`
 

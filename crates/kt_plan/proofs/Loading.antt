@@ -1,7 +1,7 @@
 -- What the Kyuafile of a command registers.
 use Rattle.std.proofs.Common.{Err, true, false, ◌≡◌, ℕ, List, [], refl, sym, subst, ◌⊎◌, inl, inr}
 use Rattle.kt_plan.proofs.Common.{Unreadable, SuiteFault, Asked, Answered, name_in, is_empty, LoadsOrShort, Loads, before_tree, named, unfinished}
-use Rattle.kt_suite.specs.Inner.Faults.{Blames}
+use Rattle.kt_suite.specs.Inner.Steps.{Blames}
 use Rattle.kt_suite.specs.Registered.{Outcome, Registered, Unfinished}
 use Rattle.kt_plan.specs.Listings.{unnamed}
 

@@ -7,12 +7,12 @@ use Rattle.std.proofs.lemmas.List.Folds.{list_any-append}
 use Rattle.std.proofs.Math.Bool.{or-false, and-true, and-false, or_assoc}
 
 -- more was asked
-notes_more : (told more : List Told) (a b d : Host) → Notes told a b → Notes more b d → Notes (told ++ more) a d
-notes_more told more a b d h k = record {
+notes_more : (answers more : List Told) (a b d : Host) → Notes answers a b → Notes more b d → Notes (answers ++ more) a d
+notes_more answers more a b d h k = record {
   found = λ need word.
       k.found need word ∙ ap (λ (x : Bool). x || list_any (finds need word) more) (h.found need word)
-      ∙ or_assoc (is_found need a word) (list_any (finds need word) told) (list_any (finds need word) more)
-      ∙ ap (λ (x : Bool). is_found need a word || x) (sym (list_any-append (finds need word) told more));
+      ∙ or_assoc (is_found need a word) (list_any (finds need word) answers) (list_any (finds need word) more)
+      ∙ ap (λ (x : Bool). is_found need a word || x) (sym (list_any-append (finds need word) answers more));
   root = k.root ∙ h.root;
   memory = k.memory ∙ h.memory;
   disk = k.disk ∙ h.disk;
@@ -37,12 +37,12 @@ notes_there need name old new k = record {
 }
 
 -- questions, and others after them
-looks_append : (some after : List (Need × List ℕ)) (told more : List Told) → LooksFor some told → LooksFor after more → LooksFor (some ++ after) (told ++ more)
+looks_append : (some after : List (Need × List ℕ)) (answers more : List Told) → LooksFor some answers → LooksFor after more → LooksFor (some ++ after) (answers ++ more)
 looks_append _ after _ more nothing k = k
-looks_append _ after _ more (asked need word needs answer told h) k = asked need word (needs ++ after) answer (told ++ more) (looks_append needs after told more h k)
+looks_append _ after _ more (asked need word needs answer answers h) k = asked need word (needs ++ after) answer (answers ++ more) (looks_append needs after answers more h k)
 
 -- there are questions about any needs
-asks_all : (needs : List (Need × List ℕ)) → (told : List Told) × LooksFor needs told
+asks_all : (needs : List (Need × List ℕ)) → (answers : List Told) × LooksFor needs answers
 asks_all [] = ([], nothing)
 asks_all (first ∷ needs) = let rest = asks_all needs in (Finds first.0 first.1 false ∷ rest.0, asked first.0 first.1 needs false rest.0 rest.1)
 
@@ -51,8 +51,8 @@ rejoined : (a b d e : List Told) → a ++ ((b ++ d) ++ e) ≡ (a ++ b) ++ (d ++ 
 rejoined a b d e = ap (λ (ts : List Told). a ++ ts) (append_assoc b d e) ∙ sym (append_assoc a b (d ++ e))
 
 -- all questions to the host are the first ones
-pub all_surveyed : (cases : List Candidate) (told : List Told) (host : Host) → Surveys cases told host → SurveysFirst cases told
-all_surveyed cases told host s = record {
+pub all_surveyed : (cases : List Candidate) (answers : List Told) (host : Host) → Surveys cases answers host → SurveysFirst cases answers
+all_surveyed cases answers host s = record {
   root = host.root;
   memory = host.memory;
   disk = host.disk;
@@ -64,50 +64,50 @@ all_surveyed cases told host s = record {
 module _ {W : Type 0} (tells : W → Told → W → Type 0) where
   -- a required file or program isn't there
   pub word_missing : (need : Need) (name : List ℕ) (old new : W) (host : Host) (answer : Bool) → answer ≡ false → tells old (Finds need name answer) new
-      → Answered tells old new (λ told. LooksFor ((need, name) ∷ []) told × Notes told host host)
+      → Answered tells old new (λ answers. LooksFor ((need, name) ∷ []) answers × Notes answers host host)
   word_missing need name old new host answer missing h =
       answered-once (Finds need name false) (subst (λ (b : Bool). tells old (Finds need name b) new) missing h) (asked need name [] false [] nothing, notes_missing need name host)
 
   -- it is there
   pub word_there : (need : Need) (name : List ℕ) (old new : W) (was now : Host) (answer : Bool) → answer ≡ true → tells old (Finds need name answer) new → IsNoted need name was now
-      → Answered tells old new (λ told. LooksFor ((need, name) ∷ []) told × Notes told was now)
+      → Answered tells old new (λ answers. LooksFor ((need, name) ∷ []) answers × Notes answers was now)
   word_there need name old new was now answer there h n =
       answered-once (Finds need name true) (subst (λ (b : Bool). tells old (Finds need name b) new) there h) (asked need name [] true [] nothing, notes_there need name was now n)
 
   -- memory ran out after a question about a word
-  pub word_asked : (need : Need) (name : List ℕ) (old new : W) (answer : Bool) → tells old (Finds need name answer) new → Answered tells old new (λ told. AreFirst (LooksFor ((need, name) ∷ [])) told)
+  pub word_asked : (need : Need) (name : List ℕ) (old new : W) (answer : Bool) → tells old (Finds need name answer) new → Answered tells old new (λ answers. AreFirst (LooksFor ((need, name) ∷ [])) answers)
   word_asked need name old new answer h = answered-once (Finds need name answer) h ([], asked need name [] answer [] nothing)
 
   module _ (needs : List (Need × List ℕ)) (old : W) (was : Host) where
     -- the questions so far, and what was noted
     abbrev pub Looking : List (Need × List ℕ) → W → Host → Type 0
     Looking rest new now =
-        Answered tells old new (λ told. ((more : List Told) → LooksFor rest more → LooksFor needs (told ++ more)) × Notes told was now)
+        Answered tells old new (λ answers. ((more : List Told) → LooksFor rest more → LooksFor needs (answers ++ more)) × Notes answers was now)
 
     pub looking_next : (rest some after : List (Need × List ℕ)) (mid new : W) (then now : Host) → rest ≡ some ++ after → Looking rest mid then
-        → Answered tells mid new (λ told. LooksFor some told × Notes told then now) → Looking after new now
-    looking_next rest some after mid new then now e l a = answered-then l a (λ told own g h. (
+        → Answered tells mid new (λ answers. LooksFor some answers × Notes answers then now) → Looking after new now
+    looking_next rest some after mid new then now e l a = answered-then l a (λ answers own g h. (
       λ more k. rw append_assoc (g.0 (own ++ more) (rw e (looks_append some after own more h.0 k))),
-      notes_more told own was then now g.1 h.1,
+      notes_more answers own was then now g.1 h.1,
     ))
 
     -- memory ran out
     pub looking_stopped : (rest some after : List (Need × List ℕ)) (mid new : W) (then : Host) → rest ≡ some ++ after → Looking rest mid then
-        → Answered tells mid new (λ told. AreFirst (LooksFor some) told) → Answered tells old new (λ told. AreFirst (LooksFor needs) told)
+        → Answered tells mid new (λ answers. AreFirst (LooksFor some) answers) → Answered tells old new (λ answers. AreFirst (LooksFor needs) answers)
     looking_stopped rest some after mid new then e l a =
         let others = asks_all after in
-        answered-then l a (λ told own g h. (
+        answered-then l a (λ answers own g h. (
           h.0 ++ others.0,
-          subst (λ (ts : List Told). LooksFor needs ts) (rejoined told own h.0 others.0) (g.0 ((own ++ h.0) ++ others.0) (rw e (looks_append some after (own ++ h.0) others.0 h.1 others.1))),
+          subst (λ (ts : List Told). LooksFor needs ts) (rejoined answers own h.0 others.0) (g.0 ((own ++ h.0) ++ others.0) (rw e (looks_append some after (own ++ h.0) others.0 h.1 others.1))),
         ))
 
-    pub looking_all : (rest : List (Need × List ℕ)) (new : W) (now : Host) → rest ≡ [] → Looking rest new now → Answered tells old new (λ told. LooksFor needs told × Notes told was now)
-    looking_all rest new now e l = answered-as l (λ told g. (rw append-nil at (g.0 [] (rw e nothing)), g.1))
+    pub looking_all : (rest : List (Need × List ℕ)) (new : W) (now : Host) → rest ≡ [] → Looking rest new now → Answered tells old new (λ answers. LooksFor needs answers × Notes answers was now)
+    looking_all rest new now e l = answered-as l (λ answers g. (rw append-nil at (g.0 [] (rw e nothing)), g.1))
 
   -- all that the host was asked
   pub surveyed : (cases : List Candidate) (old a b d new : W) (was now : Host) (root : Bool) (memory disk : Option ℕ) → was.root ≡ root → was.memory ≡ memory → was.disk ≡ disk
       → ((need : Need) (word : List ℕ) → is_found need was word ≡ false) → tells old (IsRoot root) a → tells a (HasMemory memory) b → tells b (HasDisk disk) d
-      → Answered tells d new (λ told. LooksFor (needs_of cases) told × Notes told was now) → Answered tells old new (λ told. Surveys cases told now)
+      → Answered tells d new (λ answers. LooksFor (needs_of cases) answers × Notes answers was now) → Answered tells old new (λ answers. Surveys cases answers now)
   surveyed cases old a b d new was now root memory disk r m k none x y z h = record {
     asked = IsRoot root ∷ HasMemory memory ∷ HasDisk disk ∷ h.asked;
     chain = (a, x, (b, y, (d, z, h.chain)));
@@ -121,7 +121,7 @@ module _ {W : Type 0} (tells : W → Told → W → Type 0) where
 
   -- memory ran out as the host was asked
   pub survey_stopped : (cases : List Candidate) (old a b d new : W) (root : Bool) (memory disk : Option ℕ) → tells old (IsRoot root) a → tells a (HasMemory memory) b → tells b (HasDisk disk) d
-      → Answered tells d new (λ told. AreFirst (LooksFor (needs_of cases)) told) → Answered tells old new (λ told. SurveysFirst cases told)
+      → Answered tells d new (λ answers. AreFirst (LooksFor (needs_of cases)) answers) → Answered tells old new (λ answers. SurveysFirst cases answers)
   survey_stopped cases old a b d new root memory disk x y z h = record {
     asked = IsRoot root ∷ HasMemory memory ∷ HasDisk disk ∷ h.asked;
     chain = (a, x, (b, y, (d, z, h.chain)));

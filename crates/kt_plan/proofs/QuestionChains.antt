@@ -9,6 +9,6 @@ module _ {W : Type 0} (asks : W → Asked → W → Type 0) (tells : W → Told 
   chain_of_tree (q ∷ qs) a b p = (p.0, p.1, chain_of_tree qs p.0 b p.2)
 
   -- answers of a host are answers of its world
-  pub chain_of_host : (told : List Told) (a b : W) → Chain tells a told b → Chain (leads_by asks tells) a (of_host told) b
+  pub chain_of_host : (answers : List Told) (a b : W) → Chain tells a answers b → Chain (leads_by asks tells) a (of_host answers) b
   chain_of_host [] a b p = p
   chain_of_host (q ∷ qs) a b p = (p.0, p.1, chain_of_host qs p.0 b p.2)

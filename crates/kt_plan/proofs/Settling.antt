@@ -14,22 +14,22 @@ stops_short {T} result refusal r =
 
 module _ {W : Type 0} (tells : W → Told → W → Type 0) (old new : W) (needs_case : Bool) (options : CaseOptions) where
   abbrev pub Settled : Result Settings Stop → Type 0
-  Settled result = Answered tells old new (λ told. SettlesOrShort needs_case options told result)
+  Settled result = Answered tells old new (λ answers. SettlesOrShort needs_case options answers result)
 
   -- there is no configuration
   pub not_configured : (found : Result Values Stop) (result : Result Settings Stop) (fault : Stop) → found ≡ Err fault → IsErrAnd result (λ e. e ≡ fault) → Configuration tells old new options found → Settled result
   not_configured found result fault e r a =
       let p = err_from_is_err_and result r in
-      answered-as a (λ told h. subst (λ (o : Result Settings Stop). SettlesOrShort needs_case options told o) (sym (p.1 ∙ ap (λ (x : Stop). Err x) p.2))
-      (by told (subst (λ (o : Result Values Stop). OrShort o options.config told (Configured (Configures options told) o)) e h)))
+      answered-as a (λ answers h. subst (λ (o : Result Settings Stop). SettlesOrShort needs_case options answers o) (sym (p.1 ∙ ap (λ (x : Stop). Err x) p.2))
+      (by answers (subst (λ (o : Result Values Stop). OrShort o options.config answers (Configured (Configures options answers) o)) e h)))
     where
-      meant : (told : List Told) (m : Result (List Definition) Stop) → Configures options told m → Gives (Err fault) m → Settles needs_case options told (Err fault)
-      meant told (Ok definitions) m g = absurd g
-      meant told (Err f) m g = subst (λ (x : Stop). Settles needs_case options told (Err x)) (sym g) (unconfigured f m)
+      meant : (answers : List Told) (m : Result (List Definition) Stop) → Configures options answers m → Gives (Err fault) m → Settles needs_case options answers (Err fault)
+      meant answers (Ok definitions) m g = absurd g
+      meant answers (Err f) m g = subst (λ (x : Stop). Settles needs_case options answers (Err x)) (sym g) (unconfigured f m)
 
-      by : (told : List Told) → OrShort {T = Values} (Err fault) options.config told (Configured (Configures options told) (Err fault)) → SettlesOrShort needs_case options told (Err fault)
-      by told (inl s) = inl s
-      by told (inr c) = inr (meant told c.meant c.means c.gives)
+      by : (answers : List Told) → OrShort {T = Values} (Err fault) options.config answers (Configured (Configures options answers) (Err fault)) → SettlesOrShort needs_case options answers (Err fault)
+      by answers (inl s) = inl s
+      by answers (inr c) = inr (meant answers c.meant c.means c.gives)
 
   module _ (found : Result Values Stop) (config : Values) (e : found ≡ Ok config) (a : Configuration tells old new options found) where
     -- the filters are wrong
@@ -37,24 +37,24 @@ module _ {W : Type 0} (tells : W → Told → W → Type 0) (old new : W) (needs
         → IsShort read ⊎ Filters needs_case options.filters read → Settled result
     not_filtered read result fault f r h =
         let p = err_from_is_err_and result r in
-        with_definitions tells old new (Configures options) e a (λ told definitions m g.
-        subst (λ (o : Result Settings Stop). SettlesOrShort needs_case options told o) (sym (p.1 ∙ ap (λ (x : Stop). Err x) p.2))
-        (by told definitions m (subst (λ (o : Result (List Filter) Stop). IsShort o ⊎ Filters needs_case options.filters o) f h)))
+        with_definitions tells old new (Configures options) e a (λ answers definitions m g.
+        subst (λ (o : Result Settings Stop). SettlesOrShort needs_case options answers o) (sym (p.1 ∙ ap (λ (x : Stop). Err x) p.2))
+        (by answers definitions m (subst (λ (o : Result (List Filter) Stop). IsShort o ⊎ Filters needs_case options.filters o) f h)))
       where
-        by : (told : List Told) (definitions : List Definition) → Configures options told (Ok definitions) → IsShort {T = List Filter} (Err fault) ⊎ Filters needs_case options.filters (Err fault)
-            → SettlesOrShort needs_case options told (Err fault)
-        by told definitions m (inl s) = inl (s, configuration_first options told (Ok definitions) m)
-        by told definitions m (inr w) = inr (unfiltered definitions fault m w)
+        by : (answers : List Told) (definitions : List Definition) → Configures options answers (Ok definitions) → IsShort {T = List Filter} (Err fault) ⊎ Filters needs_case options.filters (Err fault)
+            → SettlesOrShort needs_case options answers (Err fault)
+        by answers definitions m (inl s) = inl (s, configuration_first options answers (Ok definitions) m)
+        by answers definitions m (inr w) = inr (unfiltered definitions fault m w)
 
     -- all is right
     pub all_settled : (read : Result (List Filter) Stop) (filters : List Filter) → read ≡ Ok filters → IsShort read ⊎ Filters needs_case options.filters read
         → Settled (Ok (record { config = config; filters = filters }))
     all_settled read filters f h =
-        with_definitions tells old new (Configures options) e a (λ told definitions m g.
-        by told definitions m g (subst (λ (o : Result (List Filter) Stop). IsShort o ⊎ Filters needs_case options.filters o) f h))
+        with_definitions tells old new (Configures options) e a (λ answers definitions m g.
+        by answers definitions m g (subst (λ (o : Result (List Filter) Stop). IsShort o ⊎ Filters needs_case options.filters o) f h))
       where
-        by : (told : List Told) (definitions : List Definition) → Configures options told (Ok definitions) → Gives (Ok config) (Ok definitions)
+        by : (answers : List Told) (definitions : List Definition) → Configures options answers (Ok definitions) → Gives (Ok config) (Ok definitions)
             → IsShort {T = List Filter} (Ok filters) ⊎ Filters needs_case options.filters (Ok filters)
-            → SettlesOrShort needs_case options told (Ok (record { config = config; filters = filters }))
-        by told definitions m g (inl s) = absurd s
-        by told definitions m g (inr w) = inr (settled definitions (record { config = config; filters = filters }) m g w)
+            → SettlesOrShort needs_case options answers (Ok (record { config = config; filters = filters }))
+        by answers definitions m g (inl s) = absurd s
+        by answers definitions m g (inr w) = inr (settled definitions (record { config = config; filters = filters }) m g w)

@@ -1,23 +1,11 @@
 -- Which cases the programs of a tree have, and which of them are selected: the second step.
 use Rattle.std.specs.Prelude.{ℕ, ◌≡◌, ◌≢◌, ◌≤◌, ◌<◌, ◌⊎◌, List, [], ◌∷◌, ◌++◌, Some, None, Result, Ok, Err, length, map, filter, unwrap_or}
 use Rattle.std.specs.List.{Contains}
-use Rattle.kt_base.specs.declared.child.Interface.TheVariants.{Atf}
-use Rattle.kt_base.specs.declared.variable.Variable.{Variable}
-use Rattle.kt_config.specs.Values.{Values, variables_of}
+use Rattle.kt_plan.specs.Types.{Asked, Atf, Candidate, CaseDef, Chosen, Filter, Item, Listing, Program, Settings, Stop, SuiteFault, Values, Variable}
+use Rattle.kt_config.specs.Values.{variables_of}
 use Rattle.kt_atflist.specs.Cases.{AreCases}
-use Rattle.kt_atflist.specs.declared.listing.CaseDef.{CaseDef}
-use Rattle.kt_atflist.specs.declared.listing.Listing.{Listing}
-use Rattle.kt_suite.specs.Answers.{Asked}
-use Rattle.kt_suite.specs.declared.fault.SuiteFault.{SuiteFault}
-use Rattle.kt_suite.specs.declared.filter.Filter.{Filter}
-use Rattle.kt_suite.specs.declared.selecting.Item.{Item}
-use Rattle.kt_suite.specs.declared.registry.Program.{Program}
 use Rattle.kt_suite.specs.Matching.{MayMatch}
 use Rattle.kt_suite.specs.Selecting.{most_items, is_selected, idle_places}
-use Rattle.kt_plan.specs.declared.cases.Candidate.{Candidate}
-use Rattle.kt_plan.specs.declared.cases.Chosen.{Chosen}
-use Rattle.kt_plan.specs.declared.options.Settings.{Settings}
-use Rattle.kt_plan.specs.declared.stop.Stop.{Stop}
 use Rattle.kt_plan.specs.declared.stop.Stop.TheVariants as stop
 use Rattle.kt_plan.specs.Listings.{Loads, LoadsFirst}
 use Rattle.kt_plan.specs.Told.{Told, Lists}
@@ -46,8 +34,8 @@ pub data ListsCases (config : Values) (program : Program) : List Told → List C
 -- the cases of a program: an ATF program that is wanted is asked for its list, and one that isn't has none here; the others have the
 -- case `main`
 pub data OffersOne (config : Values) (filters : List Filter) (program : Program) : List Told → List Candidate → Type 0 where
-  listing : (told : List Told) (cases : List CaseDef) → program.interface ≡ Atf → IsWanted filters program → ListsCases config program told cases
-      → OffersOne config filters program told (candidates_of program cases)
+  listing : (answers : List Told) (cases : List CaseDef) → program.interface ≡ Atf → IsWanted filters program → ListsCases config program answers cases
+      → OffersOne config filters program answers (candidates_of program cases)
   unlisted : program.interface ≡ Atf → (IsWanted filters program → ⊥) → OffersOne config filters program [] []
   single : (cases : List CaseDef) → program.interface ≢ Atf → AreCases program.props program.interface None cases
       → OffersOne config filters program [] (candidates_of program cases)
@@ -55,16 +43,16 @@ pub data OffersOne (config : Values) (filters : List Filter) (program : Program)
 -- the cases of some programs, in their order
 pub data Offers (config : Values) (filters : List Filter) : List Program → List Told → List Candidate → Type 0 where
   none : Offers config filters [] [] []
-  one_and : (program : Program) (programs : List Program) (told more : List Told) (own others : List Candidate) → OffersOne config filters program told own
-      → Offers config filters programs more others → Offers config filters (program ∷ programs) (told ++ more) (own ++ others)
+  one_and : (program : Program) (programs : List Program) (answers more : List Told) (own others : List Candidate) → OffersOne config filters program answers own
+      → Offers config filters programs more others → Offers config filters (program ∷ programs) (answers ++ more) (own ++ others)
 
 -- the first questions for them: the programs that are wanted are asked for their lists in order, up to some place
 pub data OffersFirst (config : Values) (filters : List Filter) : List Program → List Told → Type 0 where
   no_further : (programs : List Program) → OffersFirst config filters programs []
-  asks : (program : Program) (programs : List Program) (listing : Listing) (told : List Told) → program.interface ≡ Atf → IsWanted filters program
-      → OffersFirst config filters programs told → OffersFirst config filters (program ∷ programs) (Lists program (variables_for config program.suite) listing ∷ told)
-  passes : (program : Program) (programs : List Program) (told : List Told) → (program.interface ≡ Atf → IsWanted filters program → ⊥)
-      → OffersFirst config filters programs told → OffersFirst config filters (program ∷ programs) told
+  asks : (program : Program) (programs : List Program) (listing : Listing) (answers : List Told) → program.interface ≡ Atf → IsWanted filters program
+      → OffersFirst config filters programs answers → OffersFirst config filters (program ∷ programs) (Lists program (variables_for config program.suite) listing ∷ answers)
+  passes : (program : Program) (programs : List Program) (answers : List Told) → (program.interface ≡ Atf → IsWanted filters program → ⊥)
+      → OffersFirst config filters programs answers → OffersFirst config filters (program ∷ programs) answers
 
 -- a case as filters see it
 abbrev pub item_of : Candidate → Item
@@ -84,14 +72,14 @@ chosen_of filters found = record {
 -- the selected cases of a tree, or why it stops the command
 pub data Collects (settings : Settings) (kyuafile : List ℕ) : List Asked → List Told → Result Chosen Stop → Type 0 where
   unloaded : (asked : List Asked) (fault : SuiteFault) → Loads kyuafile asked (Err fault) → Collects settings kyuafile asked [] (Err (stop.Tree fault))
-  too_many : (asked : List Asked) (told : List Told) (programs : List Program) (found : List Candidate) → Loads kyuafile asked (Ok programs)
-      → Offers settings.config settings.filters programs told found → most_items < length found → Collects settings kyuafile asked told (Err stop.TooManyCases)
-  chosen : (asked : List Asked) (told : List Told) (programs : List Program) (found : List Candidate) → Loads kyuafile asked (Ok programs)
-      → Offers settings.config settings.filters programs told found → length found ≤ most_items
-      → Collects settings kyuafile asked told (Ok (chosen_of settings.filters found))
+  too_many : (asked : List Asked) (answers : List Told) (programs : List Program) (found : List Candidate) → Loads kyuafile asked (Ok programs)
+      → Offers settings.config settings.filters programs answers found → most_items < length found → Collects settings kyuafile asked answers (Err stop.TooManyCases)
+  chosen : (asked : List Asked) (answers : List Told) (programs : List Program) (found : List Candidate) → Loads kyuafile asked (Ok programs)
+      → Offers settings.config settings.filters programs answers found → length found ≤ most_items
+      → Collects settings kyuafile asked answers (Ok (chosen_of settings.filters found))
 
 -- the first questions for the selected cases, if memory ran out: to the tree, and then for the lists
 pub data CollectsFirst (settings : Settings) (kyuafile : List ℕ) : List Asked → List Told → Type 0 where
   loading : (asked : List Asked) → LoadsFirst kyuafile asked → CollectsFirst settings kyuafile asked []
-  offering : (asked : List Asked) (told : List Told) (programs : List Program) → Loads kyuafile asked (Ok programs)
-      → OffersFirst settings.config settings.filters programs told → CollectsFirst settings kyuafile asked told
+  offering : (asked : List Asked) (answers : List Told) (programs : List Program) → Loads kyuafile asked (Ok programs)
+      → OffersFirst settings.config settings.filters programs answers → CollectsFirst settings kyuafile asked answers

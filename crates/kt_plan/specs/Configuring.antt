@@ -1,27 +1,26 @@
 -- What a command over test cases is configured with, and which filters it has: the first step.
 use Rattle.std.specs.Prelude.{ℕ, Bool, true, false, not, ◌≡◌, ◌<◌, ◌&&◌, List, [], ◌∷◌, ◌++◌, Option, Some, None, Result, Ok, Err, is_some, slice_get}
+use Rattle.std.specs.Option.{option_map_or}
+use Rattle.kt_plan.specs.Types.{CaseOptions, Definition, Failed, Filter, FilterFault, Missing, ReadFault, Settings, Stop}
 use Rattle.kt_base.specs.Texts.{before, after}
 use Rattle.kt_script.specs.Spelling.{Spells}
 use Rattle.kt_script.specs.declared.syntax.Stmt.{Stmt}
-use Rattle.kt_config.specs.declared.meaning.Definition.{Definition}
 use Rattle.kt_config.specs.declared.fault.ConfigFault.{ConfigFault}
 use Rattle.kt_config.specs.declared.fault.ConfigFault.TheVariants.{BadValue}
 use Rattle.kt_config.specs.Holding.{Holds}
-use Rattle.kt_config.specs.Names.{Meaning, definition_named}
+use Rattle.kt_config.specs.Names.{definition_named}
 use Rattle.kt_config.specs.Reading.{outcome_of, IsDue}
-use Rattle.kt_suite.specs.declared.filter.Filter.{Filter}
-use Rattle.kt_suite.specs.declared.filter.FilterFault.{FilterFault}
-use Rattle.kt_suite.specs.declared.tree.ReadFault.{ReadFault}
-use Rattle.kt_suite.specs.declared.tree.ReadFault.TheVariants.{Missing, Failed}
 use Rattle.kt_suite.specs.Disjoint.{overlap_fault, IsDisjoint}
-use Rattle.kt_suite.specs.Filters.{Meaning as FilterMeaning, filter_meaning}
-use Rattle.kt_words.specs.declared.options.CaseOptions.{CaseOptions}
-use Rattle.kt_plan.specs.declared.options.Settings.{Settings}
-use Rattle.kt_plan.specs.declared.stop.Stop.{Stop}
+use Rattle.kt_suite.specs.Filters.{filter_meaning}
 use Rattle.kt_plan.specs.declared.stop.Stop.TheVariants as stop
 use Rattle.kt_plan.specs.Told.{Told, ReadConfig}
 
 -- ---- words in order
+
+-- what a word means, or the stop for its fault
+abbrev pub or_stop : {A E : Type 0} → (E → Stop) → Result A E → Result A Stop
+or_stop stop_for (Ok meaning) = Ok meaning
+or_stop stop_for (Err fault) = Err (stop_for fault)
 
 -- what one word means before what the others mean: after a stop nothing counts
 abbrev pub in_front : {A : Type 0} → Result A Stop → Result (List A) Stop → Result (List A) Stop
@@ -41,19 +40,10 @@ behind before (Err fault) = Err fault
 
 -- ---- variables
 
--- what a name and a value define; a name without one has a bad value
-abbrev pub defined_by : List ℕ → Option (List ℕ) → Meaning
-defined_by name None = Err BadValue
-defined_by name (Some value) = definition_named name value
-
--- a definition, or the stop at the word with this name
-abbrev pub or_stop_at : List ℕ → Meaning → Result Definition Stop
-or_stop_at name (Ok definition) = Ok definition
-or_stop_at name (Err fault) = Err (stop.Variable name fault)
-
--- what a word of `-v` defines, or why it stops the command
+-- what a word of `-v` defines, or why it stops the command; a name without a value has a bad value
 abbrev pub word_meaning : List ℕ → Result Definition Stop
-word_meaning word = or_stop_at (before 61 word) (defined_by (before 61 word) (after 61 word))
+word_meaning word =
+    or_stop (stop.Variable (before 61 word)) (option_map_or (definition_named (before 61 word)) (after 61 word) (Err BadValue))
 
 -- what the words of `-v` define, or the stop at the first that is wrong
 abbrev pub words_meaning : List (List ℕ) → Result (List Definition) Stop
@@ -79,20 +69,15 @@ pub data ReadsConfig : Option (List ℕ) → List Told → Result (List Definiti
       → ReadsConfig (Some path) (ReadConfig path (Ok bytes) ∷ []) meant
 
 -- what the configuration file and then the words of `-v` define, or the stop at the first fault
-pub data Configures (options : CaseOptions) (told : List Told) : Result (List Definition) Stop → Type 0 where
-  stopped : (fault : Stop) → ReadsConfig options.config told (Err fault) → Configures options told (Err fault)
-  defined : (before : List Definition) → ReadsConfig options.config told (Ok before) → Configures options told (behind before (words_meaning options.variables))
+pub data Configures (options : CaseOptions) (answers : List Told) : Result (List Definition) Stop → Type 0 where
+  stopped : (fault : Stop) → ReadsConfig options.config answers (Err fault) → Configures options answers (Err fault)
+  defined : (before : List Definition) → ReadsConfig options.config answers (Ok before) → Configures options answers (behind before (words_meaning options.variables))
 
 -- ---- filters
 
--- a filter, or the stop at its word
-abbrev pub or_stop_for : List ℕ → FilterMeaning → Result Filter Stop
-or_stop_for word (Ok filter) = Ok filter
-or_stop_for word (Err fault) = Err (stop.Filter word fault)
-
 -- the filter of a word, or why it stops the command
 abbrev pub filter_of : List ℕ → Result Filter Stop
-filter_of word = or_stop_for word (filter_meaning word)
+filter_of word = or_stop (stop.Filter word) (filter_meaning word)
 
 -- the filters of some words, or the stop at the first that is wrong
 abbrev pub filters_of : List (List ℕ) → Result (List Filter) Stop
@@ -107,9 +92,8 @@ pub record IsClash (words : List (List ℕ)) (filters : List Filter) (word : Lis
 
 -- there is one filter, of one case
 abbrev pub names_one_case : List Filter → Bool
-names_one_case [] = false
 names_one_case (filter ∷ []) = is_some filter.case_name
-names_one_case (filter ∷ other ∷ filters) = false
+names_one_case filters = false
 
 -- one filter of one case is needed, and there isn't
 abbrev pub lacks_case : Bool → List Filter → Bool
@@ -128,12 +112,12 @@ pub data Filters (needs_case : Bool) (words : List (List ℕ)) : Result (List Fi
 -- ---- the whole step
 
 -- the settings of a command, or the stop at the first fault: its configuration file, the words of `-v`, its filters
-pub data Settles (needs_case : Bool) (options : CaseOptions) (told : List Told) : Result Settings Stop → Type 0 where
-  unconfigured : (fault : Stop) → Configures options told (Err fault) → Settles needs_case options told (Err fault)
-  unfiltered : (definitions : List Definition) (fault : Stop) → Configures options told (Ok definitions) → Filters needs_case options.filters (Err fault)
-      → Settles needs_case options told (Err fault)
-  settled : (definitions : List Definition) (settings : Settings) → Configures options told (Ok definitions) → Holds settings.config definitions
-      → Filters needs_case options.filters (Ok settings.filters) → Settles needs_case options told (Ok settings)
+pub data Settles (needs_case : Bool) (options : CaseOptions) (answers : List Told) : Result Settings Stop → Type 0 where
+  unconfigured : (fault : Stop) → Configures options answers (Err fault) → Settles needs_case options answers (Err fault)
+  unfiltered : (definitions : List Definition) (fault : Stop) → Configures options answers (Ok definitions) → Filters needs_case options.filters (Err fault)
+      → Settles needs_case options answers (Err fault)
+  settled : (definitions : List Definition) (settings : Settings) → Configures options answers (Ok definitions) → Holds settings.config definitions
+      → Filters needs_case options.filters (Ok settings.filters) → Settles needs_case options answers (Ok settings)
 
 -- the first questions for the configuration file: it is asked for, or not yet
 pub data ReadsFirst : Option (List ℕ) → List Told → Type 0 where

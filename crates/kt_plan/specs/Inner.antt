@@ -1,6 +1,4 @@
 -- What private functions do: no public clause cites it.
 pub mod Collecting
 pub mod Configuring
-pub mod Listings
-pub mod Picks
 pub mod Planning

@@ -9,3 +9,4 @@ pub mod Selecting
 pub mod StopWords
 pub mod Stops
 pub mod Told
+pub mod Types

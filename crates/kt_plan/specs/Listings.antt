@@ -1,11 +1,9 @@
 -- What the Kyuafile of a command registers.
 use Rattle.std.specs.Prelude.{ℕ, true, false, List, [], ◌≡◌, Err}
-use Rattle.kt_suite.specs.Answers.{Asked}
+use Rattle.kt_plan.specs.Types.{Asked, NoMemory as OutOfMemory, SuiteFault}
 use Rattle.kt_suite.specs.Paths.{name_in}
 use Rattle.kt_base.specs.Texts.{is_empty}
-use Rattle.kt_base.specs.declared.no_memory.NoMemory.{NoMemory as OutOfMemory}
 use Rattle.kt_suite.specs.declared.cause.SuiteCause.TheVariants.{NoMemory, Unreadable}
-use Rattle.kt_suite.specs.declared.fault.SuiteFault.{SuiteFault}
 use Rattle.kt_suite.specs.Faults.{fault_at}
 use Rattle.kt_suite.specs.Registered.{Outcome, Registered, Unfinished}
 

@@ -2,20 +2,15 @@
 use Rattle.std.specs.Prelude.{ℕ, suc, Bool, true, false, ◌≡◌, ◌&&◌, List, [], ◌∷◌, ◌++◌, Option, Some, None, map}
 use Rattle.std.specs.List.{list_any}
 use Rattle.std.specs.Option.{option_map}
+use Rattle.kt_plan.specs.Types.{Atf, Candidate, Host, Job, Need, Values}
 use Rattle.kt_base.specs.Verdicts.{Judged, broken, skipped}
 use Rattle.kt_base.specs.declared.child.Interface.{Interface}
-use Rattle.kt_base.specs.declared.child.Interface.TheVariants.{Atf, Tap, Plain}
 use Rattle.kt_base.specs.declared.verdict.Reason.{Reason}
 use Rattle.kt_base.specs.Reasons.{reason_text}
-use Rattle.kt_config.specs.Values.{Values}
 use Rattle.kt_metadata.specs.Effective.{effective}
 use Rattle.kt_metadata.specs.Listing.{listing}
 use Rattle.kt_metadata.specs.Requirements.{all_needs, first_reason, is_found, is_same_need, needed, rows}
-use Rattle.kt_metadata.specs.declared.host.Host.{Host}
 use Rattle.kt_metadata.specs.declared.meta.Meta.{Meta}
-use Rattle.kt_metadata.specs.declared.host.Need.{Need}
-use Rattle.kt_sched.specs.declared.job.Job.{Job}
-use Rattle.kt_plan.specs.declared.cases.Candidate.{Candidate}
 use Rattle.kt_plan.specs.Collecting.{variables_for}
 use Rattle.kt_plan.specs.Questions.{AreFirst}
 use Rattle.kt_plan.specs.Told.{Told, Finds, IsRoot, HasMemory, HasDisk}
@@ -46,8 +41,8 @@ needs_of (candidate ∷ candidates) = needs_by candidate.case.fault (meta_in can
 -- the host is asked whether each of these is found, in their order
 pub data LooksFor : List (Need × List ℕ) → List Told → Type 0 where
   nothing : LooksFor [] []
-  asked : (need : Need) (word : List ℕ) (needs : List (Need × List ℕ)) (answer : Bool) (told : List Told) → LooksFor needs told
-      → LooksFor ((need, word) ∷ needs) (Finds need word answer ∷ told)
+  asked : (need : Need) (word : List ℕ) (needs : List (Need × List ℕ)) (answer : Bool) (answers : List Told) → LooksFor needs answers
+      → LooksFor ((need, word) ∷ needs) (Finds need word answer ∷ answers)
 
 -- an answer says that this is there
 abbrev pub finds : Need → List ℕ → Told → Bool
@@ -56,26 +51,25 @@ finds need word other = false
 
 -- the host is asked whether the runner is root, for its memory and its disk space, and for what the cases require to be found; it is there
 -- if one of the answers says so
-pub record Surveys (candidates : List Candidate) (told : List Told) (host : Host) : Type 0 where
+pub record Surveys (candidates : List Candidate) (answers : List Told) (host : Host) : Type 0 where
   pub looked : List Told
-  pub asked : told ≡ IsRoot host.root ∷ HasMemory host.memory ∷ HasDisk host.disk ∷ looked
+  pub asked : answers ≡ IsRoot host.root ∷ HasMemory host.memory ∷ HasDisk host.disk ∷ looked
   pub all : LooksFor (needs_of candidates) looked
   pub found : (need : Need) (word : List ℕ) → is_found need host word ≡ list_any (finds need word) looked
 
 -- the first questions to the host, if memory ran out: those for files and programs come last
-pub record SurveysFirst (candidates : List Candidate) (told : List Told) : Type 0 where
+pub record SurveysFirst (candidates : List Candidate) (answers : List Told) : Type 0 where
   pub root : Bool
   pub memory : Option ℕ
   pub disk : Option ℕ
   pub looked : List Told
-  pub asked : told ≡ IsRoot root ∷ HasMemory memory ∷ HasDisk disk ∷ looked
+  pub asked : answers ≡ IsRoot root ∷ HasMemory memory ∷ HasDisk disk ∷ looked
   pub first : AreFirst (LooksFor (needs_of candidates)) looked
 
 -- an interface has cleanups
 abbrev pub is_atf : Interface → Bool
 is_atf Atf = true
-is_atf Tap = false
-is_atf Plain = false
+is_atf other = false
 
 -- the verdict of a case that isn't to be started: broken for the fault of its list, else skipped for its first unmet requirement
 abbrev pub IsDecided : Option Reason → Option (List ℕ) → Option Judged → Type 0

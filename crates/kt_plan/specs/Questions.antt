@@ -1,6 +1,6 @@
 -- What a world was asked, in one list: questions to the tree and to the host.
 use Rattle.std.specs.Prelude.{List, ◌++◌, map}
-use Rattle.kt_suite.specs.Answers.{Asked}
+use Rattle.kt_plan.specs.Types.{Asked}
 use Rattle.kt_plan.specs.Told.{Told}
 
 -- a question to a world with its answer
@@ -11,7 +11,7 @@ pub data Question : Type 0 where
 -- an answer leads a world from the first state to the second
 abbrev pub leads_by : {W : Type 0} → (W → Asked → W → Type 0) → (W → Told → W → Type 0) → W → Question → W → Type 0
 leads_by asks tells old (OfTree asked) new = asks old asked new
-leads_by asks tells old (OfHost told) new = tells old told new
+leads_by asks tells old (OfHost answers) new = tells old answers new
 
 -- questions to the tree
 abbrev pub of_tree : List Asked → List Question
@@ -19,7 +19,7 @@ of_tree asked = map OfTree asked
 
 -- questions to the host
 abbrev pub of_host : List Told → List Question
-of_host told = map OfHost told
+of_host answers = map OfHost answers
 
 -- these are the first ones of some questions
 abbrev pub AreFirst : {Q : Type 0} → (List Q → Type 0) → List Q → Type 0

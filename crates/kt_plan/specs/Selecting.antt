@@ -1,11 +1,6 @@
 -- What the options of a command select.
 use Rattle.std.specs.Prelude.{Bool, List, ◌++◌, ◌⊎◌, Result, Ok, Err}
-use Rattle.kt_suite.specs.Answers.{Asked}
-use Rattle.kt_words.specs.declared.options.CaseOptions.{CaseOptions}
-use Rattle.kt_plan.specs.declared.cases.Chosen.{Chosen}
-use Rattle.kt_plan.specs.declared.cases.Picked.{Picked}
-use Rattle.kt_plan.specs.declared.options.Settings.{Settings}
-use Rattle.kt_plan.specs.declared.stop.Stop.{Stop}
+use Rattle.kt_plan.specs.Types.{Asked, CaseOptions, Chosen, Picked, Settings, Stop}
 use Rattle.kt_plan.specs.Collecting.{Collects, CollectsFirst}
 use Rattle.kt_plan.specs.Configuring.{ReadsFirst, Settles}
 use Rattle.kt_plan.specs.Questions.{Question, of_tree, of_host}
@@ -15,18 +10,18 @@ use Rattle.kt_plan.specs.Told.{Told}
 -- what the options of a command select, by these questions, or the first fault that stops it: the configuration and the filters, and then the tree
 -- and its lists
 pub data Selects (needed : Bool) (options : CaseOptions) : List Question → Result Picked Stop → Type 0 where
-  unsettled : (told : List Told) (fault : Stop) → Settles needed options told (Err fault) → Selects needed options (of_host told) (Err fault)
-  uncollected : (told : List Told) (settings : Settings) (asked : List Asked) (lists : List Told) (fault : Stop) → Settles needed options told (Ok settings)
-      → Collects settings options.kyuafile asked lists (Err fault) → Selects needed options (of_host told ++ (of_tree asked ++ of_host lists)) (Err fault)
-  selected : (told : List Told) (settings : Settings) (asked : List Asked) (lists : List Told) (chosen : Chosen) → Settles needed options told (Ok settings)
+  unsettled : (answers : List Told) (fault : Stop) → Settles needed options answers (Err fault) → Selects needed options (of_host answers) (Err fault)
+  uncollected : (answers : List Told) (settings : Settings) (asked : List Asked) (lists : List Told) (fault : Stop) → Settles needed options answers (Ok settings)
+      → Collects settings options.kyuafile asked lists (Err fault) → Selects needed options (of_host answers ++ (of_tree asked ++ of_host lists)) (Err fault)
+  selected : (answers : List Told) (settings : Settings) (asked : List Asked) (lists : List Told) (chosen : Chosen) → Settles needed options answers (Ok settings)
       → Collects settings options.kyuafile asked lists (Ok chosen)
-      → Selects needed options (of_host told ++ (of_tree asked ++ of_host lists)) (Ok (record { settings = settings; chosen = chosen }))
+      → Selects needed options (of_host answers ++ (of_tree asked ++ of_host lists)) (Ok (record { settings = settings; chosen = chosen }))
 
 -- the first questions for a selection, if memory ran out
 pub data SelectsFirst (needed : Bool) (options : CaseOptions) : List Question → Type 0 where
-  settling : (told : List Told) → ReadsFirst options.config told → SelectsFirst needed options (of_host told)
-  collecting : (told : List Told) (settings : Settings) (asked : List Asked) (lists : List Told) → Settles needed options told (Ok settings)
-      → CollectsFirst settings options.kyuafile asked lists → SelectsFirst needed options (of_host told ++ (of_tree asked ++ of_host lists))
+  settling : (answers : List Told) → ReadsFirst options.config answers → SelectsFirst needed options (of_host answers)
+  collecting : (answers : List Told) (settings : Settings) (asked : List Asked) (lists : List Told) → Settles needed options answers (Ok settings)
+      → CollectsFirst settings options.kyuafile asked lists → SelectsFirst needed options (of_host answers ++ (of_tree asked ++ of_host lists))
 
 -- a selection, or memory ran out after the first questions for it
 abbrev pub SelectsOrShort : Bool → CaseOptions → List Question → Result Picked Stop → Type 0

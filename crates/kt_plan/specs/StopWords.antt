@@ -1,8 +1,8 @@
 -- The words of a stop, as its line has them.
 use Rattle.std.specs.Prelude.{ℕ, List, ◌++◌, codes}
+use Rattle.kt_plan.specs.Types.{Stop}
 use Rattle.kt_config.specs.FaultWords.{config_words}
 use Rattle.kt_suite.specs.FaultWords.{fault_words, filter_words}
-use Rattle.kt_plan.specs.declared.stop.Stop.{Stop}
 use Rattle.kt_plan.specs.declared.stop.Stop.TheVariants as stop
 
 -- a word in quotes, and what is wrong with it

@@ -1,7 +1,6 @@
--- Whether memory alone stopped the steps of a command.
+-- Whether only a lack of memory stopped the steps of a command.
 use Rattle.std.specs.Prelude.{◌≡◌, Result, Ok, Err}
-use Rattle.kt_base.specs.declared.no_memory.NoMemory.{NoMemory as OutOfMemory}
-use Rattle.kt_plan.specs.declared.stop.Stop.{Stop}
+use Rattle.kt_plan.specs.Types.{NoMemory as OutOfMemory, Stop}
 use Rattle.kt_plan.specs.declared.stop.Stop.TheVariants as stop
 
 -- memory ran out

@@ -1,10 +1,6 @@
 -- What the host was asked, with its answers.
 use Rattle.std.specs.Prelude.{ℕ, Bool, List, Option, Result}
-use Rattle.kt_base.specs.declared.variable.Variable.{Variable}
-use Rattle.kt_atflist.specs.declared.listing.Listing.{Listing}
-use Rattle.kt_metadata.specs.declared.host.Need.{Need}
-use Rattle.kt_suite.specs.declared.registry.Program.{Program}
-use Rattle.kt_suite.specs.declared.tree.ReadFault.{ReadFault}
+use Rattle.kt_plan.specs.Types.{Listing, Need, Program, ReadFault, Variable}
 
 -- a question to the host with its answer: the bytes of a configuration file, what a program lists with the variables of its suite,
 -- whether a required file or program is found, whether the runner is root, memory and disk space in bytes, the moment

@@ -1,32 +1,42 @@
 -- Which cases the programs of a tree have, and which of them are selected: the second step.
-use Rattle.std.specs.Prelude.{ℕ, ◌⊎◌, List, [], ◌∷◌, Result}
-use Rattle.kt_config.specs.Values.{Values}
-use Rattle.kt_atflist.specs.declared.listing.Listing.{Listing}
+use Rattle.std.specs.Prelude.{ℕ, ◌≡◌, ◌⊎◌, List, [], ◌∷◌, map, Result, Err}
+use Rattle.kt_plan.specs.Types.{Asked, Candidate, Chosen, Filter, Listing, Program, Settings, Stop, SuiteFault, Values}
 use Rattle.kt_base.specs.Chains.{Chain}
-use Rattle.kt_suite.specs.Answers.{Asked}
-use Rattle.kt_suite.specs.declared.registry.Program.{Program}
-use Rattle.kt_plan.specs.declared.cases.Chosen.{Chosen}
-use Rattle.kt_plan.specs.declared.options.Settings.{Settings}
-use Rattle.kt_plan.specs.declared.stop.Stop.{Stop}
+use Rattle.kt_suite.specs.Faults.{IsNoMemory}
+use Rattle.kt_suite.specs.Registered.{Outcome}
+use Rattle.kt_suite.specs.Selecting.{places, is_selected}
+use Rattle.kt_plan.specs.Listings.{Loads, LoadsFirst}
 use Rattle.kt_plan.specs.Stops.{IsShort}
 use Rattle.kt_plan.specs.Told.{Told, Lists}
-use Rattle.kt_plan.specs.Collecting.{Collects, CollectsFirst, variables_for}
+use Rattle.kt_plan.specs.Collecting.{Collects, CollectsFirst, item_of, variables_for}
 
--- the first question for them, if memory ran out: the list is asked for, or not yet
+-- memory ran out while a tree was loaded
+abbrev pub RanShort : Outcome → Type 0
+RanShort outcome = (fault : SuiteFault) × IsNoMemory fault × (outcome ≡ Err fault)
+
+-- what a Kyuafile registers, or memory ran out after the first questions
+abbrev pub LoadsOrShort : List ℕ → List Asked → Outcome → Type 0
+LoadsOrShort kyuafile asked outcome = (RanShort outcome × LoadsFirst kyuafile asked) ⊎ Loads kyuafile asked outcome
+
+-- the places of the cases that filters select, the first case at this place
+abbrev pub places_from : List Filter → ℕ → List Candidate → List ℕ
+places_from filters place cases = places (is_selected filters) place (map item_of cases)
+
+-- the first question for the cases of a program, if memory ran out: its list is asked for, or not yet
 pub data ListsFirst (config : Values) (program : Program) : List Told → Type 0 where
   before_list : ListsFirst config program []
   after_list : (listing : Listing) → ListsFirst config program (Lists program (variables_for config program.suite) listing ∷ [])
 
 -- the selected cases, or memory ran out after the first questions for them
 abbrev pub CollectsOrShort : Settings → List ℕ → List Asked → List Told → Result Chosen Stop → Type 0
-CollectsOrShort settings kyuafile asked told result = (IsShort result × CollectsFirst settings kyuafile asked told) ⊎ Collects settings kyuafile asked told result
+CollectsOrShort settings kyuafile asked answers result = (IsShort result × CollectsFirst settings kyuafile asked answers) ⊎ Collects settings kyuafile asked answers result
 
 module _ {W : Type 0} (asks : W → Asked → W → Type 0) (tells : W → Told → W → Type 0) where
   -- a world was asked for the tree and then for the lists, and this came of it
   pub record Collected (settings : Settings) (kyuafile : List ℕ) (old new : W) (result : Result Chosen Stop) : Type 0 where
     pub asked : List Asked
-    pub told : List Told
+    pub answers : List Told
     pub loaded : W
     pub chain : Chain asks old asked loaded
-    pub lists : Chain tells loaded told new
-    pub holds : CollectsOrShort settings kyuafile asked told result
+    pub lists : Chain tells loaded answers new
+    pub holds : CollectsOrShort settings kyuafile asked answers result

@@ -1,17 +1,9 @@
 -- What a command over test cases is configured with, and which filters it has: the first step.
 use Rattle.std.specs.Prelude.{ℕ, Bool, ◌≡◌, ◌⊎◌, List, [], Option, Some, None, Result, Ok, Err}
-use Rattle.kt_config.specs.declared.meaning.Definition.{Definition}
+use Rattle.kt_plan.specs.Types.{CaseOptions, Definition, Failed, Filter, FilterFault, Memory, Missing, ReadFault, Settings, Stop, Values}
 use Rattle.kt_config.specs.Holding.{Holds}
-use Rattle.kt_config.specs.Values.{Values}
-use Rattle.kt_suite.specs.declared.filter.Filter.{Filter}
-use Rattle.kt_suite.specs.declared.filter.FilterFault.{FilterFault}
 use Rattle.kt_suite.specs.declared.filter.FilterFault.TheVariants.{Repeated, NotDisjoint}
-use Rattle.kt_suite.specs.declared.tree.ReadFault.{ReadFault}
-use Rattle.kt_suite.specs.declared.tree.ReadFault.TheVariants.{Missing, Failed, Memory}
 use Rattle.kt_suite.specs.Disjoint.{IsDisjoint}
-use Rattle.kt_words.specs.declared.options.CaseOptions.{CaseOptions}
-use Rattle.kt_plan.specs.declared.options.Settings.{Settings}
-use Rattle.kt_plan.specs.declared.stop.Stop.{Stop}
 use Rattle.kt_plan.specs.declared.stop.Stop.TheVariants as stop
 use Rattle.kt_plan.specs.Stops.{IsShort}
 use Rattle.kt_plan.specs.Told.{Told}
@@ -62,8 +54,8 @@ pub data ChecksTogether (words : List (List ℕ)) (filters : List Filter) : Opti
 
 -- this holds of what was asked, or memory ran out after the first questions
 abbrev pub OrShort : {T : Type 0} → Result T Stop → Option (List ℕ) → List Told → Type 0 → Type 0
-OrShort result path told fact = (IsShort result × ReadsFirst path told) ⊎ fact
+OrShort result path answers fact = (IsShort result × ReadsFirst path answers) ⊎ fact
 
 -- the settings, or memory ran out
 abbrev pub SettlesOrShort : Bool → CaseOptions → List Told → Result Settings Stop → Type 0
-SettlesOrShort needs_case options told result = OrShort result options.config told (Settles needs_case options told result)
+SettlesOrShort needs_case options answers result = OrShort result options.config answers (Settles needs_case options answers result)

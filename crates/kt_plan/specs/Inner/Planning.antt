@@ -1,15 +1,14 @@
 -- What is noted of the host's answers.
 use Rattle.std.specs.Prelude.{ℕ, ◌≡◌, ◌||◌, List}
 use Rattle.std.specs.List.{list_any}
+use Rattle.kt_plan.specs.Types.{Host, Need}
 use Rattle.kt_metadata.specs.Requirements.{is_found}
-use Rattle.kt_metadata.specs.declared.host.Host.{Host}
-use Rattle.kt_metadata.specs.declared.host.Need.{Need}
 use Rattle.kt_plan.specs.Planning.{finds}
 use Rattle.kt_plan.specs.Told.{Told}
 
 -- what is there by these answers was added to what was found, and nothing else has changed
-pub record Notes (told : List Told) (old new : Host) : Type 0 where
-  pub found : (need : Need) (word : List ℕ) → is_found need new word ≡ (is_found need old word || list_any (finds need word) told)
+pub record Notes (answers : List Told) (old new : Host) : Type 0 where
+  pub found : (need : Need) (word : List ℕ) → is_found need new word ≡ (is_found need old word || list_any (finds need word) answers)
   pub root : new.root ≡ old.root
   pub memory : new.memory ≡ old.memory
   pub disk : new.disk ≡ old.disk

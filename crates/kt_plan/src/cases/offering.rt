@@ -17,8 +17,9 @@ fn listed_cases<W: World>(
     world: &mut W,
 ) -> Result<Items<CaseDef>, NoMemory>
     requires { IsIdle (W.running world.old) (W.pending world.old) }
-    ensures offers { Answered W.tells world.old world.new (λ told. MatchResult result
-        (ListsCases config.now program.now told) (λ _. ListsFirst config.now program.now told)) }
+    ensures offers { Answered W.tells world.old world.new (λ answers. MatchResult result
+        (ListsCases config.now program.now answers)
+        (λ _. ListsFirst config.now program.now answers)) }
     ensures idle { IsIdle (W.running world.new) (W.pending world.new) }
 {
     let variables = variables_for(alloc, config, &program.suite)?;
@@ -35,10 +36,10 @@ fn own_cases<W: World>(
     world: &mut W,
 ) -> Result<Items<CaseDef>, NoMemory>
     requires { IsIdle (W.running world.old) (W.pending world.old) }
-    ensures offers { Answered W.tells world.old world.new (λ told. MatchResult result
-        (λ cases. OffersOne settings.now.config settings.now.filters program.now told
+    ensures offers { Answered W.tells world.old world.new (λ answers. MatchResult result
+        (λ cases. OffersOne settings.now.config settings.now.filters program.now answers
         (candidates_of program.now cases))
-        (λ _. OffersFirst settings.now.config settings.now.filters (program.now ∷ []) told)) }
+        (λ _. OffersFirst settings.now.config settings.now.filters (program.now ∷ []) answers)) }
     ensures idle { IsIdle (W.running world.new) (W.pending world.new) }
 {
     match program.interface {
@@ -90,9 +91,9 @@ pub fn offered<W: World>(
     world: &mut W,
 ) -> Result<Items<Candidate>, NoMemory>
     requires { IsIdle (W.running world.old) (W.pending world.old) }
-    ensures offers { Answered W.tells world.old world.new (λ told. MatchResult result
-        (Offers settings.now.config settings.now.filters programs.now told)
-        (λ _. OffersFirst settings.now.config settings.now.filters programs.now told)) }
+    ensures offers { Answered W.tells world.old world.new (λ answers. MatchResult result
+        (Offers settings.now.config settings.now.filters programs.now answers)
+        (λ _. OffersFirst settings.now.config settings.now.filters programs.now answers)) }
     ensures idle { IsIdle (W.running world.new) (W.pending world.new) }
 {
     let mut found = Items::new(alloc);

@@ -1,5 +1,5 @@
 ghost use Rattle.std.specs.Prelude.{◌≡◌, Some, IfOk};
-ghost use Rattle.kt_plan.specs.Common.{IsIdle, Answered, unread_stop, Configured, GivesMore, config_or_stop, OrShort, SettlesOrShort, GivesOne, words_meaning, Configures, IsConfiguration, ReadsConfig, or_stop_at, word_meaning, definition_named, variables_for};
+ghost use Rattle.kt_plan.specs.Common.{IsIdle, Answered, unread_stop, Configured, GivesMore, config_or_stop, OrShort, SettlesOrShort, GivesOne, words_meaning, Configures, IsConfiguration, ReadsConfig, or_stop, word_meaning, definition_named, variables_for};
 
 use crate::options::case_filters::read_filters;
 use crate::{Settings, Stop, World};
@@ -22,7 +22,7 @@ pub fn variables_for(alloc: Global, config: &Config, suite: &Text) -> Result<Var
 /// Sets a variable, or stops at its name.
 fn set(config: &mut Config, name: Text, value: &Text) -> Result<Option<Stop>, NoMemory>
     ensures { IfOk result (λ stop. GivesOne config.old (config_or_stop config.new stop)
-        (or_stop_at name (definition_named name value.now))) }
+        (or_stop (Stop.Variable name) (definition_named name value.now))) }
 {
     match config.set(&name, value) {
         Ok(()) => Ok(None),
@@ -66,8 +66,8 @@ fn unread_stop(fault: ReadFault) -> Stop
 
 /// Reads the configuration file.
 fn read_config<W: World>(alloc: Global, path: &Text, world: &mut W) -> Result<Config, Stop>
-    ensures { Answered W.tells world.old world.new (λ told. OrShort result (Some path.now) told
-        (Configured (ReadsConfig (Some path.now) told) result)) }
+    ensures { Answered W.tells world.old world.new (λ answers. OrShort result (Some path.now)
+        answers (Configured (ReadsConfig (Some path.now) answers) result)) }
 {
     match world.config(path) {
         Ok(bytes) => config_of(alloc, bytes.as_slice())?,
@@ -81,8 +81,8 @@ fn config_given<W: World>(
     options: &CaseOptions,
     world: &mut W,
 ) -> Result<Config, Stop>
-    ensures { Answered W.tells world.old world.new (λ told. OrShort result options.now.config told
-        (Configured (ReadsConfig options.now.config told) result)) }
+    ensures { Answered W.tells world.old world.new (λ answers. OrShort result
+        options.now.config answers (Configured (ReadsConfig options.now.config answers) result)) }
 {
     match &options.config {
         None => Ok(Config::new(alloc)),
@@ -105,8 +105,8 @@ fn set_words(config: Config, words: &[Text]) -> Result<Result<Config, Stop>, NoM
 
 /// The configuration of a command: its file, and then the words of `-v`.
 fn configure<W: World>(alloc: Global, options: &CaseOptions, world: &mut W) -> Result<Config, Stop>
-    ensures { Answered W.tells world.old world.new (λ told. OrShort result options.now.config told
-        (Configured (Configures options.now told) result)) }
+    ensures { Answered W.tells world.old world.new (λ answers. OrShort result
+        options.now.config answers (Configured (Configures options.now answers) result)) }
 {
     let config = config_given(alloc, options, world)?;
     set_words(config, options.variables.as_slice())?
@@ -122,7 +122,7 @@ pub fn settle<W: World>(
 ) -> Result<Settings, Stop>
     requires { IsIdle (W.running world.old) (W.pending world.old) }
     ensures settled { Answered W.tells world.old world.new
-        (λ told. SettlesOrShort needs_case options.now told result) }
+        (λ answers. SettlesOrShort needs_case options.now answers result) }
     ensures idle { IsIdle (W.running world.new) (W.pending world.new) }
 {
     let config = configure(alloc, options, world)?;

@@ -23,9 +23,9 @@ fn look_for_word<W: World>(
     world: &mut W,
     host: &mut Host,
 ) -> Result<(), NoMemory>
-    ensures { Answered W.tells world.old world.new (λ told. MatchResult result
-        (λ _. LooksFor ((need, word.now) ∷ []) told × Notes told host.old host.new)
-        (λ _. AreFirst (LooksFor ((need, word.now) ∷ [])) told)) }
+    ensures { Answered W.tells world.old world.new (λ answers. MatchResult result
+        (λ _. LooksFor ((need, word.now) ∷ []) answers × Notes answers host.old host.new)
+        (λ _. AreFirst (LooksFor ((need, word.now) ∷ [])) answers)) }
 {
     if !is_found(need, word, world) {
         return Ok(());
@@ -41,9 +41,9 @@ fn look_for_words<W: World>(
     world: &mut W,
     host: &mut Host,
 ) -> Result<(), NoMemory>
-    ensures { Answered W.tells world.old world.new (λ told. MatchResult result
-        (λ _. LooksFor (needs_in need words.now) told × Notes told host.old host.new)
-        (λ _. AreFirst (LooksFor (needs_in need words.now)) told)) }
+    ensures { Answered W.tells world.old world.new (λ answers. MatchResult result
+        (λ _. LooksFor (needs_in need words.now) answers × Notes answers host.old host.new)
+        (λ _. AreFirst (LooksFor (needs_in need words.now)) answers)) }
 {
     for word in words {
         look_for_word(need, word, world, host)?;
@@ -68,11 +68,11 @@ fn look_for_case<W: World>(
     world: &mut W,
     host: &mut Host,
 ) -> Result<(), NoMemory>
-    ensures { Answered W.tells world.old world.new (λ told. MatchResult result
-        (λ _. LooksFor (needs_by candidate.now.case.fault (meta_in candidate.now)) told
-        × Notes told host.old host.new)
+    ensures { Answered W.tells world.old world.new (λ answers. MatchResult result
+        (λ _. LooksFor (needs_by candidate.now.case.fault (meta_in candidate.now)) answers
+        × Notes answers host.old host.new)
         (λ _. AreFirst (LooksFor (needs_by candidate.now.case.fault (meta_in candidate.now)))
-        told)) }
+        answers)) }
 {
     let props = &candidate.case.props;
     for need in kinds_of(candidate) {
@@ -87,9 +87,9 @@ fn look_for_all<W: World>(
     world: &mut W,
     host: &mut Host,
 ) -> Result<(), NoMemory>
-    ensures { Answered W.tells world.old world.new (λ told. MatchResult result
-        (λ _. LooksFor (needs_of cases.now) told × Notes told host.old host.new)
-        (λ _. AreFirst (LooksFor (needs_of cases.now)) told)) }
+    ensures { Answered W.tells world.old world.new (λ answers. MatchResult result
+        (λ _. LooksFor (needs_of cases.now) answers × Notes answers host.old host.new)
+        (λ _. AreFirst (LooksFor (needs_of cases.now)) answers)) }
 {
     for candidate in cases {
         look_for_case(candidate, world, host)?;
@@ -104,8 +104,8 @@ fn look_for_all<W: World>(
 /// asked for by each; if the answers differ, it counts as found.
 pub fn survey<W: World>(alloc: Global, cases: &[Candidate], world: &mut W) -> Result<Host, NoMemory>
     requires { IsIdle (W.running world.old) (W.pending world.old) }
-    ensures surveyed { Answered W.tells world.old world.new (λ told. MatchResult result
-        (Surveys cases.now told) (λ _. SurveysFirst cases.now told)) }
+    ensures surveyed { Answered W.tells world.old world.new (λ answers. MatchResult result
+        (Surveys cases.now answers) (λ _. SurveysFirst cases.now answers)) }
     ensures idle { IsIdle (W.running world.new) (W.pending world.new) }
 {
     let root = world.is_root();

@@ -25,7 +25,7 @@ fn copy_of_reason(reason: &Reason) -> Result<Reason, NoMemory>
     }
 }
 
-/// Whether a case declares a cleanup, which cases of ATF programs alone may have.
+/// Whether a case declares a cleanup, which only cases of ATF programs may have.
 fn declares_cleanup(interface: Interface, meta: &Meta) -> bool
     ensures { result ≡ (is_atf interface && meta.now.has_cleanup) }
 {
@@ -171,9 +171,9 @@ pub fn prepare<W: World>(
 ) -> Result<Items<Job>, NoMemory>
     requires few { length cases.now ≤ most_items }
     requires idle { IsIdle (W.running world.old) (W.pending world.old) }
-    ensures planned { Answered W.tells world.old world.new (λ told. MatchResult result
-        (λ plan. (host : Surveyed) × Surveys cases.now told host
-        × ArePlanned config.now host 0 cases.now plan) (λ _. SurveysFirst cases.now told)) }
+    ensures planned { Answered W.tells world.old world.new (λ answers. MatchResult result
+        (λ plan. (host : Surveyed) × Surveys cases.now answers host
+        × ArePlanned config.now host 0 cases.now plan) (λ _. SurveysFirst cases.now answers)) }
     ensures plan { IfOk result (λ plan. IsPlan plan × (length plan ≡ length cases.now)) }
     ensures idle { IsIdle (W.running world.new) (W.pending world.new) }
 {
