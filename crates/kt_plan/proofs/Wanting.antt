@@ -20,10 +20,6 @@ AreAmong rest all = (one : Filter) → Contains rest one → Contains all one
 pub among_after : (f : Filter) (after rest all : List Filter) → rest ≡ f ∷ after → AreAmong rest all → AreAmong after all
 among_after f after rest all e h one c = h one (subst (λ (xs : List Filter). Contains xs one) (sym e) (Contains-append_right (f ∷ []) after one c))
 
--- the first of the rest selects a case
-pub found_first : (f : Filter) (after rest all : List Filter) (path : List ℕ) → rest ≡ f ∷ after → AreAmong rest all → MayMatch f path → AnyMatches all path
-found_first f after rest all path e h m = (f, h f (subst (λ (xs : List Filter). Contains xs f) (sym e) (Contains-append_left (f ∷ []) after f (Contains-push [] f))), m)
-
 -- what selects a case is still to come
 abbrev pub IsAhead : List Filter → List Filter → List ℕ → Type 0
 IsAhead rest all path = AnyMatches all path → AnyMatches rest path
@@ -35,8 +31,3 @@ ahead_after f after rest all path e never h any =
       | inl c ↦ absurd (never (subst (λ (x : Filter). MayMatch x path) (sym (only_in f found.0 c)) found.2))
       | inr c ↦ (found.0, c, found.2)
     ]
-
-pub none_matches : (rest all : List Filter) (path : List ℕ) → rest ≡ [] → IsAhead rest all path → AnyMatches all path → ⊥
-none_matches rest all path e h any =
-    let found = h any in
-    none_in found.0 (subst (λ (xs : List Filter). Contains xs found.0) e found.1)

@@ -43,9 +43,6 @@ module _ {L S : Type 0} {l : launcher.Ghosts L} {s : sink.Ghosts S} {plan : List
   f : Follows plan n fed next.Done
   f = after_done plan n fed k.stands
 
-  pub loop_idle : IsIdle (l.running mid) (l.pending mid)
-  loop_idle = record { runs = λ j r. k.going.runs j r ∙ ap (λ (b : Bool). if b then child_at plan j else None) (all.3 j r); pends = owes p k all.1 }
-
   -- at the exit, by what the sink gained
   ran : {fault : Option SinkFault} (g : Gained s plan n fed totals fault before after) (result : Result Totals RunFault)
       → EndsAs s.puts plan n T g.gained before after result → Ran l s plan n old mid before after result

@@ -43,11 +43,6 @@ module _ {S : Type 0} (leads : S → Asked → S → Type 0) where
   pub adds_unasked : (old : S) (at : Site) (r : Registry) (p : Program) (fault : SuiteFault) → IsNoMemory fault → Adds leads old old at r p (Err fault)
   adds_unasked old at r p fault n = short [] (Asks (Exists p.path true) ∷ Listed at p ∷ []) [] r fault (true, refl) (no_question _) refl refl n
 
-  -- a program by the path that its name leads to
-  pub adds_beside : (old new : S) (at : Site) (r : Registry) (p : Program) (path there : List ℕ) (result : Result Registry SuiteFault) → path ≡ there
-      → Adds leads old new at r (record p { path = path }) result → Adds leads old new at r (record p { path = there }) result
-  adds_beside old new at r p path there result e a = subst (λ (x : List ℕ). Adds leads old new at r (record p { path = x }) result) e a
-
 -- an include
 pub enters_refused : (at : Site) (r : Registry) (path : List ℕ) (cause : SuiteCause) (fault : SuiteFault) → Some cause ≡ entry_fault r.reading path → IsNoMemory fault ⊎ (fault ≡ site_fault at cause) → Enters at r path (Err fault)
 enters_refused at r path cause fault e b = blamed (λ f. Enters at r path (Err f)) (site_fault at cause) fault (scant fault) (refuses cause (sym e)) b

@@ -38,10 +38,3 @@ table_stops found cause pair after rest pairs e s h =
     let u = err_unless (pair_fault (definition pair)) cause (table_of (s.before ++ definition pair ∷ [])) h in
     ap (λ (f : Option SuiteCause). unless f (table_of (definitions pairs)))
     (ap (λ (f : Option SuiteCause). option_or f (first_fault (definitions after))) (sym u) ∙ left_fault pair after rest pairs e s.fault)
-
-pub table_all : (found : ProgramTable) (rest pairs : List Pair) → length rest ≡ 0 → TableSoFar found rest pairs → ◌≡◌ {A = Result ProgramTable SuiteCause} (Ok found) (declared pairs)
-table_all found rest pairs e s =
-    let n = nil_from_length rest e in
-    let whole : s.before ≡ definitions pairs = sym (append-nil s.before) ∙ ap (λ (ps : List Pair). s.before ++ definitions ps) (sym n) ∙ s.whole in
-    ap (λ (t : ProgramTable). Ok t) (s.is ∙ ap table_of whole)
-    ∙ ap (λ (f : Option SuiteCause). unless f (table_of (definitions pairs))) (ap (λ (ps : List Pair). first_fault (definitions ps)) (sym n) ∙ s.fault)
