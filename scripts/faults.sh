@@ -473,6 +473,7 @@ BODY
 rule 'ends a command that failed' lines 'status: FAILED' <<'PLACES'
 # What was held could not be written, or the writer had failed before.
 kt_cli/src/output/line_output.rt: Err(_fault) => Exit { status: FAILED },
+kt_cli/src/commands/reporting.rt: Err(TextStop::Output(_)) => Exit { status: FAILED },
 kt_cli/src/commands/reporting.rt: Err(JunitStop::Report(ReportFault::Output(_))) => Exit { status: FAILED },
 PLACES
 body kt_cli/src/commands/testing.rt 'let moment = world.now();' <<'BODY'

@@ -1,6 +1,6 @@
 -- The run that is shown is the chosen one.
-use Rattle.std.proofs.Common.{Option, Some, None, slice_get, map, ◌-◌, ◌==◌, ◌≡◌, ℕ, zero, suc, false, List, [], ◌∷◌, length, arith, refl, sym, ap, ◌∙◌, ◌⊎◌, inl, inr}
-use Rattle.kt_cli.proofs.Common.{find, option_map, nat_tests, slice_get-map, length-map, Entry, Run, IsStoreFault, head_of, outlined, AreNumbered, run_at, RunHead, StoreFault, chosen}
+use Rattle.std.proofs.Common.{Option, Some, None, slice_get, map, get_or, drop, ◌++◌, ◌-◌, ◌==◌, ◌≡◌, ℕ, zero, suc, List, [], ◌∷◌, length, arith, refl, sym, ap, ◌∙◌, ◌⊎◌, inl, inr}
+use Rattle.kt_cli.proofs.Common.{find, option_map, nat_tests, slice_get-map, length-map, Entry, Run, IsStoreFault, head_of, outlined, DifferInOutputs, AreNumbered, run_at, RunHead, StoreFault, chosen}
 use Rattle.kt_store.specs.declared.store_fault.StoreFault.TheVariants.{NoRun as Absent}
 use Rattle.std.proofs.lemmas.Option.{same_Some}
 use Rattle.kt_store.proofs.RunsByNumber.{number_at}
@@ -38,7 +38,8 @@ entries_there number runs heads head fault h e f (inr s) =
     let z = sym s.1 ∙ n in absurd (cc)
 
 -- an entry of an outline is found in the run by its position
-pub entry_found : (es : List Entry) (k : ℕ) (e : Entry) → slice_get (map (outlined false) es) k ≡ Some e → find (λ (d : Entry). d.position == e.position) es ≡ None → ⊥
-entry_found [] k e there none = absurd (cc)
-entry_found (x ∷ es) zero e there none = grind (arith, nat_tests, ap (λ (d : Entry). d.position) (same_Some (outlined false x) e there))
-entry_found (x ∷ es) (suc k) e there none = grind (arith, nat_tests, entry_found es k e there)
+pub entry_found : (es xs rest : List Entry) (e : Entry) → DifferInOutputs (xs ++ e ∷ rest) (map outlined es) → find (λ (d : Entry). d.position == e.position) es ≡ None → ⊥
+entry_found [] [] rest e same none = absurd (cc)
+entry_found [] (x ∷ xs) rest e same none = absurd (cc)
+entry_found (y ∷ es) [] rest e same none = grind (arith, nat_tests, ap (λ (ds : List Entry). (get_or ds 0 e).position) same)
+entry_found (y ∷ es) (x ∷ xs) rest e same none = grind (arith, nat_tests, entry_found es xs rest e (ap (drop 1) same))

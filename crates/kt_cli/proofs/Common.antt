@@ -4,10 +4,11 @@ pub use Rattle.std.proofs.lemmas.Grind.{common_steps, flat_map-append}
 pub use Rattle.std.proofs.lemmas.List.{drop-take, length-map, set-get_or}
 pub use Rattle.std.proofs.lemmas.Option.{slice_get-get_or, slice_get-map, slice_get_within}
 pub use Rattle.std.specs.Fmt.{decimal}
-pub use Rattle.std.specs.List.{AllByRecursion, find}
+pub use Rattle.std.specs.List.{AllByRecursion, find, list_any}
 pub use Rattle.std.specs.Option.{option_copied, option_map}
 pub use Rattle.std.specs.Result.{IsErrAnd}
 pub use Rattle.std.specs.Vec.{vec_capacity, vec_len}
+pub use Rattle.jiff_core.specs.declared.civil.date.Date.{Date}
 pub use Rattle.kt_base.proofs.Chains.{chain-append}
 pub use Rattle.kt_base.proofs.Showing.{shows_as, shows_both, shows_error, shows_more, shows_none, shows_of, utf8-append}
 pub use Rattle.kt_base.specs.Chains.{Chain}
@@ -23,6 +24,8 @@ pub use Rattle.kt_plan.specs.declared.cases.Candidate.{Candidate}
 pub use Rattle.kt_report.proofs.InTurn.{shows_cut_off, shows_whole}
 pub use Rattle.kt_report.specs.Junits.{case_bytes, ending, heading, junit_bytes}
 pub use Rattle.kt_report.specs.Lines.{line_bytes}
+pub use Rattle.kt_report.specs.Pairs.{entry_bytes, with_meta}
+pub use Rattle.kt_report.specs.Texts.{IsDateOf, by_section, chosen_of, entries_of, is_of, last_kind, opening, same_kind, summary, text_bytes, titled_lines}
 pub use Rattle.kt_sched.specs.Children.{IsIdle}
 pub use Rattle.kt_sched.specs.EntryOf.{AreEntries, Gains, IsEntry, IsEntryOf, decided, ended, refused}
 pub use Rattle.kt_sched.specs.Plan.{IsPlan}
@@ -35,10 +38,10 @@ pub use Rattle.kt_sched.specs.declared.run_fault.RunFault.TheVariants.{NoMemory,
 pub use Rattle.kt_sched.specs.declared.sink.SinkFault.{SinkFault}
 pub use Rattle.kt_sched.specs.declared.totals.Totals.{Totals}
 pub use Rattle.kt_store.specs.Ask.{IsStoreFault}
-pub use Rattle.kt_store.specs.Heads.{entry_at, head_of, outlined, outputs_of, without_outputs}
+pub use Rattle.kt_store.specs.Heads.{entry_at, head_of, outlined, outputs_of, without_outputs, without_pairs}
 pub use Rattle.kt_store.specs.Runs.{AreNumbered, finish, finish_refusal, finish_refusal_of, has_position, insert_at, new_run, put_refusal, put_refusal_of, run_at, with_entry}
 pub use Rattle.kt_store.specs.Serving.{Agrees, Outlasts, Serves, changed_by}
-pub use Rattle.kt_store.specs.StoreCalls.{Began, Finished, Heads, Outline, Outputs, Put, StoreCall}
+pub use Rattle.kt_store.specs.StoreCalls.{Began, Finished, Heads, Outline, Outputs, Pairs, Put, StoreCall}
 pub use Rattle.kt_store.specs.declared.result_store.CaseOutputs.{CaseOutputs}
 pub use Rattle.kt_store.specs.declared.result_store.RunHead.{RunHead}
 pub use Rattle.kt_store.specs.declared.store_fault.StoreFault.{StoreFault}
@@ -58,16 +61,16 @@ pub use Rattle.kt_cli.specs.Inner.MemoryRuns.{FindsPlace, ServesInMemory, closin
 pub use Rattle.kt_cli.specs.Inner.Pages.{Says, SaysMore}
 pub use Rattle.kt_cli.specs.Inner.Recording.{Recorded, Recording, recording, sink_fault_of}
 pub use Rattle.kt_cli.specs.Inner.Recordings.{RecordEnds, RecordedAll, RecordedNone, RecordedSome, Records}
-pub use Rattle.kt_cli.specs.Inner.Reports.{CutsJunit, DidReport, JunitOrUnread, WritesCase, WritesFirst, WritesJunit}
+pub use Rattle.kt_cli.specs.Inner.Reports.{DidReport, EndsEntries, JunitOrUnread, TextOrUnread, WritesCase, WritesEntries, WritesFirst, WritesJunit, WritesText}
 pub use Rattle.kt_cli.specs.Inner.Stores.{put_all}
 pub use Rattle.kt_cli.specs.Inner.Testing.{RanPlan}
 pub use Rattle.kt_cli.specs.Machines.{InDirectory, MachineAnswer, Searched, directories, further, here, nowhere}
-pub use Rattle.kt_cli.specs.Meaning.{AsksFirst, Course, CutShort, Did, IsAskedOnly, IsPrepared, IsUnasked, Means, Seen, cut, debugged, idle, junit_cut, listed, listing, listing_exit, no_memory, preparing, report_cut, reported, reported_junit, selecting, stopped, taken, tested}
+pub use Rattle.kt_cli.specs.Meaning.{AsksFirst, Course, CutShort, Did, IsAskedOnly, IsPrepared, IsUnasked, Means, Seen, cut, debugged, idle, junit_cut, listed, listing, listing_exit, no_memory, preparing, report_cut, reported, reported_junit, selecting, stopped, taken, tested, text_cut}
 pub use Rattle.kt_cli.specs.MemoryRuns.{LeavesInMemory, memory_runs}
 pub use Rattle.kt_cli.specs.Pages.{Printed}
 pub use Rattle.kt_cli.specs.Performing.{DoneBy, DoneIn, DoneOver, NoRoot, Program, State, alone, closed, done, no_driver, no_surroundings, no_world, none_made, not_absolute, not_opened, program, state}
 pub use Rattle.kt_cli.specs.Recordings.{AllRecorded, IsStopped}
-pub use Rattle.kt_cli.specs.Reports.{JunitCut, Reported, ReportedJunit, Unread, asked_outputs, chosen, filled, no_outputs, no_run, run_of, told}
+pub use Rattle.kt_cli.specs.Reports.{DifferInOutputs, DifferInPairs, JunitCut, Reported, ReportedJunit, TextCut, Unread, asked_outputs, asked_pairs, chosen, ending_of, next_bytes, no_outputs, no_pairs, no_run, run_of, told, told_pairs, no_output}
 pub use Rattle.kt_cli.specs.Scenes.{Scene, World, launcher_of, scene, with_store, world_of}
 pub use Rattle.kt_cli.specs.SoundStores.{Left, with_new}
 pub use Rattle.kt_cli.specs.Stores.{Agree, Stored, beside, beside_by, by_position, changed, put_among, puts}
@@ -75,5 +78,6 @@ pub use Rattle.kt_cli.specs.Testing.{PlannedRun, TestCut, Tested, begins, exit_o
 pub use Rattle.kt_cli.specs.Totals.{bad_count, good_count, lines}
 pub use Rattle.kt_cli.specs.Warnings.{warning_at, warnings}
 pub use Rattle.kt_cli.specs.declared.commands.report_stop.JunitStop.TheVariants.{Refused, Report}
+pub use Rattle.kt_cli.specs.declared.commands.report_stop.TextStop.TheVariants.{NoPairs, Output}
 pub use Rattle.kt_cli.specs.declared.host.host_world.HostWorld.{HostWorld}
 pub use Rattle.kt_cli.specs.declared.output.exit.Exit.{Exit}

@@ -1,6 +1,6 @@
 -- The words of faults are ASCII.
 use Rattle.std.proofs.Common.{◌≡◌, refl}
-use Rattle.kt_cli.proofs.Common.{chars, RunFault, NoMemory, SinkFailed, StoreFault}
+use Rattle.kt_cli.proofs.Common.{chars, RunFault, SinkFailed, StoreFault}
 use Rattle.kt_sched.specs.FaultWords.{run_words}
 use Rattle.kt_sched.specs.declared.sink.SinkFault.TheVariants as sink
 use Rattle.kt_store.specs.Ask.{fault_words}

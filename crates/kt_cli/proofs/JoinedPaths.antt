@@ -1,5 +1,5 @@
 -- A path that is put together of texts is a text.
-use Rattle.std.proofs.Common.{◌≡◌, ℕ, true, false, Option, Some, None, IfNone, Result, Ok, Err, is_some, is_ok, MatchResult, List, ◌++◌, IsUtf8, subst, sym, ap, ◌∙◌, append_assoc}
+use Rattle.std.proofs.Common.{◌≡◌, ℕ, true, false, Option, Some, None, IfNone, Result, Ok, Err, is_some, is_ok, MatchResult, List, ◌++◌, IsUtf8}
 use Rattle.std.proofs.lemmas.Str.{IsUtf8-append}
 
 pub is_text : (first second path directory between name : List ℕ) → IsUtf8 directory → IsUtf8 between → IsUtf8 name

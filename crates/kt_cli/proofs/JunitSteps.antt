@@ -1,80 +1,92 @@
 -- A JUnit report is written, an entry at a time.
-use Rattle.std.proofs.Common.{Option, Some, Ok, Err, true, false, slice_get, get_or, flat_map, ◌≡◌, ◌<◌, ◌≤◌, ◌+◌, ℕ, List, [], ◌∷◌, ◌++◌, length, map, refl, ap, ◌∙◌, sym, subst, append_assoc, append-nil, length-append, arith}
-use Rattle.kt_cli.proofs.Common.{flat_map-append, slice_get-get_or, Entry, Run, Shows, shows_as, shows_both, shows_more, heading, case_bytes, ending, without_outputs, Outputs, CaseOutputs, Refused, Report, WritesCase, WritesFirst, CutsJunit, WritesJunit, filled, asked_outputs, Stored}
+use Rattle.std.proofs.Common.{Option, Result, Ok, Err, Bool, true, false, get_or, drop, flat_map, ◌≡◌, ◌<◌, ◌≤◌, ◌+◌, ℕ, List, [], ◌∷◌, ◌++◌, length, map, refl, ap, ◌∙◌, sym, subst, append-nil, append_assoc, drop_of_length-le}
+use Rattle.kt_cli.proofs.Common.{Entry, Run, Shows, shows_as, shows_both, shows_more, heading, case_bytes, ending, without_outputs, Outputs, CaseOutputs, outputs_of, Refused, Report, WritesCase, WritesFirst, WritesJunit, ending_of, DifferInOutputs, asked_outputs, Stored}
+use Rattle.std.specs.Result.{IsErrAnd}
+use Rattle.kt_base.proofs.Lists.{error_is}
 use Rattle.kt_report.specs.Cases.{with_outputs}
+use Rattle.kt_report.specs.declared.report_fault.ReportFault.{ReportFault}
 use Rattle.kt_report.proofs.Outlines.{same_heading}
 use Rattle.kt_cli.specs.declared.commands.report_stop.JunitStop.{JunitStop}
 use Rattle.kt_store.specs.declared.result_store.Keeping as keeping
 use Rattle.kt_cli.proofs.StoreChains.{stored_none, stored_both, stored_as}
-use Rattle.std.proofs.lemmas.Option.{same_Some}
+use Rattle.std.proofs.lemmas.List.{drop_more, flat_map_more, map-append}
 
 -- an entry is written with its outputs
 abbrev one : Entry → CaseOutputs → Entry
 one e o = with_outputs e o.body o.cleanup
 
-filled_more : (outline : List Entry) (outputs : List CaseOutputs) (e : Entry) (o : CaseOutputs) → slice_get outline (length outputs) ≡ Some e → filled outline (outputs ++ o ∷ []) ≡ filled outline outputs ++ one e o ∷ []
-filled_more [] outputs e o there = absurd cc
-filled_more (x ∷ outline) [] e o there = ap (λ d. one d o ∷ []) (same_Some x e there)
-filled_more (x ∷ outline) (p ∷ outputs) e o there = ap (λ es. one x p ∷ es) (filled_more outline outputs e o there)
-
--- one more is written behind a heading
-one_more : {X : Type 0} (f : X → List ℕ) (head : List ℕ) (xs : List X) (x : X) (ys : List X) → ys ≡ xs ++ x ∷ [] → head ++ flat_map f xs ++ f x ≡ head ++ flat_map f ys
-one_more f head xs x ys e = rw e (simp (flat_map-append, append_assoc, append-nil))
-
-asked_more : (number : ℕ) (outline : List Entry) (outputs : List CaseOutputs) (e : Entry) (o : CaseOutputs) → slice_get outline (length outputs) ≡ Some e
-    → asked_outputs number outline outputs ++ Outputs number e.position (Ok o) ∷ [] ≡ asked_outputs number outline (outputs ++ o ∷ [])
-asked_more number [] outputs e o there = absurd cc
-asked_more number (x ∷ outline) [] e o there = ap (λ (d : Entry). Outputs number d.position (Ok o) ∷ []) (sym (same_Some x e there))
-asked_more number (x ∷ outline) (p ∷ outputs) e o there = ap (λ calls. Outputs number x.position (Ok p) ∷ calls) (asked_more number outline outputs e o there)
-
-filled_bare : (outline : List Entry) (outputs : List CaseOutputs) → length outputs ≡ length outline → map without_outputs (filled outline outputs) ≡ map without_outputs outline
-filled_bare [] [] all = refl
-filled_bare [] (o ∷ outputs) all = refl
-filled_bare (e ∷ outline) [] all = absurd (omega (arith, all))
-filled_bare (e ∷ outline) (o ∷ outputs) all = ap (λ es. without_outputs e ∷ es) (filled_bare outline outputs (omega (arith, all)))
-
 -- the heading is that of the entries with their outputs
-pub heading_filled : (run : Run) (outputs : List CaseOutputs) → length outputs ≡ length run.entries → heading run ≡ heading (record run { entries = filled run.entries outputs })
-heading_filled run outputs all =
-    sym (same_heading false without_outputs (λ e. refl) run) ∙ ap (λ (es : List Entry). heading (record run { entries = es })) (sym (filled_bare run.entries outputs all))
-    ∙ same_heading false without_outputs (λ e. refl) (record run { entries = filled run.entries outputs })
+pub heading_shown : (run : Run) (shown : List Entry) → DifferInOutputs shown run.entries → heading run ≡ heading (record run { entries = shown })
+heading_shown run shown same =
+    sym (same_heading false without_outputs (λ e. refl) run) ∙ ap (λ (es : List Entry). heading (record run { entries = es })) (sym same)
+    ∙ same_heading false without_outputs (λ e. refl) (record run { entries = shown })
+
+-- one more is shown, of which nothing but the outputs is other
+one_more : (shown rest whole : List Entry) (e : Entry) (o : CaseOutputs) → DifferInOutputs (shown ++ e ∷ rest) whole → DifferInOutputs ((shown ++ one e o ∷ []) ++ rest) whole
+one_more shown rest whole e o same =
+    ap (λ es. map without_outputs es) (append_assoc shown (one e o ∷ []) rest)
+    ∙ (map-append without_outputs shown (one e o ∷ rest) ∙ sym (map-append without_outputs shown (e ∷ rest))) ∙ same
+
+pub junit_error : {R : Type 0} (keep : keeping.Ghosts R) {store after : R} {was now : Option (List ℕ)} {run : Run} {answer : Result (Unit {0}) JunitStop} {stop : JunitStop}
+    → IsErrAnd answer (λ x. x ≡ stop) → WritesJunit keep store after was now run (Err stop) → WritesJunit keep store after was now run answer
+junit_error keep {store} {after} {was} {now} {run} {answer} {stop} is w = error_is (WritesJunit keep store after was now run) answer stop is w
 
 module _ {R : Type 0} (keep : keeping.Ghosts R) (run : Run) (store : R) (was : Option (List ℕ)) where
   -- ---- the heading
 
   pub writes_none : (now : Option (List ℕ)) → Shows was now false (heading run) → WritesFirst keep store store was now run 0
-  writes_none now s = ([], refl, omega arith, stored_none keep store, shows_as (sym (append-nil (heading run))) s)
+  writes_none now s = ([], refl, stored_none keep store, shows_as (sym (append-nil (heading run))) s)
 
-  pub heading_cut : (now : Option (List ℕ)) → Shows was now true (heading run) → CutsJunit keep store store was now run
-  heading_cut now s = ([], stored_none keep store, shows_more ending (shows_more [] s))
+  pub heading_cut : (now : Option (List ℕ)) (fault : ReportFault) → Shows was now true (heading run) → WritesJunit keep store store was now run (Err (Report fault))
+  heading_cut now fault s = record { ends = ([], run.entries, refl, stored_none keep store, shows_more (ending_of run.entries) (shows_more [] s)) }
 
   -- ---- a case
 
-  module _ (mid after : R) (held now : Option (List ℕ)) (xs : List Entry) (same : xs ≡ run.entries) (i : ℕ) (e d : Entry) (low : i < length xs) (is : e ≡ get_or xs i d) (w : WritesFirst keep store mid was held run i) where
-    there : slice_get run.entries (length w.0) ≡ Some e
-    there = ap (λ (es : List Entry). slice_get es (length w.0)) (sym same) ∙ ap (slice_get xs) w.1 ∙ slice_get-get_or xs i d low ∙ ap Some (sym is)
+  module _ (mid after : R) (held now : Option (List ℕ)) (xs : List Entry) (same : xs ≡ run.entries) (i : ℕ) (e d : Entry) (low : i < length xs) (is : e ≡ get_or xs i d)
+      (w : WritesFirst keep store mid was held run i) where
+    -- the entry is the next one
+    stands : DifferInOutputs (w.0 ++ e ∷ drop (i + 1) run.entries) run.entries
+    stands =
+        subst (λ (es : List Entry). DifferInOutputs (w.0 ++ es) run.entries)
+        (subst (λ (es : List Entry). drop i es ≡ e ∷ drop (i + 1) es) same (drop_more xs i d low ∙ ap (λ (x : Entry). x ∷ drop (i + 1) xs) (sym is))) w.1
 
-    bytes : (o : CaseOutputs) → heading run ++ flat_map case_bytes (filled run.entries w.0) ++ case_bytes (one e o) ≡ heading run ++ flat_map case_bytes (filled run.entries (w.0 ++ o ∷ []))
-    bytes o = one_more case_bytes (heading run) (filled run.entries w.0) (one e o) _ (filled_more run.entries w.0 e o there)
+    stored : (o : CaseOutputs) → Stored keep (Outputs run.number e.position (Ok o) ∷ []) mid after → Stored keep (asked_outputs run.number (w.0 ++ one e o ∷ [])) store after
+    stored o p =
+        stored_as keep _ _ store after (sym (map-append (λ (x : Entry). Outputs run.number x.position (Ok (outputs_of x))) w.0 (one e o ∷ [])))
+        (stored_both keep (asked_outputs run.number w.0) (Outputs run.number e.position (Ok o) ∷ []) store mid after w.2 p)
 
-    stored : (o : CaseOutputs) → Stored keep (Outputs run.number e.position (Ok o) ∷ []) mid after → Stored keep (asked_outputs run.number run.entries (w.0 ++ o ∷ [])) store after
-    stored o p = stored_as keep _ _ store after (asked_more run.number run.entries w.0 e o there) (stored_both keep (asked_outputs run.number run.entries w.0) (Outputs run.number e.position (Ok o) ∷ []) store mid after w.3 p)
+    bytes : (f : Bool) (o : CaseOutputs) → Shows held now f (case_bytes (one e o)) → Shows was now f (heading run ++ flat_map case_bytes (w.0 ++ one e o ∷ []))
+    bytes f o s = shows_as (flat_map_more case_bytes (heading run) w.0 (one e o)) (shows_both w.3 s)
 
     pub writes_next : WritesCase keep mid after held now run.number e (Ok tt) → WritesFirst keep store after was now run (i + 1)
-    writes_next c =
-        (w.0 ++ c.0 ∷ [], length-append w.0 (c.0 ∷ []) ∙ ap (λ n. n + 1) w.1, omega (arith, low, ap length same), stored c.0 c.1, shows_as (bytes c.0) (shows_both w.4 c.2))
+    writes_next c = (w.0 ++ one e c.0 ∷ [], one_more w.0 (drop (i + 1) run.entries) run.entries e c.0 stands, stored c.0 c.1, bytes false c.0 c.2)
 
     pub case_stops : (stop : JunitStop) → WritesCase keep mid after held now run.number e (Err stop) → WritesJunit keep store after was now run (Err stop)
-    case_stops (Refused fault) c = (
-      w.0,
-      e,
-      there,
-      stored_both keep (asked_outputs run.number run.entries w.0) (Outputs run.number e.position (Err fault) ∷ []) store mid after w.3 c.0,
-      subst (λ o. Shows was o false (heading run ++ flat_map case_bytes (filled run.entries w.0))) (sym c.1) w.4,
-    )
-    case_stops (Report fault) c = (w.0 ++ c.0 ∷ [], stored c.0 c.1, shows_more ending (shows_as (bytes c.0) (shows_both w.4 c.2)))
+    case_stops (Refused fault) c = record {
+      ends = (
+        w.0,
+        drop (i + 1) run.entries,
+        e,
+        stands,
+        stored_both keep (asked_outputs run.number w.0) (Outputs run.number e.position (Err fault) ∷ []) store mid after w.2 c.0,
+        subst (λ o. Shows was o false (heading run ++ flat_map case_bytes w.0)) (sym c.1) w.3,
+      );
+    }
+    case_stops (Report fault) c = record {
+      ends = (w.0 ++ one e c.0 ∷ [], drop (i + 1) run.entries, one_more w.0 (drop (i + 1) run.entries) run.entries e c.0 stands, stored c.0 c.1, shows_more (ending_of (drop (i + 1) run.entries)) (bytes true c.0 c.2));
+    }
 
   -- ---- the end
 
-  pub end_cut : (after : R) (held now : Option (List ℕ)) (i : ℕ) → WritesFirst keep store after was held run i → Shows held now true ending → CutsJunit keep store after was now run
-  end_cut after held now i w s = (w.0, w.3, shows_both w.4 s)
+  module _ (after : R) (held now : Option (List ℕ)) (xs : List Entry) (same : xs ≡ run.entries) (i : ℕ) (all : length xs ≤ i) (w : WritesFirst keep store after was held run i) where
+    none_left : drop i run.entries ≡ []
+    none_left = drop_of_length-le run.entries (subst (λ (es : List Entry). length es ≤ i) same all)
+
+    nothing_left : DifferInOutputs (w.0 ++ []) run.entries
+    nothing_left = subst (λ (es : List Entry). DifferInOutputs (w.0 ++ es) run.entries) none_left w.1
+
+    pub end_cut : (fault : ReportFault) → Shows held now true ending → WritesJunit keep store after was now run (Err (Report fault))
+    end_cut fault s = record { ends = (w.0, [], nothing_left, w.2, shows_both w.3 s) }
+
+    pub junit_written : Shows held now false ending → WritesJunit keep store after was now run (Ok tt)
+    junit_written s = record { ends = (w.0, subst (λ (es : List Entry). DifferInOutputs es run.entries) (append-nil w.0) nothing_left, w.2, shows_both w.3 s) }

@@ -19,5 +19,6 @@ pub mod ShownRuns
 pub mod SoundRuns
 pub mod StoreChains
 pub mod Testings
+pub mod TextSteps
 pub mod Unrepeated
 pub mod Utf8Sums

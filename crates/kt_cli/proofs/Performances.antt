@@ -1,15 +1,12 @@
 -- A command of the program over its own store.
-use Rattle.std.proofs.Common.{Result, Ok, Err, IfOk, IfErr, IsErrAnd, Option, Some, None, ◌≡◌, ℕ, List, [], subst}
-use Rattle.kt_cli.proofs.Common.{Run, Command, memory_runs, Printed, DoneBy, DoneIn, DoneOver, Program, State, Scene, with_store}
+use Rattle.std.proofs.Common.{Result, Ok, Err, IfOk, IfErr, IsErrAnd, ◌≡◌, ℕ, List}
+use Rattle.kt_cli.proofs.Common.{Command}
 use Rattle.std.specs.IoError.{error_kind}
 use Rattle.std.specs.declared.io.Error.{Error}
 use Rattle.std.specs.declared.io.ErrorKind.TheVariants.{OutOfMemory}
 use Rattle.kt_words.specs.Reading.{Reads, RefusesWords}
 use Rattle.kt_words.specs.declared.command_fault.CommandFault.{CommandFault}
-use Rattle.kt_store.specs.declared.access.Access.{Access}
-use Rattle.kt_store.specs.declared.store_fault.StoreFault.{StoreFault}
 use Rattle.kt_cli.specs.CommandLines.{IsSaid}
-use Rattle.kt_cli.specs.Platforms.{Opened}
 
 -- the command that the words of a process say, by what is said of both
 pub said : {W : Type 0} (own : W → List (List ℕ)) (words : Result W Error) (command : Result Command CommandFault) → IfOk words (λ all. Reads (own all) command)

@@ -1,8 +1,8 @@
 -- What a command does to the runs of a sound store.
-use Rattle.std.proofs.Common.{Option, Some, None, Ok, Err, Bool, true, false, slice_get, ◌≡◌, ℕ, suc, List, [], ◌∷◌, ◌++◌, length, refl, sym, ap, ◌∙◌, subst, append-nil, ◌⊎◌, inl, inr}
-use Rattle.kt_cli.proofs.Common.{AllByRecursion, Entry, Run, Job, plan_fits, AreEntries, IsPlan, Trace, IsStoreFault, entry_at, AreNumbered, new_run, run_at, with_entry, put_refusal, finish_refusal, StoreCall, Began, Put, Finished, Heads, Outline, Outputs, CaseOutputs, RunHead, StoreFault, Command, Kind, Seen, Means, stopped, listed, tested, debugged, idle, reported, reported_junit, CutShort, no_memory, cut, report_cut, junit_cut, Did, Scene, World, AllRecorded, JunitOrUnread, Reported, told, no_run, ReportedJunit, Unread, asked_outputs, with_new, Left, put_all, Agrees, changed_by, puts, changed, Agree, PlannedRun, run_for, Tested, TestCut, not_begun, not_run, not_put, not_finished}
+use Rattle.std.proofs.Common.{Option, Some, None, Ok, Err, Bool, true, false, map, ◌≡◌, ℕ, suc, List, [], ◌∷◌, ◌++◌, length, refl, sym, ap, ◌∙◌, subst, append-nil, ◌⊎◌, inl, inr}
+use Rattle.kt_cli.proofs.Common.{AllByRecursion, Entry, Run, Job, plan_fits, AreEntries, IsPlan, Trace, IsStoreFault, entry_at, AreNumbered, new_run, run_at, with_entry, put_refusal, finish_refusal, StoreCall, Began, Put, Finished, Heads, Outline, Outputs, Pairs, outputs_of, without_outputs, RunHead, StoreFault, Command, Kind, Seen, Means, stopped, listed, tested, debugged, idle, reported, reported_junit, CutShort, no_memory, cut, report_cut, text_cut, junit_cut, Did, Scene, World, AllRecorded, JunitOrUnread, Reported, told, told_pairs, no_run, ReportedJunit, Unread, TextCut, no_pairs, no_output, asked_outputs, asked_pairs, with_new, Left, put_all, Agrees, changed_by, puts, changed, Agree, PlannedRun, run_for, Tested, TestCut, not_begun, not_run, not_put, not_finished}
 use Rattle.kt_sched.specs.RecordOrder.{recorded as record_order}
-use Rattle.kt_cli.specs.Reports.{told as told_junit, no_run as no_junit, no_heads as unread_heads, no_outline as unread_outline, no_outputs as cut_outputs, no_memory as cut_junit}
+use Rattle.kt_cli.specs.Reports.{told as told_junit, no_run as no_junit, no_heads as unread_heads, no_outline as unread_outline, no_outputs as cut_outputs, no_memory as cut_junit, no_output as no_junit_output}
 use Rattle.kt_cli.specs.SoundStores.{Adds, none, one_run, OnlyFails, entries_put}
 use Rattle.kt_cli.specs.Testing.{recorded}
 use Rattle.kt_store.specs.declared.result_store.Keeping as keeping
@@ -77,9 +77,11 @@ module _ (runs : List Run) (h : AreNumbered 1 runs) where
   tested_coming : (planned : PlannedRun) (T : Trace) (calls : List StoreCall) (bytes : List ℕ) (exit : ℕ) → Tested planned T calls bytes exit → Agree runs calls → Coming runs calls
   tested_coming planned T calls bytes exit (recorded k es all) a =
       let total = length planned.plan in
-      one_coming k total planned.moment a.0.0 es (Finished k (Ok tt)) true refl (finish_new runs k total planned.moment es h a.0.0) (λ f. all_count planned.plan planned.width T es all) (tt, tt)
+      one_coming k total planned.moment a.0.0 es (Finished k (Ok tt)) true refl (finish_new runs k total planned.moment es h a.0.0) (λ f. all_count planned.plan planned.width T es all)
+      (tt, tt)
 
-  cut_coming : (planned : PlannedRun) (T : Trace) (calls : List StoreCall) (bytes : List ℕ) (exit : ℕ) → IsPlan planned.plan → TestCut planned T calls bytes exit → Agree runs calls → Coming runs calls
+  cut_coming : (planned : PlannedRun) (T : Trace) (calls : List StoreCall) (bytes : List ℕ) (exit : ℕ) → IsPlan planned.plan → TestCut planned T calls bytes exit → Agree runs calls
+      → Coming runs calls
   cut_coming planned T calls bytes exit is (not_begun why e) a = record { only_fails = (elim a.0 [ inl f ↦ inl f | inr f ↦ inr f.0 ], tt); adds = none refl }
   cut_coming planned T calls bytes exit is (not_run k e) a = record { only_fails = (tt, tt); adds = one_run planned.moment (length planned.plan) false refl (λ f. absurd (cc)) }
   cut_coming planned T calls bytes exit is (not_put k es refused why s) a =
@@ -97,70 +99,96 @@ module _ (runs : List Run) (h : AreNumbered 1 runs) where
 
 -- ---- a report
 
--- outputs that were told change nothing
-outputs_change : (number : ℕ) (outline : List Entry) (outputs : List CaseOutputs) (runs : List Run) → changed (asked_outputs number outline outputs) runs ≡ runs
-outputs_change number outline [] runs = refl
-outputs_change number [] (o ∷ outputs) runs = refl
-outputs_change number (e ∷ outline) (o ∷ outputs) runs = outputs_change number outline outputs runs
+-- calls that read change nothing, and those that were answered are no refusals
+module _ (call : Entry → StoreCall) (reads : (e : Entry) (runs : List Run) → changed_by (call e) runs ≡ runs) (done : (e : Entry) → OnlyFails (call e)) where
+  asked_change : (shown : List Entry) (runs : List Run) → changed (map call shown) runs ≡ runs
+  asked_change [] runs = refl
+  asked_change (e ∷ shown) runs = ap (changed (map call shown)) (reads e runs) ∙ asked_change shown runs
 
-outputs_told : (number : ℕ) (outline : List Entry) (outputs : List CaseOutputs) (after : List StoreCall) → AllByRecursion OnlyFails after → AllByRecursion OnlyFails (asked_outputs number outline outputs ++ after)
-outputs_told number outline [] after all = all
-outputs_told number [] (o ∷ outputs) after all = all
-outputs_told number (e ∷ outline) (o ∷ outputs) after all = (tt, outputs_told number outline outputs after all)
+  asked_done : (shown : List Entry) (after : List StoreCall) → AllByRecursion OnlyFails after → AllByRecursion OnlyFails (map call shown ++ after)
+  asked_done [] after all = all
+  asked_done (e ∷ shown) after all = (done e, asked_done shown after all)
+
+pairs_change : (number : ℕ) (shown : List Entry) (runs : List Run) → changed (asked_pairs number shown) runs ≡ runs
+pairs_change number = asked_change (λ (e : Entry). Pairs number e.position (Ok e.meta)) (λ e runs. refl) (λ e. tt)
+
+pairs_done : (number : ℕ) (shown : List Entry) (after : List StoreCall) → AllByRecursion OnlyFails after → AllByRecursion OnlyFails (asked_pairs number shown ++ after)
+pairs_done number = asked_done (λ (e : Entry). Pairs number e.position (Ok e.meta)) (λ e runs. refl) (λ e. tt)
+
+outputs_change : (number : ℕ) (shown : List Entry) (runs : List Run) → changed (asked_outputs number shown) runs ≡ runs
+outputs_change number = asked_change (λ (e : Entry). Outputs number e.position (Ok (outputs_of e))) (λ e runs. refl) (λ e. tt)
+
+outputs_done : (number : ℕ) (shown : List Entry) (after : List StoreCall) → AllByRecursion OnlyFails after → AllByRecursion OnlyFails (asked_outputs number shown ++ after)
+outputs_done number = asked_done (λ (e : Entry). Outputs number e.position (Ok (outputs_of e))) (λ e runs. refl) (λ e. tt)
 
 module _ (number : Option ℕ) (runs : List Run) (h : AreNumbered 1 runs) where
-  outline_coming : (pairs : Bool) (heads : List RunHead) (head : RunHead) (outline : List Entry) (outputs : List CaseOutputs)
-      → Coming runs (Heads (Ok heads) ∷ Outline head.number pairs (Ok outline) ∷ asked_outputs head.number outline outputs)
-  outline_coming pairs heads head outline outputs = record {
-    only_fails = (tt, (tt, subst (λ (cs : List StoreCall). AllByRecursion OnlyFails cs) (append-nil (asked_outputs head.number outline outputs)) (outputs_told head.number outline outputs [] tt)));
-    adds = none (outputs_change head.number outline outputs runs);
-  }
+  -- a run was read, and then what it holds
+  read_coming : (heads : List RunHead) (head : RunHead) (outline : List Entry) (asked : List StoreCall) → AllByRecursion OnlyFails (asked ++ []) → changed asked runs ≡ runs
+      → Coming runs (Heads (Ok heads) ∷ Outline head.number (Ok outline) ∷ asked)
+  read_coming heads head outline asked all same = record { only_fails = (tt, (tt, subst (λ (cs : List StoreCall). AllByRecursion OnlyFails cs) (append-nil asked) all)); adds = none same }
 
-  unread_coming : (pairs : Bool) (calls : List StoreCall) (bytes : List ℕ) (exit : ℕ) → Unread number pairs calls bytes exit → Agree runs calls → Coming runs calls
-  unread_coming pairs calls bytes exit (unread_heads why) a = record { only_fails = (inl a.0, tt); adds = none refl }
-  unread_coming pairs calls bytes exit (unread_outline heads head why e) a = record { only_fails = (tt, (inl (entries_there number runs heads head why h a.0 e a.1.0), tt)); adds = none refl }
+  outputs_coming : (heads : List RunHead) (head : RunHead) (outline shown : List Entry) → Coming runs (Heads (Ok heads) ∷ Outline head.number (Ok outline) ∷ asked_outputs head.number shown)
+  outputs_coming heads head outline shown = read_coming heads head outline (asked_outputs head.number shown) (outputs_done head.number shown [] tt) (outputs_change head.number shown runs)
+
+  pairs_coming : (heads : List RunHead) (head : RunHead) (outline shown : List Entry) → Coming runs (Heads (Ok heads) ∷ Outline head.number (Ok outline) ∷ asked_pairs head.number shown)
+  pairs_coming heads head outline shown = read_coming heads head outline (asked_pairs head.number shown) (pairs_done head.number shown [] tt) (pairs_change head.number shown runs)
+
+  unread_coming : (calls : List StoreCall) (bytes : List ℕ) (exit : ℕ) → Unread number calls bytes exit → Agree runs calls → Coming runs calls
+  unread_coming calls bytes exit (unread_heads why) a = record { only_fails = (inl a.0, tt); adds = none refl }
+  unread_coming calls bytes exit (unread_outline heads head why e) a = record { only_fails = (tt, (inl (entries_there number runs heads head why h a.0 e a.1.0), tt)); adds = none refl }
 
   reported_coming : (kinds : List Kind) (verbose : Bool) (calls : List StoreCall) (bytes : List ℕ) (exit : ℕ) → Reported number kinds verbose calls bytes exit → Coming runs calls
-  reported_coming kinds verbose calls bytes exit (told heads head outline date e d) = outline_coming verbose heads head outline []
-  reported_coming kinds verbose calls bytes exit (no_run heads e) = record { only_fails = (tt, tt); adds = none refl }
+  reported_coming kinds verbose calls bytes exit (told heads head outline date e d) = pairs_coming heads head outline []
+  reported_coming kinds verbose calls bytes exit (told_pairs heads head outline shown date e d same) = pairs_coming heads head outline shown
+  reported_coming kinds verbose calls bytes exit (no_run v heads e) = record { only_fails = (tt, tt); adds = none refl }
+
+  text_coming : (kinds : List Kind) (failed : Bool) (calls : List StoreCall) (bytes : List ℕ) (exit : ℕ) → TextCut number kinds failed calls bytes exit → Agree runs calls → Coming runs calls
+  text_coming kinds failed calls bytes exit (no_output heads head outline shown rest date f e d same) a = pairs_coming heads head outline shown
+  text_coming kinds failed calls bytes exit (no_pairs heads head outline shown rest last why e same) a =
+      let before = asked_pairs head.number shown in
+      let end = Pairs head.number last.position (Err why) ∷ [] in
+      record { only_fails = (tt, (tt, pairs_done head.number shown end (inl (agree_later before end runs a.1.1).0, tt))); adds = none (changed-append before end runs ∙ pairs_change head.number shown runs) }
 
   junit_coming : (calls : List StoreCall) (bytes : List ℕ) (exit : ℕ) → ReportedJunit number calls bytes exit → Coming runs calls
-  junit_coming calls bytes exit (told_junit heads head outline outputs e all) = outline_coming false heads head outline outputs
+  junit_coming calls bytes exit (told_junit heads head outline shown e same) = outputs_coming heads head outline shown
   junit_coming calls bytes exit (no_junit heads e) = record { only_fails = (tt, tt); adds = none refl }
 
-  junit_or_unread : (calls : List StoreCall) (bytes : List ℕ) (exit : ℕ) → JunitOrUnread number calls bytes exit → Agree runs calls → Coming runs calls
-  junit_or_unread calls bytes exit (inl u) a = unread_coming false calls bytes exit u a
-  junit_or_unread calls bytes exit (inr (cut_junit heads head outline outputs front rest next e s)) a = outline_coming false heads head outline outputs
-  junit_or_unread calls bytes exit (inr (cut_outputs heads head outline outputs last why e there)) a =
+  junit_or_unread : (f : Bool) (calls : List StoreCall) (bytes : List ℕ) (exit : ℕ) → JunitOrUnread number f calls bytes exit → Agree runs calls → Coming runs calls
+  junit_or_unread f calls bytes exit (inl u) a = unread_coming calls bytes exit u a
+  junit_or_unread f calls bytes exit (inr (cut_junit heads head outline shown rest front back next e same s)) a = outputs_coming heads head outline shown
+  junit_or_unread f calls bytes exit (inr (no_junit_output heads head outline shown rest g e same)) a = outputs_coming heads head outline shown
+  junit_or_unread f calls bytes exit (inr (cut_outputs heads head outline shown rest last why e same)) a =
       let end = Outputs head.number last.position (Err why) ∷ [] in
-      let before = asked_outputs head.number outline outputs in
+      let before = asked_outputs head.number shown in
       let r = a.1.0.0 in
-      let same = outputs_change head.number outline outputs runs in
-      let cause = subst (λ (rs : List Run). Agrees rs (Outputs head.number last.position (Err why))) same (agree_later before end runs a.1.1).0 in
-      let inside = entry_found r.entries (length outputs) last (ap (λ (es : List Entry). slice_get es (length outputs)) (sym a.1.0.2) ∙ there) in
+      let kept = outputs_change head.number shown runs in
+      let cause = subst (λ (rs : List Run). Agrees rs (Outputs head.number last.position (Err why))) kept (agree_later before end runs a.1.1).0 in
+      let inside = entry_found r.entries shown rest last (same ∙ ap (λ (es : List Entry). map without_outputs es) a.1.0.2) in
       let missed = failed why ((why ≡ Absent) × (entry_at (run_at runs head.number) last.position ≡ None)) cause
       (λ missing. inside (ap (λ (x : Option Run). entry_at x last.position) (sym a.1.0.1) ∙ missing.1)) in
-      record { only_fails = (tt, (tt, outputs_told head.number outline outputs end (missed, tt))); adds = none (changed-append before end runs ∙ same) }
+      record { only_fails = (tt, (tt, outputs_done head.number shown end (missed, tt))); adds = none (changed-append before end runs ∙ kept) }
 
 -- ---- any command
 
 module _ (seen : Seen) (runs : List Run) (h : AreNumbered 1 runs) (a : Agree runs seen.calls) where
-  coming : (c : Command) (bytes : List ℕ) (exit : ℕ) → Means seen c bytes exit ⊎ CutShort seen c bytes exit → Coming runs seen.calls
-  coming c bytes exit (inl (stopped d options fault e s k)) = none_coming runs seen.calls k.calls
-  coming c bytes exit (inl (listed options picked s k)) = none_coming runs seen.calls k.calls
-  coming c bytes exit (inl (tested options file picked moment bs x p t)) = tested_coming runs h (run_for seen.plan options picked moment) seen.trace seen.calls bytes exit t a
-  coming c bytes exit (inl (debugged options picked first others entries e p all k)) = none_coming runs seen.calls k
-  coming c bytes exit (inl (idle options picked s e k)) = none_coming runs seen.calls k.calls
-  coming c bytes exit (inl (reported options kinds verbose bs x u r)) = reported_coming options.run runs h kinds verbose seen.calls bytes exit r
-  coming c bytes exit (inl (reported_junit options bs x u r)) = junit_coming options.run runs h seen.calls bytes exit r
-  coming c bytes exit (inr (no_memory d options e _ k)) = none_coming runs seen.calls k.calls
-  coming c bytes exit (inr (cut options file picked moment bs x p t)) =
+  coming : (c : Command) (failed : Bool) (bytes : List ℕ) (exit : ℕ) → Means seen c bytes exit ⊎ CutShort seen failed c bytes exit → Coming runs seen.calls
+  coming c failed bytes exit (inl (stopped d options fault e s k)) = none_coming runs seen.calls k.calls
+  coming c failed bytes exit (inl (listed options picked s k)) = none_coming runs seen.calls k.calls
+  coming c failed bytes exit (inl (tested options file picked moment bs x p t)) = tested_coming runs h (run_for seen.plan options picked moment) seen.trace seen.calls bytes exit t a
+  coming c failed bytes exit (inl (debugged options picked first others entries e p all k)) = none_coming runs seen.calls k
+  coming c failed bytes exit (inl (idle options picked s e k)) = none_coming runs seen.calls k.calls
+  coming c failed bytes exit (inl (reported options kinds verbose bs x u r)) = reported_coming options.run runs h kinds verbose seen.calls bytes exit r
+  coming c failed bytes exit (inl (reported_junit options bs x u r)) = junit_coming options.run runs h seen.calls bytes exit r
+  coming c failed bytes exit (inr (no_memory d options e _ k)) = none_coming runs seen.calls k.calls
+  coming c failed bytes exit (inr (cut options file picked moment bs x p t)) =
       cut_coming runs h (run_for seen.plan options picked moment) seen.trace seen.calls bytes exit (plan_fits picked.settings.config p.host picked.chosen.cases seen.plan p.planned) t a
-  coming c bytes exit (inr (report_cut options kinds verbose bs x u r)) = unread_coming options.run runs h verbose seen.calls bytes exit r a
-  coming c bytes exit (inr (junit_cut options bs x u r)) = junit_or_unread options.run runs h seen.calls bytes exit r a
+  coming c failed bytes exit (inr (report_cut options kinds verbose bs x u r)) = unread_coming options.run runs h seen.calls bytes exit r a
+  coming c failed bytes exit (inr (text_cut options kinds bs x u r)) = text_coming options.run runs h kinds failed seen.calls bytes exit r a
+  coming c failed bytes exit (inr (junit_cut options bs x u r)) = junit_or_unread options.run runs h failed seen.calls bytes exit r a
 
 -- what a command left of a sound store that stood for runs
-pub left_by : {W R : Type 0} (w : World W) (keep : keeping.Ghosts R) (c : Command) (old new : Scene W R) (exit : ℕ) (runs : List Run) (did : Did w keep c old new exit) → keep.stands old.store runs → keep.sound new.store → Left did runs
+pub left_by : {W R : Type 0} (w : World W) (keep : keeping.Ghosts R) (c : Command) (old new : Scene W R) (exit : ℕ) (runs : List Run) (did : Did w keep c old new exit)
+    → keep.stands old.store runs → keep.sound new.store → Left did runs
 left_by w keep c old new exit runs did h sound =
-    let it = coming did.seen runs (keep.numbered old.store runs h) (did.stored.kept.agree runs h sound) c did.bytes did.due did.is in
+    let it = coming did.seen runs (keep.numbered old.store runs h) (did.stored.kept.agree runs h sound) c did.printed.failed did.bytes did.due did.is in
     record { only_fails = it.only_fails; adds = it.adds }

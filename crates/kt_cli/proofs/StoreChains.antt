@@ -1,6 +1,6 @@
 -- Calls on a store, one after the other.
 use Rattle.std.proofs.Common.{Ok, ◌≡◌, List, [], ◌∷◌, ◌++◌, refl, sym, subst}
-use Rattle.kt_cli.proofs.Common.{Run, StoreCall, Began, Put, Finished, Heads, Outline, Outputs, chain-append, Outlasts, Serves, changed_by, beside_by, changed, beside, Agree, Stored}
+use Rattle.kt_cli.proofs.Common.{Run, StoreCall, Began, Put, Finished, Heads, Outline, Outputs, Pairs, chain-append, Outlasts, Serves, changed_by, beside_by, changed, beside, Agree, Stored}
 use Rattle.kt_store.specs.declared.result_store.Keeping as keeping
 
 pub changed-append : (xs ys : List StoreCall) (runs : List Run) → changed (xs ++ ys) runs ≡ changed ys (changed xs runs)
@@ -27,7 +27,8 @@ crash_by Leaves (Began total moment (Ok number)) runs may a b h l = h may
 crash_by Leaves (Put number e (Ok done)) runs may a b h l = h may
 crash_by Leaves (Finished number (Ok done)) runs may a b h l = h may
 crash_by Leaves (Heads answer) runs may a b h l = h (runs ∷ may) l
-crash_by Leaves (Outline number pairs answer) runs may a b h l = h (runs ∷ may) l
+crash_by Leaves (Outline number answer) runs may a b h l = h (runs ∷ may) l
+crash_by Leaves (Pairs number position answer) runs may a b h l = h (runs ∷ may) l
 crash_by Leaves (Outputs number position answer) runs may a b h l = h (runs ∷ may) l
 crash_by Leaves _ runs may a b h l = h may l
 

@@ -1,6 +1,6 @@
 -- A command over a world and a store.
 use Rattle.std.proofs.Common.{Option, Some, Ok, Err, Bool, true, false, take, ◌==◌, if◌then◌else◌, ◌≡◌, ℕ, List, [], ◌∷◌, ◌++◌, refl, sym, ap, ◌∙◌, subst, ◌⊎◌, inl, inr}
-use Rattle.kt_cli.proofs.Common.{utf8, Kind, IsIdle, Job, StoreCall, Chain, Candidate, Command, ReportOptions, Entry, RunFault, NoMemory, SinkFailed, Totals, NoEvent, Trace, cases_of, needs_case, Debugged, all_debug_bytes, debug_exit, memory_line, run_line, Seen, listing, listing_exit, IsPrepared, IsAskedOnly, IsUnasked, Means, stopped, listed, tested, debugged, idle, reported, reported_junit, taken, AsksFirst, selecting, preparing, CutShort, no_memory, cut, report_cut, junit_cut, Did, Says, Printed, Question, leads_by, of_host, JunitOrUnread, DidReport, Reported, ReportedJunit, Unread, Scene, scene, World, launcher_of, Shows, RanPlan, run_for, warnings, chain-append}
+use Rattle.kt_cli.proofs.Common.{utf8, Kind, IsIdle, Job, StoreCall, Chain, Candidate, Command, ReportOptions, Entry, RunFault, NoMemory, SinkFailed, Totals, NoEvent, Trace, cases_of, needs_case, Debugged, all_debug_bytes, debug_exit, memory_line, run_line, Seen, IsPrepared, IsAskedOnly, IsUnasked, Means, stopped, tested, debugged, reported, reported_junit, taken, AsksFirst, selecting, preparing, CutShort, no_memory, cut, report_cut, text_cut, junit_cut, Did, Says, Printed, Question, leads_by, of_host, TextOrUnread, JunitOrUnread, DidReport, Reported, ReportedJunit, Scene, scene, World, launcher_of, Shows, RanPlan, run_for, chain-append}
 use Rattle.kt_base.specs.declared.child.Role.{Role}
 use Rattle.kt_metadata.specs.declared.host.Host.{Host}
 use Rattle.kt_suite.specs.Answers.{Answered}
@@ -31,9 +31,9 @@ module _ {W : Type 0} (w : World W) where
 
   -- nothing was started
   told_only : (c : Command) (old new : W) (was now : Option (List ℕ)) (exit : ℕ) (questions : List Question) (bytes : List ℕ) (due : ℕ) → Chain (leads_by w.asks w.tells) old questions new
-      → Means (asked_only questions) c bytes due ⊎ CutShort (asked_only questions) c bytes due
-      → Printed was now exit bytes due → AsksOnly w c old new was now exit
-  told_only c old new was now exit questions bytes due p m q = record { seen = asked_only questions; course = record { begun = new; asked = p; ran = refl }; uncalled = refl; bytes = bytes; due = due; is = m; printed = q }
+      → (q : Printed was now exit bytes due) → Means (asked_only questions) c bytes due ⊎ CutShort (asked_only questions) q.failed c bytes due
+      → AsksOnly w c old new was now exit
+  told_only c old new was now exit questions bytes due p q m = record { seen = asked_only questions; course = record { begun = new; asked = p; ran = refl }; uncalled = refl; bytes = bytes; due = due; is = m; printed = q }
 
   only_asked : (questions : List Question) → IsAskedOnly (asked_only questions)
   only_asked questions = record { trace = refl; calls = refl }
@@ -43,10 +43,10 @@ module _ {W : Type 0} (w : World W) where
       → Answered (leads_by w.asks w.tells) old new (λ questions. SelectsOrShort (needs_case c) options questions (Err fault))
       → Printed was now exit (utf8 (stop_line fault)) (stop_exit fault) → AsksOnly w c old new was now exit
   stopped_only c options old new was now exit fault e a p =
-      told_only c old new was now exit a.asked (utf8 (stop_line fault)) (stop_exit fault) a.chain (elim a.holds [
-        | inl s ↦ inr (subst (λ (x : Stop). CutShort (asked_only a.asked) c (utf8 (stop_line x)) (stop_exit x)) (sym s.0.1) (no_memory c options e (selecting a.asked s.1) (only_asked a.asked)))
+      told_only c old new was now exit a.asked (utf8 (stop_line fault)) (stop_exit fault) a.chain p (elim a.holds [
+        | inl s ↦ inr (subst (λ (x : Stop). CutShort (asked_only a.asked) p.failed c (utf8 (stop_line x)) (stop_exit x)) (sym s.0.1) (no_memory c options e (selecting a.asked s.1) (only_asked a.asked)))
         | inr s ↦ inl (stopped c options fault e s (only_asked a.asked))
-      ]) p
+      ])
 
   picked_is : (needed : Bool) (options : CaseOptions) (questions : List Question) (picked : Picked) → SelectsOrShort needed options questions (Ok picked) → Selects needed options questions (Ok picked)
   picked_is needed options questions picked (inl s) = absurd s.0
@@ -57,7 +57,7 @@ module _ {W : Type 0} (w : World W) where
       → ((questions : List Question) → Selects needed options questions (Ok picked) → IsAskedOnly (asked_only questions) → Means (asked_only questions) c bytes due)
       → Answered (leads_by w.asks w.tells) old new (λ questions. SelectsOrShort needed options questions (Ok picked)) → Printed was now exit bytes due → AsksOnly w c old new was now exit
   picked_only c needed options old new was now exit picked bytes due means a p =
-      told_only c old new was now exit a.asked bytes due a.chain (inl (means a.asked (picked_is needed options a.asked picked a.holds) (only_asked a.asked))) p
+      told_only c old new was now exit a.asked bytes due a.chain p (inl (means a.asked (picked_is needed options a.asked picked a.holds) (only_asked a.asked)))
 
   -- the selection, and the first questions about its cases
   prepared_first : (needed : Bool) (options : CaseOptions) (questions : List Question) (told : List Told) (picked : Picked) (cases : List Candidate) → SelectsOrShort needed options questions (Ok picked) → cases ≡ taken needed picked.chosen.cases
@@ -70,8 +70,8 @@ module _ {W : Type 0} (w : World W) where
       → HasSelected w c options old picked mid → cases ≡ taken (needs_case c) picked.chosen.cases → Answered w.tells mid new (λ told. SurveysFirst cases told)
       → Printed was now exit (utf8 memory_line) 2 → AsksOnly w c old new was now exit
   short_only c options old mid new was now exit picked cases e a same b p =
-      told_only c old new was now exit (a.asked ++ of_host b.asked) (utf8 memory_line) 2 (chain-append (leads_by w.asks w.tells) a.asked (of_host b.asked) old mid new a.chain (chain_of_host w.asks w.tells b.asked mid new b.chain))
-      (inr (no_memory c options e (prepared_first (needs_case c) options a.asked b.asked picked cases a.holds same b.holds) (only_asked (a.asked ++ of_host b.asked)))) p
+      told_only c old new was now exit (a.asked ++ of_host b.asked) (utf8 memory_line) 2 (chain-append (leads_by w.asks w.tells) a.asked (of_host b.asked) old mid new a.chain (chain_of_host w.asks w.tells b.asked mid new b.chain)) p
+      (inr (no_memory c options e (prepared_first (needs_case c) options a.asked b.asked picked cases a.holds same b.holds) (only_asked (a.asked ++ of_host b.asked))))
 
   -- what the host was asked for some cases, and their plan
   abbrev pub Prepares : Picked → List Candidate → List Job → List Told → Type 0
@@ -169,8 +169,8 @@ module _ {W : Type 0} (w : World W) where
 
     module _ (c : Command) (world : W) (store after : R) (was now : Option (List ℕ)) (exit : ℕ) (options : ReportOptions) where
       -- what a report did is what its command did
-      reports : {M C : List StoreCall → List ℕ → ℕ → Type 0} (k : Command) → c ≡ k → (d : DidReport keep store after was now exit M C)
-          → (M d.calls d.bytes d.due → Means (called_only d.calls) k d.bytes d.due) → (C d.calls d.bytes d.due → CutShort (called_only d.calls) k d.bytes d.due)
+      reports : {M : List StoreCall → List ℕ → ℕ → Type 0} {C : Bool → List StoreCall → List ℕ → ℕ → Type 0} (k : Command) → c ≡ k → (d : DidReport keep store after was now exit M C)
+          → (M d.calls d.bytes d.due → Means (called_only d.calls) k d.bytes d.due) → (C d.printed.failed d.calls d.bytes d.due → CutShort (called_only d.calls) d.printed.failed k d.bytes d.due)
           → Did w keep c (scene world store was) (scene world after now) exit
       reports k e d means short = subst (λ (x : Command). Did w keep x (scene world store was) (scene world after now) exit) (sym e) (record {
         seen = called_only d.calls;
@@ -182,10 +182,16 @@ module _ {W : Type 0} (w : World W) where
         printed = d.printed;
       })
 
+      text_or_unread : (kinds : List Kind) (verbose failed : Bool) (calls : List StoreCall) (bytes : List ℕ) (due : ℕ) → TextOrUnread options.run kinds verbose failed calls bytes due
+          → CutShort (called_only calls) failed (command.Report options kinds verbose) bytes due
+      text_or_unread kinds verbose failed calls bytes due (inl u) = report_cut options kinds verbose bytes due none_asked u
+      text_or_unread kinds true failed calls bytes due (inr u) = text_cut options kinds bytes due none_asked u.1
+      text_or_unread kinds false failed calls bytes due (inr u) = absurd (cc)
+
       pub did_report : (kinds : List Kind) (verbose : Bool) → c ≡ command.Report options kinds verbose
-          → DidReport keep store after was now exit (Reported options.run kinds verbose) (Unread options.run verbose) → Did w keep c (scene world store was) (scene world after now) exit
+          → DidReport keep store after was now exit (Reported options.run kinds verbose) (TextOrUnread options.run kinds verbose) → Did w keep c (scene world store was) (scene world after now) exit
       did_report kinds verbose e d =
-          reports (command.Report options kinds verbose) e d (reported options kinds verbose d.bytes d.due none_asked) (report_cut options kinds verbose d.bytes d.due none_asked)
+          reports (command.Report options kinds verbose) e d (reported options kinds verbose d.bytes d.due none_asked) (text_or_unread kinds verbose d.printed.failed d.calls d.bytes d.due)
 
       pub did_junit : c ≡ command.ReportJunit options
           → DidReport keep store after was now exit (ReportedJunit options.run) (JunitOrUnread options.run) → Did w keep c (scene world store was) (scene world after now) exit

@@ -2,11 +2,9 @@
 use Rattle.std.specs.Prelude.{◌≡◌, ℕ, List, take, Option, Some, None, Result, Ok, Err, chars, ⊤}
 use Rattle.std.specs.Str.{IsUtf8}
 use Rattle.std.specs.declared.env.FillError.{FillError}
-use Rattle.std.specs.declared.io.Error.{Error}
+use Rattle.kt_cli.specs.Types.{DriverFault, Error, NoWorkDirectory, Surroundings}
 use Rattle.kt_base.specs.declared.no_memory.NoMemory.{NoMemory as Shortage}
-use Rattle.kt_child.specs.declared.driving.driver.DriverFault.{DriverFault}
-use Rattle.kt_child.specs.declared.driving.driver.DriverFault.TheVariants.{NoMemory, NoWorkDirectory}
-use Rattle.kt_cli.specs.declared.host.surroundings.Surroundings.{Surroundings}
+use Rattle.kt_child.specs.declared.driving.driver.DriverFault.TheVariants.{NoMemory}
 
 -- The working directory is the one that the system tells. If the system tells one, only memory may be lacking for it.
 abbrev pub IsHere : Result (List ℕ) Error → Result (List ℕ) DriverFault → Type 0

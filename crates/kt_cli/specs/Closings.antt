@@ -1,7 +1,6 @@
 -- How a command ends whose results were closed.
 use Rattle.std.specs.Prelude.{ℕ, Bool, true, false, List, ◌≡◌, ◌==◌, Option, Result, Ok, Err}
-use Rattle.kt_base.specs.Utf8.{utf8}
-use Rattle.kt_store.specs.declared.store_fault.StoreFault.{StoreFault}
+use Rattle.kt_cli.specs.Types.{StoreFault, utf8}
 use Rattle.kt_cli.specs.FaultLines.{refusal_line}
 use Rattle.kt_cli.specs.Pages.{Printed}
 use Rattle.kt_cli.specs.Refused.{failure_exit}

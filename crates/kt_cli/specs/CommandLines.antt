@@ -1,11 +1,9 @@
 -- The command that the words of a process say.
 use Rattle.std.specs.Prelude.{◌≡◌, ℕ, List, Result, Ok, Err, IsErrAnd}
 use Rattle.std.specs.IoError.{error_kind}
-use Rattle.std.specs.declared.io.Error.{Error}
+use Rattle.kt_cli.specs.Types.{Command, CommandFault, Error}
 use Rattle.std.specs.declared.io.ErrorKind.TheVariants.{OutOfMemory}
 use Rattle.kt_words.specs.Reading.{Reads, RefusesWords}
-use Rattle.kt_words.specs.declared.command.Command.{Command}
-use Rattle.kt_words.specs.declared.command_fault.CommandFault.{CommandFault}
 
 -- The words after the program's own name are read as this command, or are refused. If the system doesn't give the words, they
 -- are refused, too.

@@ -10,12 +10,13 @@ pub use Rattle.kt_base.specs.Shows.{Shows}
 pub use Rattle.kt_base.specs.Utf8.{utf8}
 pub use Rattle.kt_base.specs.declared.entry.Run.{Run}
 pub use Rattle.kt_child.specs.Driving.ChildrenState.{ChildrenState, is_among, shown_in}
+pub use Rattle.kt_report.specs.Texts.{by_section, chosen_of}
 pub use Rattle.kt_sched.specs.Children.{IsIdle}
 pub use Rattle.kt_sched.specs.Plan.{IsPlan, IsWidth}
 pub use Rattle.kt_store.specs.Ask.{IsStoreFault}
 pub use Rattle.kt_store.specs.Heads.{head_of, outlined, outputs_of}
 pub use Rattle.kt_store.specs.Runs.{AreNumbered, AreOrdered, has_position, insert_at}
-pub use Rattle.kt_store.specs.StoreCalls.{Began, Finished, Heads, Outline, Outputs, Put, seen_as}
+pub use Rattle.kt_store.specs.StoreCalls.{Began, Finished, Heads, Outline, Outputs, Pairs, Put, seen_as}
 pub use Rattle.kt_suite.specs.Selecting.{most_items}
 pub use Rattle.kt_words.specs.Commands.{cases_of}
 pub use Rattle.kt_words.specs.declared.command.Command.{Command}
@@ -34,7 +35,7 @@ pub use Rattle.kt_cli.specs.Inner.MemoryRuns.{FindsPlace, ServesInMemory, closin
 pub use Rattle.kt_cli.specs.Inner.Pages.{Says}
 pub use Rattle.kt_cli.specs.Inner.Recording.{Recorded, Took, recording, sink_fault_of}
 pub use Rattle.kt_cli.specs.Inner.Recordings.{Records}
-pub use Rattle.kt_cli.specs.Inner.Reports.{DidReport, JunitOrUnread, WritesCase, WritesJunit}
+pub use Rattle.kt_cli.specs.Inner.Reports.{DidReport, JunitOrUnread, TextOrUnread, WritesCase, WritesEntries, WritesJunit, WritesText}
 pub use Rattle.kt_cli.specs.Inner.Shown.{IsMissing, ReadsRun, not_shown_line}
 pub use Rattle.kt_cli.specs.Inner.Testing.{RanPlan}
 pub use Rattle.kt_cli.specs.LineOutputs.{HandedOn, given_bytes, has_failed, is_broken, line_state, unflushed, unwritten}
@@ -44,7 +45,7 @@ pub use Rattle.kt_cli.specs.Pages.{Printed}
 pub use Rattle.kt_cli.specs.Performing.{CarriedOut, DoneIn, DoneOver, Flushed, IsMade, NoDriver, NoRoot, OnDriver, Performed, Rejected, access_of, program, state}
 pub use Rattle.kt_cli.specs.Places.{absolute, source_directory}
 pub use Rattle.kt_cli.specs.Refused.{Refused, command_exit, command_text, driver_line, failure_exit}
-pub use Rattle.kt_cli.specs.Reports.{Reported, ReportedJunit, Unread, chosen}
+pub use Rattle.kt_cli.specs.Reports.{Reported, ReportedJunit, chosen}
 pub use Rattle.kt_cli.specs.Scenes.{Scene, scene}
 pub use Rattle.kt_cli.specs.Sequences.{DidAll}
 pub use Rattle.kt_cli.specs.SoundStores.{Left}

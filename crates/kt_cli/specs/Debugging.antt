@@ -1,7 +1,6 @@
 -- What `debug` prints of the case that it runs.
 use Rattle.std.specs.Prelude.{ℕ, List, ◌++◌, ◌==◌, flat_map, if◌then◌else◌}
-use Rattle.kt_base.specs.declared.entry.Entry.{Entry}
-use Rattle.kt_report.specs.Lines.{line_bytes}
+use Rattle.kt_cli.specs.Types.{Entry, line_bytes}
 use Rattle.kt_cli.specs.Totals.{bad_count}
 
 -- what the body and the cleanup wrote, and the line of the case

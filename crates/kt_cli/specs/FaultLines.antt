@@ -1,6 +1,6 @@
 -- The lines by which commands report faults.
 use Rattle.std.specs.Prelude.{ℕ, List, ◌++◌, codes}
-use Rattle.kt_store.specs.declared.store_fault.StoreFault.{StoreFault}
+use Rattle.kt_cli.specs.Types.{StoreFault}
 use Rattle.kt_store.specs.Ask.{fault_words}
 
 -- the line of a fault with these words

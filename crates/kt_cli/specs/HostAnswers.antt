@@ -1,23 +1,16 @@
 -- What a command is answered over a machine and a system.
 use Rattle.std.specs.Prelude.{ℕ, Bool, false, ◌≡◌, ◌≤◌, ◌++◌, List, length, Option, Some, None, Result, Err, IfOk, bytes_eq, codes}
 use Rattle.std.proofs.Common.{ap}
-use Rattle.kt_base.specs.Utf8.{utf8}
-use Rattle.kt_base.specs.declared.child.Role.{Role}
-use Rattle.kt_sched.specs.declared.job.Job.{Job}
-use Rattle.kt_sched.specs.declared.job.StartAnswer.{StartAnswer}
-use Rattle.kt_sched.specs.declared.job.Ended.{Ended}
-use Rattle.kt_child.specs.System.Calls.{Call}
+use Rattle.kt_cli.specs.Types.{Asked, Call, Ended, HostWorld, Job, Now, ReadFault, Role, StartAnswer, Told, utf8}
 use Rattle.kt_child.specs.Driving.ChildrenState.{is_among, shown_in}
 use Rattle.kt_child.specs.Driving.DriverSteps.{DriverLists, DriverStarts, DriverWaits}
 use Rattle.kt_child.specs.declared.system.os.Os as system
-use Rattle.kt_cli.specs.declared.host.host_world.HostWorld.{HostWorld}
 use Rattle.kt_cli.specs.declared.host.machine.Machine as machine
 use Rattle.kt_cli.specs.Machines.{MachineAnswer, FrontOf, IsFile, IsThere, HasMoment, AtPath, IsSought, read_limit}
 use Rattle.kt_cli.specs.Scenes.{World}
 use Rattle.kt_metadata.specs.declared.host.Need.TheVariants.{File, Program}
-use Rattle.kt_plan.specs.Told.{Told, ReadConfig, Lists, Finds, IsRoot, HasMemory, HasDisk, Now}
-use Rattle.kt_suite.specs.Answers.{Asked, Read, Exists}
-use Rattle.kt_suite.specs.declared.tree.ReadFault.{ReadFault}
+use Rattle.kt_plan.specs.Told.{ReadConfig, Lists, Finds, IsRoot, HasMemory, HasDisk}
+use Rattle.kt_suite.specs.Answers.{Read, Exists}
 use Rattle.kt_suite.specs.declared.tree.ReadFault.TheVariants.{Failed}
 
 -- the user is root, by the value of `USER`

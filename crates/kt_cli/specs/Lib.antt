@@ -25,4 +25,5 @@ pub mod StopLines
 pub mod Stores
 pub mod Testing
 pub mod Totals
+pub mod Types
 pub mod Warnings

@@ -1,9 +1,8 @@
 -- What a machine is asked, and where a command looks for its files and programs.
 use Rattle.std.specs.Prelude.{ℕ, Bool, true, false, List, [], ◌∷◌, ◌++◌, ◌==◌, ◌≡◌, ◌≤◌, ◌<◌, length, Option, Some, None, Result, codes}
 use Rattle.std.specs.List.{list_any, slice_split}
-use Rattle.kt_base.specs.Characters.{is_absolute, is_slash}
-use Rattle.kt_base.specs.Utf8.{utf8}
-use Rattle.kt_suite.specs.declared.tree.ReadFault.{ReadFault}
+use Rattle.kt_base.specs.Characters.{is_slash}
+use Rattle.kt_cli.specs.Types.{ReadFault, is_absolute, utf8}
 
 -- how many bytes of a file are read at the most: one more than a script may have
 abbrev pub read_limit : ℕ

@@ -1,37 +1,24 @@
 -- What a command means: by the answers of its world and of its store, the bytes and the exit.
 use Rattle.std.specs.Prelude.{ℕ, Bool, true, false, List, [], ◌∷◌, ◌++◌, ◌≡◌, ◌⊎◌, Some, Ok, Err, take, flat_map, if◌then◌else◌}
-use Rattle.kt_base.specs.declared.entry.Entry.{Entry}
-use Rattle.kt_base.specs.declared.verdict.Kind.{Kind}
-use Rattle.kt_base.specs.Utf8.{utf8}
+use Rattle.kt_cli.specs.Types.{Candidate, CaseOptions, Chain, Command, Entry, Job, Kind, Leads, NoEvent, Now, Picked, Question, Stop, StoreCall, Told, Trace, cases_of, leads_by, needs_case, utf8}
 use Rattle.kt_metadata.specs.declared.host.Host.{Host}
-use Rattle.kt_sched.specs.declared.job.Job.{Job}
-use Rattle.kt_sched.specs.Trace.{Trace, NoEvent, Leads}
-use Rattle.kt_store.specs.StoreCalls.{StoreCall}
 use Rattle.kt_store.specs.declared.result_store.Keeping as keeping
-use Rattle.kt_base.specs.Chains.{Chain}
-use Rattle.kt_plan.specs.declared.cases.Candidate.{Candidate}
-use Rattle.kt_words.specs.declared.options.CaseOptions.{CaseOptions}
 use Rattle.kt_plan.specs.declared.cases.Chosen.{Chosen}
-use Rattle.kt_words.specs.declared.command.Command.{Command}
 use Rattle.kt_words.specs.declared.command.Command.TheVariants as command
 use Rattle.kt_words.specs.declared.options.ReportOptions.{ReportOptions}
-use Rattle.kt_plan.specs.declared.cases.Picked.{Picked}
-use Rattle.kt_plan.specs.declared.stop.Stop.{Stop}
-use Rattle.kt_words.specs.Commands.{cases_of, needs_case}
 use Rattle.kt_cli.specs.Debugging.{all_debug_bytes, debug_exit}
 use Rattle.kt_cli.specs.FaultLines.{memory_line}
 use Rattle.kt_cli.specs.CaseLines.{case_line}
 use Rattle.kt_cli.specs.Pages.{Printed}
 use Rattle.kt_plan.specs.Planning.{Surveys, SurveysFirst, ArePlanned}
-use Rattle.kt_plan.specs.Questions.{Question, leads_by, of_host}
+use Rattle.kt_plan.specs.Questions.{of_host}
 use Rattle.kt_plan.specs.Selecting.{Selects, SelectsFirst}
 use Rattle.kt_cli.specs.Recordings.{AllRecorded}
-use Rattle.kt_cli.specs.Reports.{Reported, ReportedJunit, Unread, JunitCut}
+use Rattle.kt_cli.specs.Reports.{Reported, ReportedJunit, Unread, TextCut, JunitCut}
 use Rattle.kt_cli.specs.Scenes.{Scene, World}
 use Rattle.kt_cli.specs.StopLines.{stop_line, stop_exit}
 use Rattle.kt_cli.specs.Stores.{Stored}
 use Rattle.kt_cli.specs.Testing.{all_matched, run_for, Tested, TestCut}
-use Rattle.kt_plan.specs.Told.{Told, Now}
 use Rattle.kt_cli.specs.Warnings.{warnings}
 
 -- what was answered to one command: its questions in the order in which they were put, by the launcher, which was lent the jobs of this plan,
@@ -106,17 +93,19 @@ pub data AsksFirst (needed : Bool) (options : CaseOptions) : List Question → T
   preparing : (before : List Question) (picked : Picked) (told : List Told) → Selects needed options before (Ok picked)
       → SurveysFirst (taken needed picked.chosen.cases) told → AsksFirst needed options (before ++ of_host told)
 
--- how a command ends if memory or the store cuts it short
-pub data CutShort (seen : Seen) : Command → List ℕ → ℕ → Type 0 where
+-- how a command ends if memory or the store cuts it short, or a failed writer, after which a report asks the store for no more
+pub data CutShort (seen : Seen) (failed : Bool) : Command → List ℕ → ℕ → Type 0 where
   no_memory : (c : Command) (options : CaseOptions) → cases_of c ≡ Some options → AsksFirst (needs_case c) options seen.questions → IsAskedOnly seen
-      → CutShort seen c (utf8 memory_line) 2
+      → CutShort seen failed c (utf8 memory_line) 2
   cut : (options : CaseOptions) (file : List ℕ) (picked : Picked) (moment : ℕ) (bytes : List ℕ) (exit : ℕ) → IsPrepared false options seen picked picked.chosen.cases (Now moment ∷ [])
       → TestCut (run_for seen.plan options picked moment) seen.trace seen.calls bytes exit
-      → CutShort seen (command.Test options file) bytes exit
-  report_cut : (options : ReportOptions) (kinds : List Kind) (verbose : Bool) (bytes : List ℕ) (exit : ℕ) → IsUnasked seen → Unread options.run verbose seen.calls bytes exit
-      → CutShort seen (command.Report options kinds verbose) bytes exit
-  junit_cut : (options : ReportOptions) (bytes : List ℕ) (exit : ℕ) → IsUnasked seen → Unread options.run false seen.calls bytes exit ⊎ JunitCut options.run seen.calls bytes exit
-      → CutShort seen (command.ReportJunit options) bytes exit
+      → CutShort seen failed (command.Test options file) bytes exit
+  report_cut : (options : ReportOptions) (kinds : List Kind) (verbose : Bool) (bytes : List ℕ) (exit : ℕ) → IsUnasked seen → Unread options.run seen.calls bytes exit
+      → CutShort seen failed (command.Report options kinds verbose) bytes exit
+  text_cut : (options : ReportOptions) (kinds : List Kind) (bytes : List ℕ) (exit : ℕ) → IsUnasked seen → TextCut options.run kinds failed seen.calls bytes exit
+      → CutShort seen failed (command.Report options kinds true) bytes exit
+  junit_cut : (options : ReportOptions) (bytes : List ℕ) (exit : ℕ) → IsUnasked seen → Unread options.run seen.calls bytes exit ⊎ JunitCut options.run failed seen.calls bytes exit
+      → CutShort seen failed (command.ReportJunit options) bytes exit
 
 module _ {W R : Type 0} (w : World W) (r : keeping.Ghosts R) where
   -- what `execute` did, by what it saw: what the command means, or how memory or the store cut it short; a failed writer holds a proper
@@ -127,5 +116,5 @@ module _ {W R : Type 0} (w : World W) (r : keeping.Ghosts R) where
     pub stored : Stored r seen.calls old.store new.store
     pub bytes : List ℕ
     pub due : ℕ
-    pub is : Means seen c bytes due ⊎ CutShort seen c bytes due
     pub printed : Printed old.held new.held exit bytes due
+    pub is : Means seen c bytes due ⊎ CutShort seen printed.failed c bytes due

@@ -1,9 +1,8 @@
 -- What the calls on runs in memory do.
 use Rattle.std.specs.Prelude.{⊤, List, ◌≡◌}
-use Rattle.kt_base.specs.declared.entry.Run.{Run}
-use Rattle.kt_store.specs.StoreCalls.{StoreCall}
+use Rattle.kt_cli.specs.Types.{AreNumbered, Run, StoreCall}
 use Rattle.kt_store.specs.declared.result_store.Keeping as keeping
-use Rattle.kt_store.specs.Runs.{AreNumbered, AreOrdered}
+use Rattle.kt_store.specs.Runs.{AreOrdered}
 
 -- of what runs in memory answer, each call says all itself
 abbrev pub AnswersInMemory : List Run → StoreCall → List Run → Type 0

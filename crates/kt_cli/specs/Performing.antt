@@ -1,35 +1,23 @@
 -- How the program runs: it opens the results, executes the command and closes them; or the arguments are no command.
 use Rattle.std.specs.Prelude.{ℕ, Bool, false, List, ◌≡◌, Option, None, Ok, Err, [], Some, Result, if◌then◌else◌}
 use Rattle.std.specs.Io.KnownBytes.{Keeps}
-use Rattle.kt_base.specs.Chains.{Chain}
-use Rattle.kt_base.specs.Characters.{is_absolute}
-use Rattle.kt_base.specs.Utf8.{utf8}
-use Rattle.kt_base.specs.declared.entry.Run.{Run}
+use Rattle.kt_cli.specs.Types.{Access, Call, CaseOptions, Chain, Command, CommandFault, DriverFault, HostWorld, NoWorkDirectory, Run, StoreFault, Surroundings, cases_of, is_absolute, utf8}
 use Rattle.kt_child.specs.Driving.Board.{board_of}
 use Rattle.kt_child.specs.Driving.ChildrenState.{idle_state}
 use Rattle.kt_child.specs.Driving.Roots.{FindsRoot}
 use Rattle.kt_child.specs.Driving.Runs.{RunsFrom}
-use Rattle.kt_child.specs.System.Calls.{Call, RemoveTree}
+use Rattle.kt_child.specs.System.Calls.{RemoveTree}
 use Rattle.kt_child.specs.declared.driving.driver.Driver.{Driver}
-use Rattle.kt_child.specs.declared.driving.driver.DriverFault.{DriverFault}
-use Rattle.kt_child.specs.declared.driving.driver.DriverFault.TheVariants.{NoWorkDirectory}
 use Rattle.kt_child.specs.declared.system.os.Os as system
 use Rattle.kt_suite.specs.Paths.{directory_of}
-use Rattle.kt_words.specs.declared.options.CaseOptions.{CaseOptions}
-use Rattle.kt_store.specs.declared.access.Access.{Access}
 use Rattle.kt_store.specs.declared.access.Access.TheVariants.{Record, Read}
 use Rattle.kt_store.specs.declared.result_store.Keeping as keeping
-use Rattle.kt_store.specs.declared.store_fault.StoreFault.{StoreFault}
-use Rattle.kt_words.specs.Commands.{cases_of, results_of}
-use Rattle.kt_words.specs.declared.command.Command.{Command}
+use Rattle.kt_words.specs.Commands.{results_of}
 use Rattle.kt_words.specs.declared.command.Command.TheVariants.{Test}
-use Rattle.kt_words.specs.declared.command_fault.CommandFault.{CommandFault}
 use Rattle.kt_words.specs.declared.command_fault.CommandFault.TheVariants as command
-use Rattle.kt_cli.specs.declared.host.host_world.HostWorld.{HostWorld}
 use Rattle.kt_cli.specs.declared.host.machine.Machine as machine
 use Rattle.kt_cli.specs.declared.host.outside.Outside.{Outside}
 use Rattle.kt_cli.specs.declared.host.platform.Platform as platform
-use Rattle.kt_cli.specs.declared.host.surroundings.Surroundings.{Surroundings}
 use Rattle.kt_cli.specs.Closings.{Concluded}
 use Rattle.kt_cli.specs.FaultLines.{memory_line, refusal_line}
 use Rattle.kt_cli.specs.HostAnswers.{host_world}

@@ -1,6 +1,6 @@
 -- Where a Kyuafile lies among the host's files.
 use Rattle.std.specs.Prelude.{ℕ, List, ◌++◌, codes, if◌then◌else◌}
-use Rattle.kt_base.specs.Characters.{is_absolute}
+use Rattle.kt_cli.specs.Types.{is_absolute}
 use Rattle.kt_suite.specs.Paths.{parent_of}
 
 -- a path, seen from a directory

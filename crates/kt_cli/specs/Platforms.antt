@@ -3,14 +3,10 @@ use Rattle.std.specs.Prelude.{ℕ, ◌⊎◌, ◌≡◌, List, Result, Ok, Err}
 use Rattle.sqlite_disk.specs.declared.Disk as disk
 use Rattle.sqlite_store.specs.declared.store.FileStore.{FileStore}
 use Rattle.sqlite_wal.specs.Recovery.{Image}
-use Rattle.kt_child.specs.declared.driving.driver.DriverFault.{DriverFault}
-use Rattle.kt_store.specs.Ask.{IsStoreFault}
+use Rattle.kt_cli.specs.Types.{Access, DriverFault, IsStoreFault, StoreFault, Surroundings}
 use Rattle.kt_store.specs.Files.{Ends, Finds}
-use Rattle.kt_store.specs.declared.access.Access.{Access}
-use Rattle.kt_store.specs.declared.store_fault.StoreFault.{StoreFault}
 use Rattle.kt_store.specs.declared.store_fault.StoreFault.TheVariants.{UnknownSchema}
 use Rattle.kt_cli.specs.Around.{IsFound}
-use Rattle.kt_cli.specs.declared.host.surroundings.Surroundings.{Surroundings}
 
 -- what a platform was asked for, with its answer: to open the results in a file, to close them, and what is found around the process
 pub data Provided (S : Type 0) : Type 0 where

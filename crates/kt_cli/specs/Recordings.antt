@@ -1,12 +1,10 @@
 -- What became of a plan's cases: which were recorded and printed, and how it ended.
 use Rattle.std.specs.Prelude.{ℕ, List, ◌==◌, ◌≡◌, ◌≤◌, Some, count_by, length, take, slice_get}
-use Rattle.kt_base.specs.declared.entry.Entry.{Entry}
-use Rattle.kt_sched.specs.declared.job.Job.{Job}
+use Rattle.kt_cli.specs.Types.{Entry, Job, Trace}
 use Rattle.kt_sched.specs.EntryOf.{IsEntryOf, AreEntries}
 use Rattle.kt_sched.specs.RecordOrder.{Due, dues, recorded}
 use Rattle.kt_sched.specs.Run.{NamesEachOnce}
 use Rattle.kt_sched.specs.ScheduleRules.{Legal, Stopped}
-use Rattle.kt_sched.specs.Trace.{Trace}
 
 -- the trace is legal at a width, and each case is recorded once with the verdict of its own events
 pub record AllRecorded (plan : List Job) (n : ℕ) (T : Trace) (entries : List Entry) : Type 0 where

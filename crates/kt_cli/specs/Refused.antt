@@ -1,9 +1,7 @@
 -- The lines by which a command line is refused before its command begins, and the exits.
 use Rattle.std.specs.Prelude.{ℕ, Bool, List, ◌≡◌, Option}
-use Rattle.kt_base.specs.Shows.{Shows}
-use Rattle.kt_child.specs.declared.driving.driver.DriverFault.{DriverFault}
+use Rattle.kt_cli.specs.Types.{CommandFault, DriverFault, Shows}
 use Rattle.kt_child.specs.Driving.Roots.{driver_words}
-use Rattle.kt_words.specs.declared.command_fault.CommandFault.{CommandFault}
 use Rattle.kt_words.specs.declared.command_fault.CommandFault.TheVariants as command
 use Rattle.kt_words.specs.FaultWords.{command_words}
 use Rattle.kt_cli.specs.FaultLines.{fault_line}

@@ -1,18 +1,9 @@
 -- Which run is shown, and what is shown of it.
-use Rattle.std.specs.Prelude.{ℕ, Bool, false, zero, suc, List, [], ◌∷◌, ◌++◌, ◌-◌, ◌≡◌, Option, Some, None, Ok, Err, codes, length, slice_get, flat_map}
-use Rattle.std.specs.Fmt.{decimal}
-use Rattle.jiff_core.specs.declared.civil.date.Date.{Date}
-use Rattle.kt_base.specs.declared.entry.Entry.{Entry}
-use Rattle.kt_base.specs.declared.verdict.Kind.{Kind}
-use Rattle.kt_base.specs.declared.entry.Run.{Run}
-use Rattle.kt_base.specs.Utf8.{utf8}
-use Rattle.kt_report.specs.Cases.{with_outputs}
-use Rattle.kt_report.specs.Junits.{heading, case_bytes, ending, junit_bytes}
-use Rattle.kt_report.specs.Texts.{IsDateOf, text_bytes}
-use Rattle.kt_store.specs.StoreCalls.{StoreCall, Heads, Outline, Outputs}
-use Rattle.kt_store.specs.declared.result_store.CaseOutputs.{CaseOutputs}
-use Rattle.kt_store.specs.declared.result_store.RunHead.{RunHead}
-use Rattle.kt_store.specs.declared.store_fault.StoreFault.{StoreFault}
+use Rattle.std.specs.Prelude.{ℕ, Bool, true, false, zero, suc, List, [], ◌∷◌, ◌++◌, ◌-◌, ◌≡◌, Option, Some, None, Ok, Err, codes, length, map, slice_get, flat_map}
+use Rattle.kt_cli.specs.Types.{Date, Entry, Heads, IsDateOf, Kind, Outline, Outputs, Pairs, Run, RunHead, StoreCall, StoreFault, by_section, case_bytes, decimal, ending, heading, last_kind, opening, summary, titled_lines, utf8}
+use Rattle.kt_report.specs.Junits.{junit_bytes}
+use Rattle.kt_report.specs.Texts.{text_bytes}
+use Rattle.kt_store.specs.Heads.{outputs_of, without_outputs, without_pairs}
 use Rattle.kt_cli.specs.FaultLines.{memory_line, refusal_line}
 
 -- the one of a number, counted from 1, or else the last one
@@ -39,44 +30,83 @@ missing_line (Some number) (head ∷ heads) = no_run_line number
 abbrev pub run_of : RunHead → List Entry → Run
 run_of head entries = record { number = head.number; started = head.started; total = head.total; finished = head.finished; entries = entries }
 
--- the first entries of an outline with these outputs, one for each
-abbrev pub filled : List Entry → List CaseOutputs → List Entry
-filled outline [] = []
-filled [] (o ∷ outputs) = []
-filled (e ∷ outline) (o ∷ outputs) = with_outputs e o.body o.cleanup ∷ filled outline outputs
+-- the same entries but for their pairs
+abbrev pub DifferInPairs : List Entry → List Entry → Type 0
+DifferInPairs xs ys = map without_pairs xs ≡ map without_pairs ys
 
--- the store was asked for the outputs of these entries of a run, one after the other, and told these
-abbrev pub asked_outputs : ℕ → List Entry → List CaseOutputs → List StoreCall
-asked_outputs number outline [] = []
-asked_outputs number [] (o ∷ outputs) = []
-asked_outputs number (e ∷ outline) (o ∷ outputs) = Outputs number e.position (Ok o) ∷ asked_outputs number outline outputs
+-- the calls that asked for the pairs of these entries of a run, one after the other, and returned those that the entries have
+abbrev pub asked_pairs : ℕ → List Entry → List StoreCall
+asked_pairs number entries = map (λ (e : Entry). Pairs number e.position (Ok e.meta)) entries
+
+-- the same entries but for their outputs
+abbrev pub DifferInOutputs : List Entry → List Entry → Type 0
+DifferInOutputs xs ys = map without_outputs xs ≡ map without_outputs ys
+
+-- the calls that asked for the outputs of these entries of a run, one after the other, and returned those that the entries have
+abbrev pub asked_outputs : ℕ → List Entry → List StoreCall
+asked_outputs number entries = map (λ (e : Entry). Outputs number e.position (Ok (outputs_of e))) entries
+
+-- the end of a JUnit report, if no entry is left
+abbrev pub ending_of : List Entry → List ℕ
+ending_of [] = ending
+ending_of (e ∷ rest) = []
+
+-- what is written next if these entries are left: the title of the first, unless the entry before has it, or the end
+abbrev pub next_bytes : Option Kind → List Entry → List ℕ → List ℕ
+next_bytes before [] end = end
+next_bytes before (e ∷ rest) end = opening before e.verdict.kind
 
 -- `report`: the text of the run whose head is the chosen one, on the date of its start; no outputs are asked for, and pairs only if they are
--- shown
-pub data Reported (number : Option ℕ) (kinds : List Kind) (verbose : Bool) : List StoreCall → List ℕ → ℕ → Type 0 where
+-- shown, those of an entry before its line is written
+pub data Reported (number : Option ℕ) (kinds : List Kind) : Bool → List StoreCall → List ℕ → ℕ → Type 0 where
   told : (heads : List RunHead) (head : RunHead) (outline : List Entry) (date : Date) → chosen number heads ≡ Some head → IsDateOf head.started date
-      → Reported number kinds verbose (Heads (Ok heads) ∷ Outline head.number verbose (Ok outline) ∷ []) (text_bytes date kinds verbose (run_of head outline)) 0
-  no_run : (heads : List RunHead) → chosen number heads ≡ None → Reported number kinds verbose (Heads (Ok heads) ∷ []) (utf8 (missing_line number heads)) 2
+      → Reported number kinds false (Heads (Ok heads) ∷ Outline head.number (Ok outline) ∷ []) (text_bytes date kinds false (run_of head outline)) 0
+  told_pairs : (heads : List RunHead) (head : RunHead) (outline shown : List Entry) (date : Date) → chosen number heads ≡ Some head
+      → IsDateOf head.started date
+      → DifferInPairs shown (by_section kinds outline)
+      → Reported number kinds true (Heads (Ok heads) ∷ Outline head.number (Ok outline) ∷ asked_pairs head.number shown) (titled_lines true None shown ++ summary date (run_of head outline)) 0
+  no_run : (verbose : Bool) (heads : List RunHead) → chosen number heads ≡ None
+      → Reported number kinds verbose (Heads (Ok heads) ∷ []) (utf8 (missing_line number heads)) 2
 
--- `report-junit`: the JUnit report of that run, with the outputs of each entry and without pairs
+-- `report-junit`: the JUnit report of that run, with the outputs of each entry; no pairs are asked for
 pub data ReportedJunit (number : Option ℕ) : List StoreCall → List ℕ → ℕ → Type 0 where
-  told : (heads : List RunHead) (head : RunHead) (outline : List Entry) (outputs : List CaseOutputs) → chosen number heads ≡ Some head → length outputs ≡ length outline
-      → ReportedJunit number (Heads (Ok heads) ∷ Outline head.number false (Ok outline) ∷ asked_outputs head.number outline outputs) (junit_bytes (run_of head (filled outline outputs))) 0
+  told : (heads : List RunHead) (head : RunHead) (outline shown : List Entry) → chosen number heads ≡ Some head → DifferInOutputs shown outline
+      → ReportedJunit number (Heads (Ok heads) ∷ Outline head.number (Ok outline) ∷ asked_outputs head.number shown) (junit_bytes (run_of head shown)) 0
   no_run : (heads : List RunHead) → chosen number heads ≡ None → ReportedJunit number (Heads (Ok heads) ∷ []) (utf8 (missing_line number heads)) 2
 
 -- the store refused to be read, and its own answer is printed
-pub data Unread (number : Option ℕ) (pairs : Bool) : List StoreCall → List ℕ → ℕ → Type 0 where
-  no_heads : (fault : StoreFault) → Unread number pairs (Heads (Err fault) ∷ []) (utf8 (refusal_line fault)) 2
+pub data Unread (number : Option ℕ) : List StoreCall → List ℕ → ℕ → Type 0 where
+  no_heads : (fault : StoreFault) → Unread number (Heads (Err fault) ∷ []) (utf8 (refusal_line fault)) 2
   no_outline : (heads : List RunHead) (head : RunHead) (fault : StoreFault) → chosen number heads ≡ Some head
-      → Unread number pairs (Heads (Ok heads) ∷ Outline head.number pairs (Err fault) ∷ []) (utf8 (refusal_line fault)) 2
+      → Unread number (Heads (Ok heads) ∷ Outline head.number (Err fault) ∷ []) (utf8 (refusal_line fault)) 2
 
--- the JUnit report of that run ended early: behind the cases of the entries before the store refused the outputs of one, and its answer is
--- printed; or memory ran out, and a proper prefix was written of the report of the entries whose outputs were told
-pub data JunitCut (number : Option ℕ) : List StoreCall → List ℕ → ℕ → Type 0 where
-  no_outputs : (heads : List RunHead) (head : RunHead) (outline : List Entry) (outputs : List CaseOutputs) (e : Entry) (fault : StoreFault) → chosen number heads ≡ Some head
-      → slice_get outline (length outputs) ≡ Some e
-      → JunitCut number (Heads (Ok heads) ∷ Outline head.number false (Ok outline) ∷ (asked_outputs head.number outline outputs ++ Outputs head.number e.position (Err fault) ∷ []))
-      (heading (run_of head outline) ++ flat_map case_bytes (filled outline outputs) ++ utf8 (refusal_line fault)) 2
-  no_memory : (heads : List RunHead) (head : RunHead) (outline : List Entry) (outputs : List CaseOutputs) (front rest : List ℕ) (next : ℕ) → chosen number heads ≡ Some head
-      → heading (run_of head outline) ++ flat_map case_bytes (filled outline outputs) ++ ending ≡ front ++ next ∷ rest
-      → JunitCut number (Heads (Ok heads) ∷ Outline head.number false (Ok outline) ∷ asked_outputs head.number outline outputs) (front ++ utf8 memory_line) 2
+-- the text of that run, with pairs, ended early: the store refused the pairs of an entry, and its answer is printed after the entries before
+-- and the title; or the output failed, and no further pairs were asked for
+pub data TextCut (number : Option ℕ) (kinds : List Kind) (failed : Bool) : List StoreCall → List ℕ → ℕ → Type 0 where
+  no_pairs : (heads : List RunHead) (head : RunHead) (outline shown rest : List Entry) (e : Entry) (fault : StoreFault)
+      → chosen number heads ≡ Some head
+      → DifferInPairs (shown ++ e ∷ rest) (by_section kinds outline)
+      → TextCut number kinds failed (Heads (Ok heads) ∷ Outline head.number (Ok outline) ∷ (asked_pairs head.number shown ++ Pairs head.number e.position (Err fault) ∷ []))
+      (titled_lines true None shown ++ opening (last_kind None shown) e.verdict.kind ++ utf8 (refusal_line fault)) 2
+  no_output : (heads : List RunHead) (head : RunHead) (outline shown rest : List Entry) (date : Date) → failed ≡ true
+      → chosen number heads ≡ Some head → IsDateOf head.started date
+      → DifferInPairs (shown ++ rest) (by_section kinds outline)
+      → TextCut number kinds failed (Heads (Ok heads) ∷ Outline head.number (Ok outline) ∷ asked_pairs head.number shown)
+      (titled_lines true None shown ++ next_bytes (last_kind None shown) rest (summary date (run_of head outline))) 2
+
+-- the JUnit report of that run ended early: the store refused the outputs of an entry, and its answer is printed after the cases before; or
+-- memory ran out, and a proper prefix was written of the report of the entries whose outputs were returned; or the output failed
+pub data JunitCut (number : Option ℕ) (failed : Bool) : List StoreCall → List ℕ → ℕ → Type 0 where
+  no_outputs : (heads : List RunHead) (head : RunHead) (outline shown rest : List Entry) (e : Entry) (fault : StoreFault)
+      → chosen number heads ≡ Some head
+      → DifferInOutputs (shown ++ e ∷ rest) outline
+      → JunitCut number failed (Heads (Ok heads) ∷ Outline head.number (Ok outline) ∷ (asked_outputs head.number shown ++ Outputs head.number e.position (Err fault) ∷ []))
+      (heading (run_of head outline) ++ flat_map case_bytes shown ++ utf8 (refusal_line fault)) 2
+  no_memory : (heads : List RunHead) (head : RunHead) (outline shown rest : List Entry) (front back : List ℕ) (next : ℕ)
+      → chosen number heads ≡ Some head
+      → DifferInOutputs (shown ++ rest) outline → heading (run_of head outline) ++ flat_map case_bytes shown ++ ending_of rest ≡ front ++ next ∷ back
+      → JunitCut number failed (Heads (Ok heads) ∷ Outline head.number (Ok outline) ∷ asked_outputs head.number shown) (front ++ utf8 memory_line) 2
+  no_output : (heads : List RunHead) (head : RunHead) (outline shown rest : List Entry) → failed ≡ true → chosen number heads ≡ Some head
+      → DifferInOutputs (shown ++ rest) outline
+      → JunitCut number failed (Heads (Ok heads) ∷ Outline head.number (Ok outline) ∷ asked_outputs head.number shown)
+      (heading (run_of head outline) ++ flat_map case_bytes shown ++ ending_of rest) 2

@@ -1,14 +1,9 @@
 -- What a command finds and leaves, and the relations of its world.
 use Rattle.std.specs.Prelude.{ℕ, Bool, List, Option}
-use Rattle.kt_base.specs.declared.child.Role.{Role}
-use Rattle.kt_sched.specs.declared.job.Job.{Job}
+use Rattle.kt_cli.specs.Types.{Asked, Ended, Job, Role, StartAnswer, Told}
 use Rattle.kt_sched.specs.declared.launcher.Launcher as launcher
-use Rattle.kt_sched.specs.declared.job.StartAnswer.{StartAnswer}
-use Rattle.kt_sched.specs.declared.job.Ended.{Ended}
 use Rattle.kt_sched.specs.Children.{Child}
-use Rattle.kt_suite.specs.Answers.{Asked}
 use Rattle.kt_suite.specs.declared.tree.Tree as tree
-use Rattle.kt_plan.specs.Told.{Told}
 use Rattle.kt_plan.specs.declared.world.World as world
 
 -- a world, a store of runs, and what a writer holds

@@ -1,7 +1,7 @@
 -- What a list of commands does, one after the other.
 use Rattle.std.specs.Prelude.{List, [], ◌∷◌}
 use Rattle.kt_store.specs.declared.result_store.Keeping as keeping
-use Rattle.kt_words.specs.declared.command.Command.{Command}
+use Rattle.kt_cli.specs.Types.{Command}
 use Rattle.kt_cli.specs.declared.output.exit.Exit.{Exit}
 use Rattle.kt_cli.specs.Meaning.{Did}
 use Rattle.kt_cli.specs.Scenes.{Scene, World}

@@ -1,14 +1,9 @@
 -- What a command does to the runs of a sound store.
 use Rattle.std.specs.Prelude.{ℕ, suc, Bool, true, List, [], ◌∷◌, ◌++◌, ◌≡◌, ◌⊎◌, Option, Some, None, IfSome, Ok, Err, length}
 use Rattle.std.specs.List.{AllByRecursion}
-use Rattle.kt_base.specs.declared.entry.Entry.{Entry}
-use Rattle.kt_base.specs.declared.entry.Run.{Run}
-use Rattle.kt_store.specs.Ask.{IsStoreFault}
-use Rattle.kt_store.specs.StoreCalls.{StoreCall, Began, Put, Finished, Heads, Outline, Outputs}
+use Rattle.kt_cli.specs.Types.{Began, Command, Entry, Finished, Heads, IsStoreFault, Outline, Outputs, Pairs, Put, Run, StoreCall, StoreFault}
 use Rattle.kt_store.specs.declared.result_store.Keeping as keeping
-use Rattle.kt_store.specs.declared.store_fault.StoreFault.{StoreFault}
 use Rattle.kt_store.specs.declared.store_fault.StoreFault.TheVariants.{StoreFull}
-use Rattle.kt_words.specs.declared.command.Command.{Command}
 use Rattle.kt_cli.specs.Meaning.{Did}
 use Rattle.kt_cli.specs.Scenes.{Scene, World}
 use Rattle.kt_cli.specs.Stores.{by_position, changed}
@@ -29,7 +24,8 @@ refusal_of (Began total moment (Err fault)) = Some fault
 refusal_of (Put number e (Err fault)) = Some fault
 refusal_of (Finished number (Err fault)) = Some fault
 refusal_of (Heads (Err fault)) = Some fault
-refusal_of (Outline number pairs (Err fault)) = Some fault
+refusal_of (Outline number (Err fault)) = Some fault
+refusal_of (Pairs number position (Err fault)) = Some fault
 refusal_of (Outputs number position (Err fault)) = Some fault
 refusal_of done = None
 

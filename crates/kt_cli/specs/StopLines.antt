@@ -1,7 +1,7 @@
 -- How a command ends that was stopped by the first fault of its steps: its line and its exit.
 use Rattle.std.specs.Prelude.{ℕ, List}
 use Rattle.kt_plan.specs.StopWords.{stop_words}
-use Rattle.kt_plan.specs.declared.stop.Stop.{Stop}
+use Rattle.kt_cli.specs.Types.{Stop}
 use Rattle.kt_plan.specs.declared.stop.Stop.TheVariants as stop
 use Rattle.kt_cli.specs.FaultLines.{fault_line}
 

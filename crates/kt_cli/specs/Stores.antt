@@ -1,12 +1,8 @@
 -- The calls that a command makes on a store of runs, and what they do to the runs.
 use Rattle.std.specs.Prelude.{ℕ, List, [], ◌∷◌, ◌++◌, ⊤, Ok, Err}
-use Rattle.kt_base.specs.declared.entry.Entry.{Entry}
-use Rattle.kt_base.specs.declared.entry.Run.{Run}
-use Rattle.kt_store.specs.Runs.{new_run, with_entry, insert_at, finish}
-use Rattle.kt_store.specs.Serving.{Agrees, changed_by}
-use Rattle.kt_store.specs.StoreCalls.{StoreCall, Began, Put, Finished, Heads, Outline, Outputs}
+use Rattle.kt_cli.specs.Types.{Agrees, Began, Chain, Entry, Finished, Heads, Outline, Outputs, Pairs, Put, Run, StoreCall, changed_by, with_entry}
+use Rattle.kt_store.specs.Runs.{new_run, insert_at, finish}
 use Rattle.kt_store.specs.declared.result_store.Keeping as keeping
-use Rattle.kt_base.specs.Chains.{Chain}
 
 -- entries, each put at its position
 abbrev pub put_among : List Entry → List Entry → List Entry
@@ -31,7 +27,8 @@ beside_by (Put number e (Err fault)) runs may = with_entry number e runs ∷ may
 beside_by (Finished number (Ok done)) runs may = []
 beside_by (Finished number (Err fault)) runs may = finish number runs ∷ may
 beside_by (Heads answer) runs may = may
-beside_by (Outline number pairs answer) runs may = may
+beside_by (Outline number answer) runs may = may
+beside_by (Pairs number position answer) runs may = may
 beside_by (Outputs number position answer) runs may = may
 
 -- ---- calls one after the other

@@ -1,13 +1,6 @@
 -- What becomes of a plan that is run over a store: the calls on the store, the bytes and the exit.
 use Rattle.std.specs.Prelude.{ℕ, Bool, true, false, List, [], ◌∷◌, ◌++◌, ◌≡◌, ◌==◌, ◌&&◌, Result, Ok, Err, length, if◌then◌else◌}
-use Rattle.kt_base.specs.declared.entry.Entry.{Entry}
-use Rattle.kt_base.specs.Utf8.{utf8}
-use Rattle.kt_sched.specs.declared.job.Job.{Job}
-use Rattle.kt_sched.specs.Trace.{Trace, NoEvent}
-use Rattle.kt_words.specs.declared.options.CaseOptions.{CaseOptions}
-use Rattle.kt_plan.specs.declared.cases.Picked.{Picked}
-use Rattle.kt_store.specs.StoreCalls.{StoreCall, Began, Put, Finished}
-use Rattle.kt_store.specs.declared.store_fault.StoreFault.{StoreFault}
+use Rattle.kt_cli.specs.Types.{Began, CaseOptions, Entry, Finished, Job, NoEvent, Picked, Put, StoreCall, StoreFault, Trace, utf8}
 use Rattle.kt_cli.specs.FaultLines.{memory_line, refusal_line}
 use Rattle.kt_cli.specs.Recordings.{AllRecorded, IsStopped}
 use Rattle.kt_cli.specs.Stores.{puts}

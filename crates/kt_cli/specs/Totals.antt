@@ -1,9 +1,7 @@
 -- The lines of entries, and the text that ends a run.
 use Rattle.std.specs.Prelude.{ℕ, List, ◌++◌, codes, flat_map, count_by, not}
-use Rattle.std.specs.Fmt.{decimal}
+use Rattle.kt_cli.specs.Types.{Entry, decimal, line_bytes}
 use Rattle.kt_base.specs.Kinds.{good as is_good}
-use Rattle.kt_base.specs.declared.entry.Entry.{Entry}
-use Rattle.kt_report.specs.Lines.{line_bytes}
 
 -- how many entries are good
 abbrev pub good_count : List Entry → ℕ

@@ -43,22 +43,25 @@ impl<S: Alter> RunCalls for Results<S> {
     }
 }
 
-/// A store whose entries are read in parts, as reports read them: without their outputs, and then the outputs of each.
+/// A store whose entries are read in parts, as reports read them: without their pairs and their outputs, and then those of
+/// each.
 #[derive(Drop)]
 pub struct InParts<'a, R: ResultStore> {
     pub store: &'a mut R,
     pub alloc: Global,
 }
 
-/// Adds an entry of an outline with its outputs.
+/// Adds an entry of an outline with its pairs and its outputs.
 fn add_whole<R: ResultStore>(
     entries: &mut Vec<Entry>,
     store: &mut R,
     run: u64,
     entry: Entry,
 ) -> Result<(), StoreFault> {
+    let pairs = store.pairs(run, entry.position)?;
     let outputs = store.outputs(run, entry.position)?;
     let mut whole = entry;
+    whole.meta = pairs;
     whole.body = outputs.body;
     whole.cleanup = outputs.cleanup;
     match entries.push(whole) {
@@ -85,7 +88,7 @@ impl<R: ResultStore> RunCalls for InParts<'_, R> {
     }
 
     fn entries(&mut self, run: u64) -> Result<Vec<Entry>, StoreFault> {
-        let outline = self.store.outline(run, true)?;
+        let outline = self.store.outline(run)?;
         let mut entries = Vec::new(self.alloc);
         for entry in outline {
             add_whole(&mut entries, self.store, run, entry)?;

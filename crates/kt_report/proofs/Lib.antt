@@ -4,5 +4,5 @@ pub mod InTurn
 pub mod LineSteps
 pub mod Outlines
 pub mod Outputs
-pub mod PairSteps
 pub mod Runs
+pub mod TitledLines

@@ -1,6 +1,6 @@
 -- What isn't shown of entries doesn't change a report.
 use Rattle.std.proofs.Common.{codes, flat_map, fold, if◌then◌else◌, ◌≡◌, ℕ, ◌+◌, Bool, true, false, cond, List, [], ◌∷◌, ◌++◌, length, map, refl, ap, ap₂, ◌∙◌}
-use Rattle.kt_report.proofs.Common.{decimal, list_any, length-map, Date, Entry, Kind, Passed, Skipped, ExpectedFailure, Failed, Broken, seconds, heading, entry_bytes, same_kind, is_of, entries_of, title, titled, section, sections, count_bytes, counts_bytes, started_bytes, text_bytes}
+use Rattle.kt_report.proofs.Common.{decimal, list_any, length-map, Date, Entry, Kind, Skipped, ExpectedFailure, Failed, Broken, seconds, heading, entry_bytes, same_kind, is_of, entries_of, order, title_line, titled, section, count_bytes, counts_bytes, started_bytes, text_bytes}
 use Rattle.kt_base.specs.declared.entry.Run.{Run}
 use Rattle.kt_report.specs.Outlines.{ChangesUnshown, with_entries}
 
@@ -22,21 +22,20 @@ module _ (v : Bool) (change : Entry → Entry) (same : ChangesUnshown v change) 
   lines [] = refl
   lines (e ∷ es) = ap₂ (λ x y. x ++ y) (one v change same e) (lines es)
 
-  titles : (name : List ℕ) (es : List Entry) → titled v name (map change es) ≡ titled v name es
-  titles name [] = refl
-  titles name (e ∷ es) = ap (λ l. codes "===> " ++ name ++ codes "\n" ++ l) (lines (e ∷ es))
+  titles : (kind : Kind) (es : List Entry) → titled v kind (map change es) ≡ titled v kind es
+  titles kind [] = refl
+  titles kind (e ∷ es) = ap (λ l. title_line kind ++ l) (lines (e ∷ es))
 
   one_section : (kinds : List Kind) (es : List Entry) (kind : Kind) → section v kinds (map change es) kind ≡ section v kinds es kind
   one_section kinds es kind = by (list_any (same_kind kind) kinds)
     where
-      by : (b : Bool) → (if b then titled v (title kind) (entries_of kind (map change es)) else []) ≡ (if b then titled v (title kind) (entries_of kind es) else [])
-      by true = ap (titled v (title kind)) (of_kind kind es) ∙ titles (title kind) (entries_of kind es)
+      by : (b : Bool) → titled v kind (if b then entries_of kind (map change es) else []) ≡ titled v kind (if b then entries_of kind es else [])
+      by true = ap (titled v kind) (of_kind kind es) ∙ titles kind (entries_of kind es)
       by false = refl
 
-  all_sections : (kinds : List Kind) (es : List Entry) → sections v kinds (map change es) ≡ sections v kinds es
-  all_sections kinds es =
-      ap₂ (λ x y. x ++ y) (ap₂ (λ x y. x ++ y) (ap₂ (λ x y. x ++ y) (ap₂ (λ x y. x ++ y) (one_section kinds es Passed) (one_section kinds es Skipped)) (one_section kinds es ExpectedFailure))
-      (one_section kinds es Broken)) (one_section kinds es Failed)
+  each_section : (kinds ks : List Kind) (es : List Entry) → flat_map (section v kinds (map change es)) ks ≡ flat_map (section v kinds es) ks
+  each_section kinds [] es = refl
+  each_section kinds (k ∷ ks) es = ap₂ (λ x y. x ++ y) (one_section kinds es k) (each_section kinds ks es)
 
   one_count : (kind : Kind) (es : List Entry) → count_bytes kind (map change es) ≡ count_bytes kind es
   one_count kind es = ap (λ l. decimal (length l)) (of_kind kind es) ∙ ap decimal (length-map (entries_of kind es) change)
@@ -50,7 +49,7 @@ module _ (v : Bool) (change : Entry → Entry) (same : ChangesUnshown v change) 
 
   pub same_text : (date : Date) (kinds : List Kind) (run : Run) → text_bytes date kinds v (with_entries change run) ≡ text_bytes date kinds v run
   same_text date kinds run =
-      ap₂ (λ x y. x ++ y) (all_sections kinds run.entries)
+      ap₂ (λ x y. x ++ y) (each_section kinds order run.entries)
       (ap₂ (λ x y. started_bytes date run ++ x ++ codes "Total time: " ++ seconds y ++ codes "s\n") (all_counts run.entries) (times 0 run.entries))
 
   pub same_heading : (run : Run) → heading (with_entries change run) ≡ heading run

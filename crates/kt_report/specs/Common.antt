@@ -16,5 +16,5 @@ pub use Rattle.kt_report.specs.Escapes.{escaped, escapes}
 pub use Rattle.kt_report.specs.Junits.{case_bytes, element, ending, heading, junit_bytes, output_element, result_element}
 pub use Rattle.kt_report.specs.Lines.{line_bytes, shown_reason}
 pub use Rattle.kt_report.specs.Outlines.{ChangesUnshown, with_entries}
-pub use Rattle.kt_report.specs.Pairs.{entry_bytes, pair_bytes, shown_byte}
-pub use Rattle.kt_report.specs.Texts.{IsDateOf, clock_bytes, count_bytes, counts_bytes, date_bytes, entries_of, moment_bytes, same_kind, section, sections, shown_moment, started_bytes, summary, text_bytes, title, unfinished_bytes}
+pub use Rattle.kt_report.specs.Pairs.{entry_bytes, pair_bytes, shown_byte, with_meta}
+pub use Rattle.kt_report.specs.Texts.{IsDateOf, by_section, clock_bytes, count_bytes, counts_bytes, date_bytes, entries_of, moment_bytes, opening, order, same_kind, section, sections, shown_moment, started_bytes, summary, text_bytes, title, titled_lines, unfinished_bytes}

@@ -17,3 +17,7 @@ pair_bytes pair = codes "    " ++ utf8 pair.name ++ codes " = " ++ map shown_byt
 abbrev pub entry_bytes : Bool → Entry → List ℕ
 entry_bytes false e = line_bytes e
 entry_bytes true e = line_bytes e ++ flat_map pair_bytes e.meta
+
+-- an entry with these pairs
+abbrev pub with_meta : Entry → List Variable → Entry
+with_meta e pairs = record e { meta = pairs }

@@ -1,5 +1,5 @@
 -- The text report of a run.
-use Rattle.std.specs.Prelude.{ℕ, ◌/◌, ◌%◌, Bool, true, false, if◌then◌else◌, List, [], ◌∷◌, ◌++◌, codes, length, flat_map, sum_by, pos, unsigned_abs, min, ◌≡◌}
+use Rattle.std.specs.Prelude.{ℕ, ◌/◌, ◌%◌, Bool, true, false, if◌then◌else◌, List, [], ◌∷◌, ◌++◌, codes, length, flat_map, sum_by, pos, unsigned_abs, min, ◌≡◌, Option, Some, None}
 use Rattle.std.specs.List.{filter, list_any}
 use Rattle.std.specs.Fmt.{decimal}
 use Rattle.jiff_core.specs.declared.civil.date.Date.{Date}
@@ -37,20 +37,49 @@ title ExpectedFailure = codes "Expected failures"
 title Broken = codes "Broken tests"
 title Failed = codes "Failed tests"
 
--- a title over lines, if there are any
-abbrev pub titled : Bool → List ℕ → List Entry → List ℕ
-titled verbose title [] = []
-titled verbose title (e ∷ entries) = codes "===> " ++ title ++ codes "\n" ++ flat_map (entry_bytes verbose) (e ∷ entries)
+-- the kinds in the order of their sections
+abbrev pub order : List Kind
+order = Passed ∷ Skipped ∷ ExpectedFailure ∷ Broken ∷ Failed ∷ []
+
+-- the entries of a kind, if it is chosen
+abbrev pub chosen_of : List Kind → List Entry → Kind → List Entry
+chosen_of kinds entries kind = if list_any (same_kind kind) kinds then entries_of kind entries else []
+
+-- the entries of the chosen kinds, in the order of their sections
+abbrev pub by_section : List Kind → List Entry → List Entry
+by_section kinds entries = flat_map (chosen_of kinds entries) order
+
+-- the line of a kind's title
+abbrev pub title_line : Kind → List ℕ
+title_line kind = codes "===> " ++ title kind ++ codes "\n"
+
+-- the title of a kind over lines, if there are any
+abbrev pub titled : Bool → Kind → List Entry → List ℕ
+titled verbose kind [] = []
+titled verbose kind (e ∷ entries) = title_line kind ++ flat_map (entry_bytes verbose) (e ∷ entries)
 
 -- the section of a kind, if it is chosen
 abbrev pub section : Bool → List Kind → List Entry → Kind → List ℕ
-section verbose kinds entries kind = if list_any (same_kind kind) kinds then titled verbose (title kind) (entries_of kind entries) else []
+section verbose kinds entries kind = titled verbose kind (chosen_of kinds entries kind)
 
 -- the sections of the chosen kinds, in their order
 abbrev pub sections : Bool → List Kind → List Entry → List ℕ
-sections verbose kinds entries =
-    section verbose kinds entries Passed ++ section verbose kinds entries Skipped ++ section verbose kinds entries ExpectedFailure
-    ++ section verbose kinds entries Broken ++ section verbose kinds entries Failed
+sections verbose kinds entries = flat_map (section verbose kinds entries) order
+
+-- the title of a kind, unless an entry of this kind stands before it
+abbrev pub opening : Option Kind → Kind → List ℕ
+opening None kind = title_line kind
+opening (Some before) kind = if same_kind before kind then [] else title_line kind
+
+-- the kind of the last entry, or the one before where there is none
+abbrev pub last_kind : Option Kind → List Entry → Option Kind
+last_kind before [] = before
+last_kind before (e ∷ entries) = last_kind (Some e.verdict.kind) entries
+
+-- entries in turn, each with its title unless the entry before it has the same
+abbrev pub titled_lines : Bool → Option Kind → List Entry → List ℕ
+titled_lines verbose before [] = []
+titled_lines verbose before (e ∷ entries) = opening before e.verdict.kind ++ (entry_bytes verbose e ++ titled_lines verbose (Some e.verdict.kind) entries)
 
 -- a moment as it is shown: at most the latest one
 abbrev pub shown_moment : ℕ → ℕ

@@ -14,5 +14,9 @@ mod text_report;
 
 pub use entry_line::line;
 pub use junit_report::{junit, junit_case, junit_end, junit_heading};
+pub use moments::date_of;
+pub use pairs::text_entry;
 pub use report_fault::ReportFault;
+pub use sections::{is_chosen, same_kind, text_order, text_title};
+pub use summary::text_summary;
 pub use text_report::{law_of_outlines, text};

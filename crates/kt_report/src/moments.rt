@@ -59,7 +59,7 @@ fn date_after(days: u64) -> Date
     date(1970, 1, 1).checked_add((days as i64).days()).unwrap()
 }
 
-/// The civil date of a moment, in UTC.
+/// The civil date of a moment, in milliseconds since 1970 in UTC. Moments past the year 9999 are on its last day.
 pub fn date_of(moment: u64) -> Date
     ensures { IsDateOf moment result }
 {

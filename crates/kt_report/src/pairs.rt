@@ -1,8 +1,8 @@
-ghost use Rattle.std.specs.Prelude.{◌≡◌, flat_map, map, is_err};
-ghost use Rattle.kt_report.specs.Common.{Shows, shown_byte, pair_bytes, entry_bytes};
+ghost use Rattle.std.specs.Prelude.{◌≡◌, flat_map, map, is_err, true};
+ghost use Rattle.kt_report.specs.Common.{Shows, shown_byte, pair_bytes, entry_bytes, with_meta};
 
 use crate::line;
-use kt_base::{Entry, OutputFault, Variable, emit, emit_all};
+use kt_base::{Entry, OutputFault, Variable, Variables, emit, emit_all};
 use std::io::Write;
 
 /// A byte of a value as it is printed: a control character is a question mark.
@@ -44,14 +44,27 @@ fn write_pairs<W: Write>(pairs: &[Variable], out: &mut W) -> Result<(), OutputFa
     Ok(())
 }
 
+/// Writes the line of an entry and, below it, these pairs in place of its own, as the text report
+/// has them if it shows what cases declared.
+pub fn text_entry<W: Write>(
+    entry: &Entry,
+    pairs: &Variables,
+    out: &mut W,
+) -> Result<(), OutputFault>
+    ensures { Shows (W.contents out.old) (W.contents out.new) (is_err result)
+        (entry_bytes true (with_meta entry.now pairs.now)) }
+{
+    line(entry, out)?;
+    write_pairs(pairs.as_slice(), out)
+}
+
 /// Writes the line of an entry and, if `verbose` is set, what the case declared.
 pub fn write_entry<W: Write>(verbose: bool, entry: &Entry, out: &mut W) -> Result<(), OutputFault>
     ensures { Shows (W.contents out.old) (W.contents out.new) (is_err result)
         (entry_bytes verbose entry.now) }
 {
-    line(entry, out)?;
     if verbose {
-        return write_pairs(entry.meta.as_slice(), out);
+        return text_entry(entry, &entry.meta, out);
     }
-    Ok(())
+    line(entry, out)
 }

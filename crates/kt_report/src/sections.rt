@@ -1,18 +1,34 @@
 ghost use Rattle.std.specs.Prelude.{◌≡◌, length, flat_map, is_err};
-ghost use Rattle.kt_report.specs.Common.{list_any, Shows, entry_bytes, same_kind, entries_of, title, section, sections};
+ghost use Rattle.kt_report.specs.Common.{list_any, Shows, entry_bytes, same_kind, entries_of, title, opening, order, section, sections};
 
 use crate::pairs::write_entry;
 use kt_base::{Entry, Kind, OutputFault, emit_all};
 use std::io::Write;
 
-fn same_kind(kind: Kind, other: Kind) -> bool
+const ORDER: [Kind; 5] = [
+    Kind::Passed,
+    Kind::Skipped,
+    Kind::ExpectedFailure,
+    Kind::Broken,
+    Kind::Failed,
+];
+
+/// The kinds in the order in which the text report has their sections.
+pub fn text_order() -> &'static [Kind]
+    ensures { result.now ≡ order }
+{
+    &ORDER
+}
+
+/// Whether the kinds are the same.
+pub fn same_kind(kind: Kind, other: Kind) -> bool
     ensures { result ≡ same_kind kind other }
 {
     kind == other
 }
 
 /// Whether the kind is among the chosen ones.
-fn is_chosen(kinds: &[Kind], kind: Kind) -> bool
+pub fn is_chosen(kinds: &[Kind], kind: Kind) -> bool
     ensures { result ≡ list_any (same_kind kind) kinds.now }
 {
     kinds.iter().any(|first| same_kind(kind, *first))
@@ -40,6 +56,22 @@ fn title(kind: Kind) -> &'static [u8]
         Kind::ExpectedFailure => b"Expected failures",
         Kind::Broken => b"Broken tests",
         Kind::Failed => b"Failed tests",
+    }
+}
+
+/// Writes the title of a kind's section in the text report, unless the entry before it, of kind
+/// `before`, stands in that section.
+pub fn text_title<W: Write>(
+    before: Option<Kind>,
+    kind: Kind,
+    out: &mut W,
+) -> Result<(), OutputFault>
+    ensures { Shows (W.contents out.old) (W.contents out.new) (is_err result)
+        (opening before kind) }
+{
+    match before {
+        Some(before) if same_kind(before, kind) => Ok(()),
+        _ => emit_all(&[b"===> ", title(kind), b"\n"], out),
     }
 }
 
@@ -78,7 +110,7 @@ fn write_section<W: Write>(
     if count(kind, entries) == 0 {
         return Ok(());
     }
-    emit_all(&[b"===> ", title(kind), b"\n"], out)?;
+    text_title(None, kind, out)?;
     write_lines(verbose, kind, entries, out)
 }
 
@@ -92,9 +124,8 @@ pub fn write_sections<W: Write>(
     ensures { Shows (W.contents out.old) (W.contents out.new) (is_err result)
         (sections verbose kinds.now entries.now) }
 {
-    write_section(verbose, kinds, entries, Kind::Passed, out)?;
-    write_section(verbose, kinds, entries, Kind::Skipped, out)?;
-    write_section(verbose, kinds, entries, Kind::ExpectedFailure, out)?;
-    write_section(verbose, kinds, entries, Kind::Broken, out)?;
-    write_section(verbose, kinds, entries, Kind::Failed, out)
+    for kind in text_order() {
+        write_section(verbose, kinds, entries, *kind, out)?;
+    }
+    Ok(())
 }

@@ -76,8 +76,9 @@ fn write_counts<W: Write>(entries: &[Entry], out: &mut W) -> Result<(), OutputFa
     )
 }
 
-/// Writes the summary of a run that was started on this date.
-pub fn write_summary<W: Write>(date: Date, run: &Run, out: &mut W) -> Result<(), OutputFault>
+/// Writes the summary at the end of the text report of a run that was started on this date. The
+/// outputs and the pairs of its entries don't matter.
+pub fn text_summary<W: Write>(date: Date, run: &Run, out: &mut W) -> Result<(), OutputFault>
     ensures { Shows (W.contents out.old) (W.contents out.new) (is_err result)
         (summary date run.now) }
 {

@@ -1,9 +1,9 @@
-ghost use Rattle.std.specs.Prelude.{is_err, ◌≡◌, Bool, false, List};
-ghost use Rattle.kt_report.specs.Common.{Date, Shows, IsDateOf, text_bytes, Entry, Output, Kind, Run, heading, case_bytes, with_outputs, ChangesUnshown, with_entries};
+ghost use Rattle.std.specs.Prelude.{is_err, ◌≡◌, Bool, false, List, None};
+ghost use Rattle.kt_report.specs.Common.{Date, Shows, IsDateOf, text_bytes, sections, by_section, titled_lines, Entry, Output, Kind, Run, heading, case_bytes, with_outputs, ChangesUnshown, with_entries};
 
 use crate::moments::date_of;
 use crate::sections::write_sections;
-use crate::summary::write_summary;
+use crate::summary::text_summary;
 use kt_base::{Kind, OutputFault, Run};
 use std::io::Write;
 
@@ -23,17 +23,20 @@ pub fn text<W: Write>(
 {
     let date = date_of(run.started);
     write_sections(verbose, kinds, run.entries.as_slice(), out)?;
-    write_summary(date, run, out)
+    text_summary(date, run, out)
 }
 
 /// The law of outlines: the text report and the heading of the JUnit report of a run are the same
 /// whatever the outputs of its entries are. So are the JUnit report and the text report without what
-/// cases declared, whatever that is.
+/// cases declared, whatever that is. The sections of the text report are the entries of the chosen
+/// kinds in turn, each with its title unless the entry before it has the same.
 pub fn law_of_outlines()
     ensures text { (change : Entry → Entry) (date : Date) (kinds : List Kind) (verbose : Bool)
         (run : Run) → ChangesUnshown verbose change
         → text_bytes date kinds verbose (with_entries change run)
         ≡ text_bytes date kinds verbose run }
+    ensures sections { (kinds : List Kind) (verbose : Bool) (entries : List Entry)
+        → titled_lines verbose None (by_section kinds entries) ≡ sections verbose kinds entries }
     ensures heading { (change : Entry → Entry) (run : Run) → ChangesUnshown false change
         → heading (with_entries change run) ≡ heading run }
     ensures case { (change : Entry → Entry) (e : Entry) (body cleanup : Output)

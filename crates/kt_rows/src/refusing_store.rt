@@ -1,5 +1,5 @@
 use kt_answers::Row;
-use kt_base::Entry;
+use kt_base::{Entry, Variables};
 use kt_cli::MemRuns;
 use kt_play::Refusals;
 use kt_store::{CaseOutputs, Keeping, ResultStore, RunHead, StoreFault};
@@ -61,9 +61,14 @@ impl ResultStore for RefusingStore {
         self.runs.runs()
     }
 
-    fn outline(&mut self, run: u64, pairs: bool) -> Result<Vec<Entry>, StoreFault> {
+    fn outline(&mut self, run: u64) -> Result<Vec<Entry>, StoreFault> {
         self.refusals.ask()?;
-        self.runs.outline(run, pairs)
+        self.runs.outline(run)
+    }
+
+    fn pairs(&mut self, run: u64, position: u32) -> Result<Variables, StoreFault> {
+        self.refusals.ask()?;
+        self.runs.pairs(run, position)
     }
 
     fn outputs(&mut self, run: u64, position: u32) -> Result<CaseOutputs, StoreFault> {

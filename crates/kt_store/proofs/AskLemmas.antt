@@ -1,5 +1,5 @@
 -- What a query leaves of a connection that stands for runs, and what prepared statements tell of its tables.
-use Rattle.kt_store.proofs.Common.{Asked, AsksNumber, Bool, CommitsNothing, Compiled, Database, Err, Ghosts, HasCleanDisk, HasTables, Held, IsStore, IsTrue, IsUnchanged, IsUnderstood, List, Looked, MayShow, Ok, Outlines, Rests, Result, Row, Run, SaysSchema, Shown, ShowsRows, StandsFor, State, Survives, Trees, ap, arith, false, never_commits, pos, refl, schema_2, state, subst, survives_then, survives_weaker, sym, true, unchanged_then, understood, ℕ, ℤ, ◌∙◌, ◌≡◌}
+use Rattle.kt_store.proofs.Common.{Asked, AsksNumber, CommitsNothing, Compiled, Database, Err, Ghosts, HasCleanDisk, HasTables, Held, IsStore, IsTrue, IsUnchanged, IsUnderstood, List, Looked, MayShow, Ok, Outlines, Rests, Result, Row, Run, SaysSchema, Shown, ShowsRows, StandsFor, State, Survives, Trees, ap, arith, never_commits, refl, schema_2, state, subst, survives_then, survives_weaker, sym, unchanged_then, understood, ℕ, ℤ, ◌∙◌, ◌≡◌}
 use Rattle.sqlite.specs.Given.{IsPlain}
 use Rattle.sqlite.specs.Clock.{timed}
 use Rattle.kt_store.proofs.StepLemmas.{same_store}
@@ -84,8 +84,3 @@ asks_then g a b c first survives rests = record {
   rests = rests;
   crash = λ n says. nothing_then (state g a) (state g b) (state g c) (first.crash n says) survives;
 }
-
--- a number that is 2 is not told as 1
-pub never_old_number : (old : Bool) (n : ℤ) → n ≡ pos 2 → (old ≡ true → n ≡ pos 1) → old ≡ false
-never_old_number true n two one = let e : pos 2 ≡ pos 1 = sym two ∙ one refl in cc
-never_old_number false n two one = refl

@@ -1,5 +1,6 @@
 -- A run is finished.
 use Rattle.kt_store.proofs.Common.{AllByRecursion, Applies, AreRuns, Database, Does, Enforced, Entry, Ghosts, Given, HasCleanDisk, Held, Incomplete, Int, IsAscending, IsComplete, IsDatabase, IsPermutation, IsRun, IsStore, IsTrue, Keeps, List, MayTell, Mode, None, Ok, Option, Run, RunClosed, Some, StandsFor, Tables, Tally, Told, Trees, Update, [], all_from, all_weaker, ap, arith, done_row, drop, edit_of, entries_of, entry_row, entry_rows, false, finish, finish_refusal, finish_refusal_of, finish_text, flat_map, ids_of, length, map, nat_lt, nat_tests, pair_rows, pos, prop_rows, refl, run_at, runs_1, schema_2, state, subst, suc, sym, true, zero, ℕ, ◌++◌, ◌+◌, ◌<◌, ◌∙◌, ◌∷◌, ◌≡◌, ◌≤◌}
+use Rattle.std.specs.List.{slice_index_or}
 use Rattle.kt_store.proofs.RunsByNumber.{finish_each, finish_unseen, run_of}
 use Rattle.kt_store.proofs.SqlFacts.{finish_is}
 use Rattle.kt_store.proofs.FinishLemmas.{finish_program, finish_writes, finished_rows}
@@ -61,6 +62,21 @@ no_more : (from top : ℕ) (es : List Entry) → from ≤ top → AllByRecursion
     → AllByRecursion (λ (e : Entry). e.position < top) es → from + length es ≤ top
 no_more from top [] low above up below = omega (arith, low)
 no_more from top (e ∷ es) low above up below = omega (arith, above.0, no_more (suc e.position) top es (omega (arith, below.0)) (all_weaker (λ (x : Entry). e.position < x.position) (λ (x : Entry). suc e.position ≤ x.position) (λ x h. omega (arith, h)) es up.0) up.1 below.1)
+
+-- so many below a bound as there may be are at their places
+at_place : (from i : ℕ) (es : List Entry) (e : Entry) → AllByRecursion (λ (d : Entry). from ≤ d.position) es → IsAscending (λ (a b : Entry). a.position < b.position) es
+    → AllByRecursion (λ (d : Entry). d.position < from + length es) es → i < length es → e ≡ slice_index_or es i e → e.position ≡ from + i
+at_place from i [] e above up below low is = absurd (omega (arith, low))
+at_place from zero (d ∷ es) e above up below low is =
+    let few = no_more (suc d.position) (from + suc (length es)) es (omega (arith, below.0)) (all_weaker (λ (x : Entry). d.position < x.position) (λ (x : Entry). suc d.position ≤ x.position) (λ x h. omega (arith, h)) es up.0) up.1 below.1 in
+    ap (λ (x : Entry). x.position) is ∙ omega (arith, above.0, few)
+at_place from (suc i) (d ∷ es) e above up below low is =
+    at_place (suc from) i es e (all_weaker (λ (x : Entry). d.position < x.position) (λ (x : Entry). suc from ≤ x.position) (λ x h. omega (arith, h, above.0)) es up.0) up.1
+    (all_weaker (λ (x : Entry). x.position < from + suc (length es)) (λ (x : Entry). x.position < suc from + length es) (λ x h. omega (arith, h)) es below.1) (omega (arith, low)) is ∙ omega arith
+
+pub at_places : (es : List Entry) (i : ℕ) (e : Entry) → IsAscending (λ (a b : Entry). a.position < b.position) es → AllByRecursion (λ (d : Entry). d.position < length es) es → i < length es
+    → e ≡ slice_index_or es i e → e.position ≡ i
+at_places es i e up below low is = at_place 0 i es e (all_from (λ (d : Entry). 0 ≤ d.position) es (λ d _. omega arith)) up (subst (λ n. AllByRecursion (λ (d : Entry). d.position < n) es) (omega arith) below) low is ∙ omega arith
 
 pub at_most : (r : Run) → IsRun r → length r.entries ≤ r.total
 at_most r is = omega (arith, no_more 0 r.total r.entries (omega arith) (all_from (λ (e : Entry). 0 ≤ e.position) r.entries (λ e _. omega arith)) is.ordered is.below)

@@ -116,12 +116,12 @@ pub use Rattle.kt_store.specs.Ask.{IsNoMemory, IsStoreFault, Rests}
 pub use Rattle.kt_store.specs.Attaching.{Blank, Current, IsOf, Numbered, Older, Refuses, Takes, Was}
 pub use Rattle.kt_store.specs.Closing.{HasAlone}
 pub use Rattle.kt_store.specs.Files.{Ends, EndsIn}
-pub use Rattle.kt_store.specs.Heads.{entry_at, head_of, outlined, outputs_of, with_pairs, without_outputs}
+pub use Rattle.kt_store.specs.Heads.{entry_at, head_of, outlined, outputs_of, pairs_of, without_outputs, without_pairs}
 pub use Rattle.kt_store.specs.Inner.Ask.{AreWide, Asked, HasColumns, MayShow, MayTell, ShowsOf, Told}
 pub use Rattle.kt_store.specs.Inner.Calls.{IsOurs, Statement, entry_statements, make_statements, pair_statement, pair_statements, pair_text, plain_statements, raise_statements}
 pub use Rattle.kt_store.specs.Inner.Cursors.{CountsUnder, HoldsCommit, IsAt, Looks, LooksThrough, Places, Shows, ShowsUnder, begins, in_columns}
 pub use Rattle.kt_store.specs.Inner.Edits.{Ended, Fills, IsSettledStore, Obeys, PutsRows, Wrote, begun_row, done_row, unnumbered}
-pub use Rattle.kt_store.specs.Inner.Heads.{as_shown, entry_columns, head_columns, output_columns, pair_columns, pair_count, pairs_shown, shown_columns, width_of}
+pub use Rattle.kt_store.specs.Inner.Heads.{entry_columns, head_columns, output_columns, pair_columns, whole_columns}
 pub use Rattle.kt_store.specs.Inner.Kept.{AsksNumber, Changes, CommitsNothing, KeepsRuns, Looked, MayChange, OnlyReads}
 pub use Rattle.kt_store.specs.Inner.Known.{HasRuns, by_trees, readings, runs_file}
 pub use Rattle.kt_store.specs.Inner.NewFiles.{HoldsEmpty, IsNewName}
@@ -133,7 +133,7 @@ pub use Rattle.kt_store.specs.Runs.{AreNumbered, AreOrdered, AreRuns, HaveNoPair
 pub use Rattle.kt_store.specs.Seeks.{HasCommitted, HoldsRuns, OpensRuns}
 pub use Rattle.kt_store.specs.Serving.{Agrees, Outlasts, Reads, Serves, changed_by, results}
 pub use Rattle.kt_store.specs.Stands.{HasTables, Holds, IsEmpty, IsSettled, IsStore, IsUnderstood, Leaves, SaysNumber, SaysSchema, StandsFor, StandsInOld}
-pub use Rattle.kt_store.specs.StoreCalls.{Began, Finished, Heads, Outline, Outputs, Put, StoreCall, seen_as}
+pub use Rattle.kt_store.specs.StoreCalls.{Began, Finished, Heads, Outline, Outputs, Pairs, Put, StoreCall, seen_as}
 pub use Rattle.kt_store.specs.Supposed.{IsOfRuns, ListsTables, objects_2}
 pub use Rattle.kt_store.specs.Tables.{begin_text, beside_meta, create_entries, create_meta, create_props, create_runs, entries, entries_1, entries_text, finish_text, index_of, mark_text, meta, meta_1, meta_text, no_schema, pairs_text, props, props_1, put_text, raise_text, run_text, runs, runs_1, runs_text, schema_1, schema_2, there_text}
 pub use Rattle.kt_store.specs.declared.result_store.CaseOutputs.{CaseOutputs}

@@ -1,5 +1,5 @@
 -- The rows of a run, as an index has their places.
-use Rattle.kt_store.proofs.Common.{AllByRecursion, Bool, Entry, Equal, Greater, Int, IsAscending, IsAt, IsIndex, IsIndexOf, IsPermutation, IsPermutation-filter, IsPermutation-map, IsPermutation-sym, IsPermutation-trans, IsShaped, IsTable, IsTrue, Keeps, Less, List, Null, Ordering, Places, Row, Run, Schema, Trees, Value, Variable, [], all-filter, all-permutation, all_weaker, ap, ap₂, ascending-filter, ascending-map, ascending_from_map, ascending_weaker, begins, drop, entries_of, entry_cmp, entry_of, entry_row, entry_rows, false, filter, filter-map, filter_all, filter_none, filter_passes, first_key, flat_map, has_rowid, id_in, int_is, is_eq, is_gt, is_int, is_lt, map, map-id, not, ordering_then, pair_row, pair_rows, plain, pos, prefix_cmp, prop_rows, pull_back, recursion_from_All, refl, rowid, run_at, sorted_unique, subst, sym, then-Equal, true, value_cmp, value_cmp_total, ℕ, ◌&&◌, ◌++◌, ◌<◌, ◌==◌, ◌∙◌, ◌∷◌, ◌≡◌}
+use Rattle.kt_store.proofs.Common.{AllByRecursion, Bool, Entry, Equal, Greater, Int, IsAscending, IsAt, IsIndex, IsIndexOf, IsPermutation, IsPermutation-filter, IsPermutation-map, IsPermutation-sym, IsPermutation-trans, IsShaped, IsTable, IsTrue, Keeps, Less, List, Null, Ordering, Places, Row, Run, Schema, Trees, Value, Variable, [], all-filter, all-permutation, all_weaker, ap, ap₂, ascending-filter, ascending-map, ascending_from_map, ascending_weaker, begins, drop, entries_of, entry_at, entry_cmp, entry_of, entry_row, entry_rows, false, filter, filter-map, filter_all, filter_none, filter_passes, first_key, has_rowid, id_in, int_is, is_eq, is_gt, is_int, is_lt, map, map-id, not, ordering_then, pair_row, pair_rows_from, pairs_of, plain, pos, prefix_cmp, prop_rows, pull_back, recursion_from_All, refl, rowid, run_at, sorted_unique, subst, sym, then-Equal, true, value_cmp, value_cmp_total, ℕ, ◌&&◌, ◌++◌, ◌<◌, ◌==◌, ◌∙◌, ◌∷◌, ◌≡◌}
 use Rattle.std.proofs.lemmas.Cmp.{tied_itself}
 use Rattle.sqlite_trees.specs.declared.store.Shape.TheVariants.{Table}
 use Rattle.sqlite_trees.proofs.TreeLemmas.{IsSortedTree, prefix_cmp_follows, from_key-filter, sorted_index, later_rowids}
@@ -7,7 +7,7 @@ use Rattle.sqlite_value.proofs.KeyLemmas.{entry_cmp_total}
 use Rattle.sqlite_exec.proofs.PartitionLemmas.{sorted_from_ascending}
 use Rattle.kt_store.proofs.EntryLemmas.{back, of_stored, of_run, all_pass, and_true}
 use Rattle.kt_store.proofs.EntriesLemmas.{up_of}
-use Rattle.kt_store.proofs.PairsLemmas.{of_pairs, pairs_rise}
+use Rattle.kt_store.proofs.PairsLemmas.{of_entry, pairs_rise}
 use Rattle.kt_store.proofs.Values.{below, equal, same_test}
 
 -- ---- each row of a table is the one of its rowid
@@ -154,9 +154,9 @@ same_run : (columns : List ℕ) (n : ℕ) (r : Row) → begins (run_key n) (entr
 same_run columns n [] = refl
 same_run columns n (x ∷ r) = refl
 
-same_entry : (n p : ℕ) (r : Row) → begins (entry_key n p) (entry_of cs r) ≡ begins (entry_key n p) (entry_of cs (back (drop 1 r)))
-same_entry n p [] = refl
-same_entry n p (x ∷ r) = refl
+same_entry : (columns : List ℕ) (n p : ℕ) (r : Row) → begins (entry_key n p) (entry_of (1 ∷ 2 ∷ columns) r) ≡ begins (entry_key n p) (entry_of (1 ∷ 2 ∷ columns) (back (drop 1 r)))
+same_entry columns n p [] = refl
+same_entry columns n p (x ∷ r) = refl
 
 in_run : (columns : List ℕ) (n m : ℕ) (r : Row) → begins (run_key n) (entry_of (1 ∷ columns) (back (Int (pos m) ∷ r))) ≡ (m == n)
 unfolding first_key
@@ -185,31 +185,31 @@ module _ (runs : List Run) (trees : Trees) (k : Keeps runs trees) (shaped : IsSh
 
   pub place_of_entry : (p : ℕ) → Places cs (entry_key n p) (map (entry_row n) (filter (λ (e : Entry). e.position == p) es)) (trees 3) (trees 4)
   place_of_entry p =
-      places cs (entry_key n p) (entry_rows runs) (map (entry_row n) (filter (λ (e : Entry). e.position == p) es)) (trees 3) (trees 4) are (same_entry n p)
+      places cs (entry_key n p) (entry_rows runs) (map (entry_row n) (filter (λ (e : Entry). e.position == p) es)) (trees 3) (trees 4) are (same_entry [] n p)
       (of_run (λ r. begins (entry_key n p) (entry_of cs (back r))) (λ e. e.position == p) n runs (at_place n p) k.3.valid.numbered)
       (rise n (filter (λ (e : Entry). e.position == p) es) (ascending-filter (λ (a b : Entry). a.position < b.position) (λ e. e.position == p) es (up_of runs n k.3.valid))) shaped indexed up
 
--- ---- the pairs of a run
+-- ---- the pairs of an entry
 
 abbrev pub cs3 : List ℕ
 cs3 = 1 ∷ 2 ∷ 3 ∷ []
 
-module _ (n : ℕ) where
-  by_position : (p q k j : ℕ) (v w : Variable) → p < q → Below cs3 (pair_row n p k v) (pair_row n q j w)
-  unfolding first_key
-  by_position p q k j v w h a b = rw (equal n, below p q h) refl
+pair_at_place : (n p m q k : ℕ) (v : Variable) → begins (entry_key n p) (entry_of cs3 (back (pair_row m q k v))) ≡ (m == n) && (q == p)
+unfolding first_key
+pair_at_place n p m q k v = then_both (value_cmp (Int (pos m)) (Int (pos n))) (value_cmp (Int (pos q)) (Int (pos p))) ∙ ap₂ (λ a b. a && b) (same_test m n) (same_test q p)
 
-  by_place : (p k j : ℕ) (v w : Variable) → k < j → Below cs3 (pair_row n p k v) (pair_row n p j w)
-  unfolding first_key
-  by_place p k j v w h a b = rw (equal n, equal p, below k j h) refl
+by_place : (n p k j : ℕ) (v w : Variable) → k < j → Below cs3 (pair_row n p k v) (pair_row n p j w)
+unfolding first_key
+by_place n p k j v w h a b = rw (equal n, equal p, below k j h) refl
 
-pub places_of_pairs : (runs : List Run) (trees : Trees) → Keeps runs trees → IsShaped Table (trees 5) → IsIndex plain (trees 6) → (n : ℕ)
-    → Places cs3 (run_key n) (flat_map (pair_rows n) (entries_of (run_at runs n))) (trees 5) (trees 6)
-places_of_pairs runs trees k shaped up n =
-    let es = entries_of (run_at runs n) in
+pub places_of_pairs : (runs : List Run) (trees : Trees) → Keeps runs trees → IsShaped Table (trees 5) → IsIndex plain (trees 6) → (n p : ℕ)
+    → Places cs3 (entry_key n p) (pair_rows_from n p 0 (pairs_of (entry_at (run_at runs n) p))) (trees 5) (trees 6)
+places_of_pairs runs trees k shaped up n p =
+    let vs = pairs_of (entry_at (run_at runs n) p) in
+    let mine = pair_rows_from n p 0 vs in
     let are : IsPermutation (prop_rows runs) (map (drop 1) (trees 5)) = subst (λ (t : Trees). IsPermutation (prop_rows runs) (map (drop 1) (t 5))) (sym k.2) k.3.props_are in
     let indexed : IsPermutation (map (entry_of cs3) (trees 5)) (trees 6) =
     subst (λ (t : Trees). IsPermutation (map (entry_of cs3) (t 5)) (t 6)) (sym k.2)
     (subst (λ (s : Schema). AllByRecursion (λ i. IsIndexOf i.columns (k.0.trees i.table) (k.0.trees i.tree)) s.indexes) k.3.schema k.1.obeys.indexed).1.1.0 in
-    places cs3 (run_key n) (prop_rows runs) (flat_map (pair_rows n) es) (trees 5) (trees 6) are (same_run (2 ∷ 3 ∷ []) n)
-    (of_pairs (λ r. begins (run_key n) (entry_of cs3 (back r))) n runs (λ m p k v. in_run (2 ∷ 3 ∷ []) n m (drop 1 (pair_row m p k v))) k.3.valid.numbered) (risen cs3 refl (flat_map (pair_rows n) es) (pairs_rise n (Below cs3) (by_position n) (by_place n) es (up_of runs n k.3.valid))) shaped indexed up
+    places cs3 (entry_key n p) (prop_rows runs) mine (trees 5) (trees 6) are (same_entry (3 ∷ []) n p) (of_entry (λ r. begins (entry_key n p) (entry_of cs3 (back r))) n p runs k.3.valid (pair_at_place n p))
+    (risen cs3 refl mine (pairs_rise n p (Below cs3) (by_place n p) 0 vs)) shaped indexed up

@@ -1,18 +1,10 @@
 -- What a refusal is reported as.
 use Rattle.kt_store.proofs.Common.{Err, IfErr, IfOk, IsErrAnd, IsNoMemory, IsStoreFault, NoMemory, Ok, OnErr, OnOk, Result, StoreFault, subst, sym, ◌≡◌}
-use Rattle.kt_store.specs.Inner.Fault.{IsFailure, IsShort}
-use Rattle.kt_store.specs.declared.store_fault.Trouble.{Trouble}
-use Rattle.kt_store.specs.declared.store_fault.Trouble.TheVariants.{NoMemory as Short, Failed}
 
 -- what is known of a fault is known of the answer that hands it on
 pub if_same : {T : Type 0} (Q : StoreFault → Type 0) (r : Result T StoreFault) (e : StoreFault) → IsErrAnd r (λ x. x ≡ e) → Q e → IfErr r Q
 if_same Q (Ok x) e h q = absurd h
 if_same Q (Err fault) e h q = subst Q (sym h) q
-
--- what is known anyway is known of a refusal
-pub on_err : {T E P : Type 0} (r : Result T E) → P → OnErr r P
-on_err (Ok x) p = tt
-on_err (Err e) p = p
 
 -- what a result says, by what two facts say of it
 pub if_both : {T E : Type 0} (P Q R : T → Type 0) (r : Result T E) → ((x : T) → P x → Q x → R x) → IfOk r P → IfOk r Q → IfOk r R
@@ -50,8 +42,3 @@ starved _ h = absurd h
 pub if_trouble : {T : Type 0} (Q : StoreFault → Type 0) (r : Result T StoreFault) → IsErrAnd r IsStoreFault → ((e : StoreFault) → IsStoreFault e → Q e) → IfErr r Q
 if_trouble Q (Ok x) h each = absurd h
 if_trouble Q (Err fault) h each = each fault h
-
--- memory that ran out is no failed statement
-pub never_both : (trouble : Trouble) → IsShort trouble → IsFailure trouble → ⊥
-never_both (Short shortage) short failed = failed
-never_both (Failed statement) short failed = short

@@ -1,5 +1,5 @@
 -- What the queries for one run and for all runs answer.
-use Rattle.kt_store.proofs.Common.{AreNumbered, Binary, Bool, Compare, Eq, Ghosts, Held, Int, IsAscending, IsPermutation, IsStore, Less, List, None, Option, Row, Run, Shown, ShowsOf, Some, State, Term, Trees, [], ap, ap₂, arith, ascending, binary, cases_lt, col, column, eval, false, filter, filter-map, filter_same, flag, flat_map_single, get_or, head_columns, holds, inl, inr, is_eq, is_some, is_true, last_run, length, length_permutation, list_all, map, map-map, nat_lt, nat_tests, nil_from_length, one_permutation, option_map, option_to_list, output, output_cmp, pos, reads_as, refl, rowid, run_at, run_row, run_text, runs_text, schema_2, slice_get, slice_get_past, state, subst, suc, sym, take, true, unsigned_abs, value_cmp, zero, ℕ, ◌&&◌, ◌++◌, ◌<◌, ◌∙◌, ◌∷◌, ◌≡◌, ◌≢◌, ◌≤◌}
+use Rattle.kt_store.proofs.Common.{AllByRecursion, AreNumbered, Binary, Bool, Compare, Eq, Ghosts, Held, Int, IsAscending, IsPermutation, IsStore, Less, List, None, Option, Row, Run, Shown, ShowsOf, Some, State, Term, Trees, [], ap, ap₂, arith, ascending, binary, col, column, eval, false, filter, filter-map, filter_same, flag, flat_map_single, get_or, head_columns, holds, is_eq, is_some, is_true, last_run, length, length_permutation, list_all, map, map-map, nat_lt, nat_tests, nil_from_length, one_permutation, option_map, option_to_list, output, output_cmp, pos, reads_as, refl, rowid, run_at, run_row, run_text, runs_text, schema_2, slice_get, state, subst, suc, sym, take, true, unsigned_abs, value_cmp, zero, ℕ, ◌&&◌, ◌++◌, ◌<◌, ◌∙◌, ◌∷◌, ◌≡◌, ◌≢◌, ◌≤◌}
 use Rattle.kt_store.proofs.RunsByNumber.{all_above}
 use Rattle.kt_store.proofs.EntryLemmas.{and_true, of_one, truth, all_pass}
 use Rattle.kt_store.proofs.SqlFacts.{is, run_is, runs_select_is, runs_query}
@@ -98,12 +98,6 @@ module _ (runs : List Run) (found : Option (ℕ × ℕ)) (told : found ≡ optio
   pub has_room : is_some found ≡ false → length runs < last_run
   has_room none = omega (arith, none_past runs 999999 (ap is_some (sym told) ∙ none))
 
-  pub has_none : is_some found ≡ true → last_run ≤ length runs
-  has_none some = elim (cases_lt 999999 (length runs)) [
-    | inl past ↦ omega (arith, past)
-    | inr room ↦ absurd (let e : false ≡ true = ap (λ o. is_some (option_map head o)) (sym (slice_get_past runs 999999 room)) ∙ ap is_some (sym told) ∙ some in cc)
-  ]
-
 -- ---- what the query for all runs answers
 
 abbrev params_of : Row → List Row
@@ -127,9 +121,11 @@ tells_heads old new runs rows has h =
     (subst (IsAscending lower) (sym picked) (rises 1 runs has.tables.valid.numbered))
     ∙ ap (map (λ r. column r 0 ∷ column r 2 ∷ column r 3 ∷ column r 4 ∷ [])) picked ∙ map-map _ run_row runs
 
-pub one_more : {X Y Z : Type 0} (f : X → Y) (h : X → Z) (xs : List X) (i : ℕ) (y : Y) → i < length xs → y ≡ get_or (map f xs) i y → (x : X) × (y ≡ f x) × (map h (take (suc i) xs) ≡ map h (take i xs) ++ h x ∷ [])
-one_more f h [] i y low is = absurd (omega (arith, low))
-one_more f h (x ∷ xs) zero y low is = (x, is, refl)
-one_more f h (x ∷ xs) (suc i) y low is =
-    let it = one_more f h xs i y (omega (arith, low)) is in
-    (it.0, it.1, ap (λ l. h x ∷ l) it.2)
+-- one more of those that rows were read from, of which something holds
+pub one_more : {X Y Z : Type 0} (P : X → Type 0) (f : X → Y) (h : X → Z) (xs : List X) (i : ℕ) (y : Y) → AllByRecursion P xs → i < length xs → y ≡ get_or (map f xs) i y
+    → (x : X) × (y ≡ f x) × P x × (map h (take (suc i) xs) ≡ map h (take i xs) ++ h x ∷ [])
+one_more P f h [] i y all low is = absurd (omega (arith, low))
+one_more P f h (x ∷ xs) zero y all low is = (x, is, all.0, refl)
+one_more P f h (x ∷ xs) (suc i) y all low is =
+    let it = one_more P f h xs i y all.1 (omega (arith, low)) is in
+    (it.0, it.1, it.2, ap (λ l. h x ∷ l) it.3)

@@ -1,5 +1,5 @@
 -- What is shown of the rows that a cursor finds, and how a store that is only read serves.
-use Rattle.kt_store.proofs.Common.{Agrees, AreNumbered, AreWide, CaseOutputs, Entry, Err, Ghosts, HasRuns, HoldsCommit, IfErr, IfOk, IsStoreFault, Keeps, List, Looks, NoRun, None, Ok, Outlasts, Outputs, Result, Row, Run, Serves, Shows, Some, StandAt, StoreCall, StoreFault, Trees, [], all-get_or, all-map, ap, arith, by_trees, changed_by, column, drop, entry_at, entry_columns, entry_row, false, filter, flat_map, get_or, has_rowid, head_columns, in_columns, length, length-map, map, map-map, map_same, outputs_of, pair_rows, pairs_shown, places_2, pos, readings, refl, run_at, run_row, subst, sym, true, ℕ, ◌<◌, ◌∙◌, ◌∷◌, ◌≡◌, ◌≤◌, ◌⊎◌}
+use Rattle.kt_store.proofs.Common.{Agrees, AreNumbered, AreWide, CaseOutputs, Entry, Err, Ghosts, HasRuns, HoldsCommit, IfErr, IfOk, IsStoreFault, Keeps, List, Looks, NoRun, None, Ok, Outlasts, Outputs, Result, Row, Run, Serves, Shows, Some, StandAt, StoreCall, StoreFault, Trees, Variable, [], all-map, ap, arith, by_trees, changed_by, column, drop, entry_at, entry_columns, entry_row, false, filter, has_rowid, head_columns, in_columns, length, length-map, map, map-map, map_same, outputs_of, pair_columns, pair_rows_from, places_2, pos, readings, refl, run_at, run_row, subst, sym, true, ℕ, ◌∙◌, ◌∷◌, ◌≡◌, ◌≤◌, ◌⊎◌}
 use Rattle.sqlite_trees.specs.View.{View, Finds, IsClean, KeepsSchema}
 use Rattle.kt_store.proofs.EntryLemmas.{back}
 use Rattle.kt_store.proofs.RunLemmas.{found_run, none_there, some_there}
@@ -18,7 +18,7 @@ abbrev pub entry_places : List ℕ
 entry_places = 2 ∷ 3 ∷ 4 ∷ 5 ∷ 6 ∷ 7 ∷ 8 ∷ []
 
 abbrev pub pair_places : List ℕ
-pair_places = 2 ∷ 4 ∷ 5 ∷ []
+pair_places = 4 ∷ 5 ∷ []
 
 entries_leave : LeavesRowid entry_places
 entries_leave [] = refl
@@ -31,8 +31,8 @@ pairs_leave (x ∷ r) = refl
 pub seen_entries : (n : ℕ) (es : List Entry) (shown : List Row) → Shows entry_places (map (entry_row n) es) shown → shown ≡ map entry_columns es
 seen_entries n es shown h = seen entry_places entries_leave _ shown h ∙ map-map (λ r. in_columns entry_places (back r)) (entry_row n) es
 
-pub seen_pairs : (n : ℕ) (es : List Entry) (shown : List Row) → Shows pair_places (flat_map (pair_rows n) es) shown → shown ≡ pairs_shown es
-seen_pairs n es shown h = seen pair_places pairs_leave _ shown h ∙ all_columns (λ r. in_columns pair_places (back r)) n (λ p k v. refl) es
+pub seen_pairs : (n p : ℕ) (vs : List Variable) (shown : List Row) → Shows pair_places (pair_rows_from n p 0 vs) shown → shown ≡ map pair_columns vs
+seen_pairs n p vs shown h = seen pair_places pairs_leave _ shown h ∙ all_columns (λ r. in_columns pair_places (back r)) n p (λ k v. refl) 0 vs
 
 abbrev pub head_places : List ℕ
 head_places = 0 ∷ 2 ∷ 3 ∷ 4 ∷ []
@@ -63,10 +63,6 @@ pub still_at : {S : Type 0} (g : Ghosts S) (old new : S) (places : Places) → L
 still_at g old new places looks stands clean sound runs keeps =
     let same = looks.same clean sound in
     stands (looks.clean clean) (ap (λ (v : View). v.is_broken) (sym same) ∙ sound) runs (subst (Keeps runs) (ap (λ (v : View). v.trees) same) keeps)
-
--- one of the rows has as many columns as all have
-pub one_wide : (n : ℕ) (rows : List Row) (i : ℕ) (y : Row) → AreWide n rows → i < length rows → y ≡ get_or rows i y → n ≤ length y
-one_wide n rows i y wide low is = subst (λ (l : Row). n ≤ length l) (sym is) (all-get_or (λ (l : Row). n ≤ length l) rows i y wide low)
 
 -- each has as many columns as were asked for
 pub all_wide : (columns : List ℕ) (rows : List Row) → AreWide (length columns) (map (in_columns columns) rows)

@@ -1,5 +1,5 @@
 -- How the tables of a database serve the calls of a store, and what a crash leaves.
-use Rattle.kt_store.proofs.Common.{Agrees, Began, Changes, Entry, Err, Finished, Ghosts, HasCleanDisk, Heads, Held, IfErr, IfOk, IsErrAnd, IsStoreFault, Keeps, KeepsOne, KeepsRuns, Leaves, List, Looked, MayChange, Ok, OnErr, OnOk, Outlasts, Put, Reads, Result, Run, RunHead, Serves, StandsFor, State, StoreCall, StoreFault, Survives, Trees, [], arith, changed_by, finish, inl, inr, new_run, refl, results, state, subst, survives_then, survives_weaker, sym, with_entry, ℕ, ◌++◌, ◌∷◌, ◌≡◌}
+use Rattle.kt_store.proofs.Common.{Agrees, Began, Changes, Entry, Err, Finished, Ghosts, HasCleanDisk, Held, IfErr, IfOk, IsErrAnd, IsStoreFault, Keeps, KeepsOne, KeepsRuns, Leaves, List, Looked, MayChange, Ok, OnErr, OnOk, Outlasts, Put, Result, Run, Serves, StandsFor, State, StoreCall, StoreFault, Survives, Trees, [], arith, changed_by, finish, inl, inr, new_run, refl, results, state, subst, survives_then, survives_weaker, sym, with_entry, ℕ, ◌++◌, ◌∷◌, ◌≡◌}
 use Rattle.kt_store.proofs.AskLemmas.{was_clean}
 use Rattle.kt_store.proofs.Numbered.{numbers_changed, ordered_changed}
 
@@ -9,10 +9,6 @@ survived old new change runs may s l clean trees h = elim (s.crash clean trees h
   | inl m ↦ elim (l (omega (arith, clean, s.clean)) trees m) [ inl k ↦ inl k | inr k ↦ inr (inr k) ]
   | inr k ↦ inr (inl k)
 ]
-
--- where nothing is changed, nothing is left beside
-pub untouched : (old new : State) (may : List (List Run)) → Survives old new (λ trees. ⊥) → Leaves old (KeepsOne may) → Leaves new (KeepsOne may)
-untouched old new may s l clean trees h = elim (s.crash clean trees h) [ inl m ↦ l (omega (arith, clean, s.clean)) trees m | inr k ↦ absurd k ]
 
 -- the runs after a call that writes, by its answers, and what a crash leaves
 pub record IsWrite {R : Type 0} (LeavesOne : R → List (List Run) → Type 0) {T : Type 0} (call : Result T StoreFault → StoreCall) (change : List Run → List Run) : Type 0 where
@@ -81,18 +77,6 @@ module _ {S : Type 0} (g : Ghosts S) (old new : Held S) (looked : Looked g old n
   unwritten : (change runs : List Run) (may : List (List Run)) → StandsFor (state g old) runs → Leaves (state g old) (KeepsOne (runs ∷ may)) → Leaves (state g new) (KeepsOne (runs ∷ change ∷ may))
   unwritten change runs may has left =
       survived (state g old) (state g new) change runs may (survives_weaker (state g old) (state g new) (λ _. ⊥) (Keeps change) (λ _ db none. absurd none) (looked.crash runs has)) left
-
-  -- one that reads
-  pub heads_read : (answer : Result (List RunHead) StoreFault) → ((runs : List Run) → StandsFor (state g old) runs → HasCleanDisk (state g new) → Agrees runs (Heads answer)) → Serves (results g) (Heads answer) old new
-  heads_read answer why =
-      serves g (Heads answer) old new looked.stands early why (λ runs may has l. untouched (state g old) (state g new) may (looked.crash runs has) l)
-
-  pub reads_alone : Reads (results g) old new
-  reads_alone = record {
-    stands = λ runs h. (looked.stands runs h.0, h.1, λ clean. h.2 (early runs h.0 clean));
-    earlier = λ runs h clean. early runs h.0 clean;
-    crash = λ runs may h l. untouched (state g old) (state g new) may (looked.crash runs h.0) l;
-  }
 
 module _ {S : Type 0} (g : Ghosts S) {T : Type 0} (call : Result T StoreFault → StoreCall) (change : List Run → List Run) (is : IsWrite (results g).leaves call change) where
   -- a call that is refused before it writes

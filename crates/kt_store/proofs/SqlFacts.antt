@@ -69,13 +69,13 @@ pair_is = (refl, (refl, refl))
 abbrev pub pairs_query : Query
 pairs_query = record query {
   from = inner 5 end;
-  filter = is (col 1 1) (col 0 0) ∷ [];
-  project = col 1 2 ∷ col 1 4 ∷ col 1 5 ∷ [];
-  order = (col 1 2, ascending Binary) ∷ (col 1 3, ascending Binary) ∷ [];
+  filter = is (col 1 1) (col 0 0) ∷ is (col 1 2) (col 0 1) ∷ [];
+  project = col 1 4 ∷ col 1 5 ∷ [];
+  order = (col 1 3, ascending Binary) ∷ [];
 }
 
-pub pairs_select_is : (command_of (understood schema_2 pairs_text) ≡ select pairs_query (codes "position" ∷ codes "name" ∷ codes "value" ∷ []))
-    × (reads_listing schema_2 pairs_text ≡ false) × IsPlain (understood schema_2 pairs_text) × HasColumns 3 (understood schema_2 pairs_text)
+pub pairs_select_is : (command_of (understood schema_2 pairs_text) ≡ select pairs_query (codes "name" ∷ codes "value" ∷ []))
+    × (reads_listing schema_2 pairs_text ≡ false) × IsPlain (understood schema_2 pairs_text) × HasColumns 2 (understood schema_2 pairs_text)
 unfolding understood everything
 pairs_select_is = (refl, refl, (refl, refl), (omega arith, refl))
 

@@ -18,14 +18,14 @@ pub use Rattle.sqlite_wal.specs.Files.{image_at}
 pub use Rattle.kt_store.specs.Ask.{IsNoMemory, IsStoreFault, Rests}
 pub use Rattle.kt_store.specs.Attaching.{Blank, IsOf, Older, Refuses, Takes}
 pub use Rattle.kt_store.specs.Files.{AreOver, Ends, EndsIn, Finds, IsOver}
-pub use Rattle.kt_store.specs.Heads.{entry_at, head_of, no_output, outlined, outputs_of, with_pairs, without_outputs}
+pub use Rattle.kt_store.specs.Heads.{entry_at, head_of, no_output, outlined, outputs_of, pairs_of, without_outputs, without_pairs}
 pub use Rattle.kt_store.specs.Inner.Ask.{AreWide, Asked, HasColumns, MayShow, MayTell, ShowsOf, Told}
 pub use Rattle.kt_store.specs.Inner.Attaching.{HasNumber}
 pub use Rattle.kt_store.specs.Inner.Calls.{IsOurs, Statement, entry_statements, pair_statement, pair_statements, plain_statements}
 pub use Rattle.kt_store.specs.Inner.Cursors.{CountsUnder, FindsUnder, Goes, HoldsCommit, Looks, LooksThrough, ShowsUnder, in_columns}
 pub use Rattle.kt_store.specs.Inner.Edits.{Ended, Fills, Obeys, PutsRows, Wrote, done_row, unnumbered}
 pub use Rattle.kt_store.specs.Inner.Fault.{IsShort, Tells, TellsOf, TellsOfWrite}
-pub use Rattle.kt_store.specs.Inner.Heads.{as_shown, entry_columns, head_columns, output_columns, pair_columns, pairs_shown, shown_columns, width_of}
+pub use Rattle.kt_store.specs.Inner.Heads.{entry_columns, head_columns, pair_columns, whole_columns}
 pub use Rattle.kt_store.specs.Inner.Opening.{ListsRuns, OpensOver}
 pub use Rattle.kt_store.specs.Inner.Places.{AreNamed, StandAt, places_2}
 pub use Rattle.kt_store.specs.Inner.Known.{HasRuns, OnTrees}
@@ -36,5 +36,5 @@ pub use Rattle.kt_store.specs.Runs.{AreNumbered, AreOrdered, AreRuns, IsEntry, I
 pub use Rattle.kt_store.specs.Seeks.{HasCommitted, HoldsRuns, OpensRuns}
 pub use Rattle.kt_store.specs.Serving.{Agrees, Reads, Serves, changed_by, results}
 pub use Rattle.kt_store.specs.Stands.{IsUnderstood, Leaves, OnRuns, SaysSchema, StandsFor}
-pub use Rattle.kt_store.specs.StoreCalls.{Began, Finished, Heads, Outline, Outputs, Put, seen_as}
+pub use Rattle.kt_store.specs.StoreCalls.{Began, Finished, Heads, Outline, Outputs, Pairs, Put, seen_as}
 pub use Rattle.kt_store.specs.Tables.{entries_text, pairs_text, runs_text, schema_2}

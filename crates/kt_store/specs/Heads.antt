@@ -1,9 +1,10 @@
--- What a call shows of runs and of entries: the heads of runs, entries without their outputs, with or without their pairs, and the outputs.
-use Rattle.std.specs.Prelude.{ℕ, Bool, true, false, ◌==◌, [], Option, Some, None}
+-- What a call shows of runs and of entries: the heads of runs, entries without their pairs and outputs, and these.
+use Rattle.std.specs.Prelude.{ℕ, ◌==◌, List, [], Option, Some, None}
 use Rattle.std.specs.List.{find}
 use Rattle.kt_base.specs.declared.entry.Entry.{Entry}
 use Rattle.kt_base.specs.declared.entry.Output.{Output}
 use Rattle.kt_base.specs.declared.entry.Run.{Run}
+use Rattle.kt_base.specs.declared.variable.Variable.{Variable}
 use Rattle.kt_store.specs.declared.result_store.CaseOutputs.{CaseOutputs}
 use Rattle.kt_store.specs.declared.result_store.RunHead.{RunHead}
 
@@ -19,14 +20,18 @@ no_output = record { out = []; err = [] }
 abbrev pub without_outputs : Entry → Entry
 without_outputs e = record e { body = no_output; cleanup = no_output }
 
--- an entry with its pairs, if they are asked for
-abbrev pub with_pairs : Bool → Entry → Entry
-with_pairs true e = e
-with_pairs false e = record e { meta = [] }
+-- an entry without its pairs
+abbrev pub without_pairs : Entry → Entry
+without_pairs e = record e { meta = [] }
 
 -- an entry as an outline has it
-abbrev pub outlined : Bool → Entry → Entry
-outlined pairs e = without_outputs (with_pairs pairs e)
+abbrev pub outlined : Entry → Entry
+outlined e = without_outputs (without_pairs e)
+
+-- the pairs of an entry, if it is there
+abbrev pub pairs_of : Option Entry → List Variable
+pairs_of None = []
+pairs_of (Some e) = e.meta
 
 -- the outputs of an entry
 abbrev pub outputs_of : Entry → CaseOutputs

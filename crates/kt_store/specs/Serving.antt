@@ -7,10 +7,10 @@ use Rattle.kt_base.specs.Limits.{last_run}
 use Rattle.kt_base.specs.declared.entry.Entry.{Entry}
 use Rattle.kt_base.specs.declared.entry.Run.{Run}
 use Rattle.kt_store.specs.Ask.{IsStoreFault}
-use Rattle.kt_store.specs.Heads.{head_of, outlined, outputs_of, entry_at}
+use Rattle.kt_store.specs.Heads.{head_of, outlined, pairs_of, outputs_of, entry_at}
 use Rattle.kt_store.specs.Runs.{AreNumbered, AreOrdered, KeepsOne, new_run, run_at, with_entry, put_refusal, finish, finish_refusal}
 use Rattle.kt_store.specs.Stands.{Leaves, StandsFor}
-use Rattle.kt_store.specs.StoreCalls.{StoreCall, Began, Put, Finished, Heads, Outline, Outputs}
+use Rattle.kt_store.specs.StoreCalls.{StoreCall, Began, Put, Finished, Heads, Outline, Pairs, Outputs}
 use Rattle.kt_store.specs.declared.result_store.Keeping as store
 use Rattle.kt_store.specs.declared.store_fault.StoreFault.TheVariants.{StoreFull, NoRun}
 
@@ -23,7 +23,8 @@ changed_by (Put number e (Err fault)) runs = runs
 changed_by (Finished number (Ok done)) runs = finish number runs
 changed_by (Finished number (Err fault)) runs = runs
 changed_by (Heads answer) runs = runs
-changed_by (Outline number pairs answer) runs = runs
+changed_by (Outline number answer) runs = runs
+changed_by (Pairs number position answer) runs = runs
 changed_by (Outputs number position answer) runs = runs
 
 -- a call's answer agrees with the runs before it
@@ -36,8 +37,10 @@ Agrees runs (Finished number (Ok done)) = finish_refusal runs number ≡ None
 Agrees runs (Finished number (Err fault)) = IsStoreFault fault ⊎ (finish_refusal runs number ≡ Some fault)
 Agrees runs (Heads (Ok heads)) = heads ≡ map head_of runs
 Agrees runs (Heads (Err fault)) = IsStoreFault fault
-Agrees runs (Outline number pairs (Ok entries)) = (run' : Run) × (run_at runs number ≡ Some run') × (entries ≡ map (outlined pairs) run'.entries)
-Agrees runs (Outline number pairs (Err fault)) = IsStoreFault fault ⊎ ((fault ≡ NoRun) × (run_at runs number ≡ None))
+Agrees runs (Outline number (Ok entries)) = (run' : Run) × (run_at runs number ≡ Some run') × (entries ≡ map outlined run'.entries)
+Agrees runs (Outline number (Err fault)) = IsStoreFault fault ⊎ ((fault ≡ NoRun) × (run_at runs number ≡ None))
+Agrees runs (Pairs number position (Ok pairs)) = pairs ≡ pairs_of (entry_at (run_at runs number) position)
+Agrees runs (Pairs number position (Err fault)) = IsStoreFault fault
 Agrees runs (Outputs number position (Ok outputs)) = (e : Entry) × (entry_at (run_at runs number) position ≡ Some e) × (outputs ≡ outputs_of e)
 Agrees runs (Outputs number position (Err fault)) = IsStoreFault fault ⊎ ((fault ≡ NoRun) × (entry_at (run_at runs number) position ≡ None))
 
@@ -52,7 +55,8 @@ module _ {R : Type 0} (LeavesOne : R → List (List Run) → Type 0) where
   Outlasts (Finished number (Ok done)) runs may old new = LeavesOne new (finish number runs ∷ [])
   Outlasts (Finished number (Err fault)) runs may old new = LeavesOne old (runs ∷ may) → LeavesOne new (runs ∷ finish number runs ∷ may)
   Outlasts (Heads answer) runs may old new = LeavesOne old may → LeavesOne new may
-  Outlasts (Outline number pairs answer) runs may old new = LeavesOne old may → LeavesOne new may
+  Outlasts (Outline number answer) runs may old new = LeavesOne old may → LeavesOne new may
+  Outlasts (Pairs number position answer) runs may old new = LeavesOne old may → LeavesOne new may
   Outlasts (Outputs number position answer) runs may old new = LeavesOne old may → LeavesOne new may
 
 -- a store serves a call with this answer: whatever runs it stood for, it stands for the changed runs; if it is sound then, it was so before, and

@@ -1,18 +1,20 @@
 -- What is asked of a store of runs, and what it answers.
-use Rattle.std.specs.Prelude.{ℕ, Bool, List, Result, Ok, Err}
+use Rattle.std.specs.Prelude.{ℕ, List, Result, Ok, Err}
 use Rattle.kt_base.specs.declared.entry.Entry.{Entry}
+use Rattle.kt_base.specs.declared.variable.Variable.{Variable}
 use Rattle.kt_store.specs.declared.result_store.CaseOutputs.{CaseOutputs}
 use Rattle.kt_store.specs.declared.result_store.RunHead.{RunHead}
 use Rattle.kt_store.specs.declared.store_fault.StoreFault.{StoreFault}
 
 -- a call with its answer: a run of a total begins at a moment, an entry is put, a run is finished, all heads are read, the entries of a run
--- without their outputs, and with their pairs if these are asked for, or the outputs of its entry at a position
+-- without their pairs and outputs, or the pairs or the outputs of its entry at a position
 pub data StoreCall : Type 0 where
   Began : (total moment : ℕ) (answer : Result ℕ StoreFault) → StoreCall
   Put : (number : ℕ) (entry : Entry) (answer : Result (Unit {0}) StoreFault) → StoreCall
   Finished : (number : ℕ) (answer : Result (Unit {0}) StoreFault) → StoreCall
   Heads : (answer : Result (List RunHead) StoreFault) → StoreCall
-  Outline : (number : ℕ) (pairs : Bool) (answer : Result (List Entry) StoreFault) → StoreCall
+  Outline : (number : ℕ) (answer : Result (List Entry) StoreFault) → StoreCall
+  Pairs : (number position : ℕ) (answer : Result (List Variable) StoreFault) → StoreCall
   Outputs : (number position : ℕ) (answer : Result CaseOutputs StoreFault) → StoreCall
 
 -- an answer, of which this is seen

@@ -155,9 +155,9 @@ put_text = codes "INSERT INTO entries (run, position, program, case_name, kind, 
 abbrev pub entries_text : List ℕ
 entries_text = codes "SELECT position, program, case_name, kind, reason, started, millis, body_out, body_err, clean_out, clean_err FROM entries WHERE run = ?1 ORDER BY position"
 
--- the pairs of a run by position and place
+-- the pairs of the entry of a run at a position, by place
 abbrev pub pairs_text : List ℕ
-pairs_text = codes "SELECT position, name, value FROM props WHERE run = ?1 ORDER BY position, place"
+pairs_text = codes "SELECT name, value FROM props WHERE run = ?1 AND position = ?2 ORDER BY place"
 
 -- the schema's number
 abbrev pub meta_text : List ℕ

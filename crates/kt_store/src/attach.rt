@@ -123,7 +123,7 @@ pub(crate) fn find_tables<S: Alter>(conn: &mut Connection<S>, old: bool) -> Resu
     }
     probe(
         conn,
-        "SELECT position, name, value FROM props WHERE run = ?1 ORDER BY position, place",
+        "SELECT name, value FROM props WHERE run = ?1 AND position = ?2 ORDER BY place",
     )?;
     Ok(())
 }

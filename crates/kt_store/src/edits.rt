@@ -7,7 +7,7 @@ ghost use Rattle.sqlite_trees.specs.View.{IsClean};
 ghost use Rattle.sqlite_catalog.specs.Listing.{IsSound};
 
 use crate::StoreFault;
-use crate::ends::check_last;
+use crate::ends::{check_last, entry_place};
 use crate::heads::add;
 use crate::lookup::MOST_RUNS;
 use crate::places::Places;
@@ -15,7 +15,7 @@ use crate::put::{code, reason_of};
 use crate::seeks::{entries_at, last_number, stored_head, stored_run};
 use crate::store_fault::Trouble;
 use crate::store_fault::rules::put_rows;
-use crate::store_fault::trees::{add_number, count_under, number_row};
+use crate::store_fault::trees::{count_under, number_row};
 use crate::value::{blob, int, text};
 use kt_base::{Entry, NoMemory, Text, Variable};
 use sqlite_rules::error::Rowids;
@@ -244,8 +244,7 @@ fn check_entry<S: Alter>(
     if entry.position >= head.total {
         return Err(StoreFault::BadPosition);
     }
-    let mut place = number_row(alloc, run)?;
-    add_number(&mut place, u64::from(entry.position))?;
+    let place = entry_place(alloc, run, u64::from(entry.position))?;
     if count_under(store, alloc, &entries_at(places), &place)? > 0 {
         return Err(StoreFault::RepeatedPosition);
     }

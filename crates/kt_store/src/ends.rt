@@ -1,8 +1,10 @@
-//! What is looked at before runs are shown or a run begins: the ends of the tables and of their indexes agree.
-//! So a page that the disk lost, or of an earlier moment, seldom hides a result, whatever the size of the file.
+//! What is looked at before runs are shown or a run begins: the ends of the tables and of their indexes agree, and a run
+//! has the entries that it must have. So a page that the disk lost, or of an earlier moment, seldom hides a result,
+//! whatever the size of the file.
 
-ghost use Rattle.std.specs.Prelude.{◌<◌, ◌^◌, OnOk};
-ghost use Rattle.kt_store.specs.Common.{Looks, LooksThrough};
+ghost use Rattle.std.specs.Prelude.{◌≡◌, ◌<◌, ◌≤◌, ◌^◌, [], ◌∷◌, length, map, pos, true, IfOk, OnOk};
+ghost use Rattle.kt_store.specs.Common.{AllByRecursion, Entry as Stored, Int, IsAscending, Looks, LooksThrough, Run, head_of, last_run, outlined};
+ghost use Rattle.kt_store.specs.Runs.{IsRun};
 ghost use Rattle.sqlite_trees.specs.View.{IsClean};
 
 use crate::RunHead;
@@ -13,7 +15,7 @@ use crate::store_fault::Trouble;
 use crate::store_fault::trees::{
     Found, Table, add_number, are_shaped, columns_of, count_under, next_row, number_row, sure,
 };
-use kt_base::NoMemory;
+use kt_base::{Entry, NoMemory};
 use sqlite_trees::store::{Direction, Shape, Store};
 use sqlite_value::keys::Order;
 use sqlite_value::row::Row;
@@ -29,15 +31,20 @@ pub(crate) const NO_RUN: RunHead = RunHead {
     finished: false,
 };
 
-/// The run and the position of the last place of a table's index, whose row is there; both are NULL if it has none.
-fn last_place<S: Store>(store: &mut S, alloc: Global, table: &Table) -> Result<Row, Trouble>
+/// The run and the position of the last place of a table's index that begins with a key or less, whose row is there;
+/// both are NULL if it has none.
+fn last_place<S: Store>(
+    store: &mut S,
+    alloc: Global,
+    table: &Table,
+    key: &Row,
+) -> Result<Row, Trouble>
     ensures looks { Looks S.Store store.old store.new }
 {
     sure(are_shaped(store, table))?;
-    let all = Row::new(alloc);
-    store.seek(0, table.index, &all, Direction::Backward)?;
+    store.seek(0, table.index, key, Direction::Backward)?;
     let mut found = Found::new(alloc);
-    next_row(store, alloc, table, &all, &mut found)?;
+    next_row(store, alloc, table, key, &mut found)?;
     Ok(columns_of(alloc, &found.place, &[0, 1])?)
 }
 
@@ -65,12 +72,14 @@ fn end_of<S: Store>(store: &mut S, alloc: Global, table: &Table) -> Result<Row, 
     ensures looks { Looks S.Store store.old store.new }
 {
     sure(is_last_row_placed(store, alloc, table)?)?;
-    last_place(store, alloc, table)
+    last_place(store, alloc, table, &Row::new(alloc))
 }
 
-/// The place of an entry in the index of entries, without its rowid.
-fn entry_place(alloc: Global, run: u64, position: u64) -> Result<Row, NoMemory>
+/// What the places of an entry and of its pairs begin with in their indexes.
+pub(crate) fn entry_place(alloc: Global, run: u64, position: u64) -> Result<Row, NoMemory>
     requires { position < 2 ^ 63 }
+    ensures { run ≤ last_run
+        → IfOk result (λ place. place ≡ Int (pos run) ∷ Int (pos position) ∷ []) }
 {
     let mut place = number_row(alloc, key(run))?;
     add_number(&mut place, position)?;
@@ -89,7 +98,7 @@ fn is_end(alloc: Global, end: &Row, last: RunHead) -> Result<bool, NoMemory> {
     Ok(end.cmp_prefix(Order::PLAIN, &past) == Ordering::Less)
 }
 
-/// Whether the entry of the last pair, if there is one, is there.
+/// Whether the entry of a pair, if there is one, is there.
 fn has_entry<S: Store>(
     store: &mut S,
     alloc: Global,
@@ -151,4 +160,85 @@ pub(crate) fn check_last<S: Store>(
 {
     let head = last_head(store, alloc, places, last)?;
     check_ends(store, alloc, places, head)
+}
+
+/// Whether the position of each entry is its place among them.
+fn are_numbered(entries: &[Entry]) -> bool
+    ensures { IsAscending (λ (a b : Stored). a.position < b.position) entries.now
+        → AllByRecursion (λ (e : Stored). e.position < length entries.now) entries.now
+        → result ≡ true }
+{
+    for (place, entry) in entries.iter().enumerate() {
+        if entry.position as usize != place {
+            return false;
+        }
+    }
+    true
+}
+
+/// Whether these may be all entries of the run with this head: if it is finished, they have each position below its
+/// total.
+fn may_be_all(head: RunHead, entries: &[Entry]) -> bool
+    ensures { (r : Run) → IsRun r → head ≡ head_of r → entries.now ≡ map outlined r.entries
+        → result ≡ true }
+{
+    let total = head.total as usize;
+    if head.finished {
+        entries.len() == total && are_numbered(entries)
+    } else {
+        entries.len() <= total
+    }
+}
+
+/// How many pairs the index of pairs has of these entries of a run.
+fn count_pairs<S: Store>(
+    store: &mut S,
+    alloc: Global,
+    table: &Table,
+    run: u64,
+    entries: &[Entry],
+) -> Result<u64, Trouble>
+    ensures looks { Looks S.Store store.old store.new }
+{
+    let mut count: u64 = 0;
+    for entry in entries {
+        let place = entry_place(alloc, run, u64::from(entry.position))?;
+        count = count.saturating_add(count_under(store, alloc, table, &place)?);
+    }
+    Ok(count)
+}
+
+/// Whether each pair of the run with this head is of one of its entries. A finished run has them all, so the last pair
+/// tells.
+fn are_of_entries<S: Store>(
+    store: &mut S,
+    alloc: Global,
+    places: Places,
+    head: RunHead,
+    entries: &[Entry],
+) -> Result<bool, Trouble>
+    ensures looks { Looks S.Store store.old store.new }
+{
+    let table = pairs_at(places);
+    let key = number_row(alloc, key(head.number))?;
+    if head.finished {
+        let pair = last_place(store, alloc, &table, &key)?;
+        return has_entry(store, alloc, places, &pair);
+    }
+    let all = count_under(store, alloc, &table, &key)?;
+    Ok(all == count_pairs(store, alloc, &table, head.number, entries)?)
+}
+
+/// Asks whether these are all entries of the run with this head, as far as it and its pairs tell.
+pub(crate) fn check_entries<S: Store>(
+    store: &mut S,
+    alloc: Global,
+    places: Places,
+    head: RunHead,
+    entries: &[Entry],
+) -> Result<(), Trouble>
+    ensures looks { Looks S.Store store.old store.new }
+{
+    sure(may_be_all(head, entries))?;
+    sure(are_of_entries(store, alloc, places, head, entries)?)
 }

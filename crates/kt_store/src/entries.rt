@@ -1,12 +1,13 @@
-ghost use Rattle.std.specs.Prelude.{◌≡◌, ◌⊎◌, ◌<◌, ◌^◌, map, true, Some, None, IfOk, IfErr, OnOk};
-ghost use Rattle.kt_store.specs.Common.{OnRuns, AreWide, AreRuns, IsStoreFault, Looked, entries_of, pairs_shown, run_at, shown_columns};
+ghost use Rattle.std.specs.Prelude.{◌≡◌, ◌⊎◌, ◌<◌, ◌≤◌, ◌^◌, length, map, Some, None, IfOk, IfErr, OnOk};
+ghost use Rattle.kt_store.specs.Common.{OnRuns, AreWide, AreRuns, Entry as Stored, IsEntry, IsStoreFault, Looked, entries_of, entry_at, pair_columns, pairs_of, run_at, whole_columns};
 
 use crate::StoreFault;
+use crate::heads::add;
 use crate::lookup::look;
-use crate::outlines::entries_in;
+use crate::outlines::{entry_in, pairs_in};
 use crate::store_fault::Trouble;
 use crate::store_fault::statements::query;
-use crate::value::int;
+use crate::value::{int, small_in};
 use kt_base::Entry;
 use sqlite::{Alter, Connection, Row};
 use std::alloc::Global;
@@ -16,7 +17,7 @@ pub(crate) fn entry_rows<S: Alter>(conn: &mut Connection<S>, run: u64) -> Result
     requires { run < 2 ^ 63 }
     ensures all { OnRuns S.Store conn.old conn.new (λ runs.
         IfOk result (λ rows. rows.items
-        ≡ map (shown_columns true) (entries_of (run_at runs run)))) }
+        ≡ map whole_columns (entries_of (run_at runs run)))) }
     ensures wide { IfOk result (λ rows. AreWide 11 rows.items) }
     ensures valid { OnRuns S.Store conn.old conn.new (λ runs. OnOk result (AreRuns runs)) }
     ensures looked { Looked S.Store conn.old conn.new }
@@ -29,20 +30,67 @@ pub(crate) fn entry_rows<S: Alter>(conn: &mut Connection<S>, run: u64) -> Result
     )
 }
 
-/// The rows of the pairs of a run's entries, by position and place.
-fn pair_rows<S: Alter>(conn: &mut Connection<S>, run: u64) -> Result<Vec<Row>, Trouble>
+/// The rows of the pairs of the entry of a run at a position, by place.
+fn pair_rows<S: Alter>(
+    conn: &mut Connection<S>,
+    run: u64,
+    position: u32,
+) -> Result<Vec<Row>, Trouble>
     requires { run < 2 ^ 63 }
     ensures all { OnRuns S.Store conn.old conn.new (λ runs.
-        IfOk result (λ rows. rows.items ≡ pairs_shown (entries_of (run_at runs run)))) }
-    ensures wide { IfOk result (λ rows. AreWide 3 rows.items) }
+        IfOk result (λ rows. rows.items
+        ≡ map pair_columns (pairs_of (entry_at (run_at runs run) position)))) }
+    ensures wide { IfOk result (λ rows. AreWide 2 rows.items) }
     ensures looked { Looked S.Store conn.old conn.new }
 {
     query(
         conn,
-        "SELECT position, name, value FROM props WHERE run = ?1 ORDER BY position, place",
-        3,
-        &[int(run)],
+        "SELECT name, value FROM props WHERE run = ?1 AND position = ?2 ORDER BY place",
+        2,
+        &[int(run), int(u64::from(position))],
     )
+}
+
+/// The entry of a run in a row, with its pairs.
+fn entry_of<S: Alter>(
+    conn: &mut Connection<S>,
+    alloc: Global,
+    run: u64,
+    row: &Row,
+) -> Result<Entry, Trouble>
+    requires run { run < 2 ^ 63 }
+    requires wide { 11 ≤ length row.now }
+    ensures entry { OnRuns S.Store conn.old conn.new (λ runs. (e : Stored) → IsEntry e
+        → entry_at (run_at runs run) e.position ≡ Some e → row.now ≡ whole_columns e
+        → IfOk result (λ x. x ≡ e)) }
+    ensures looked { Looked S.Store conn.old conn.new }
+{
+    let position = small_in(row, 0)?;
+    let pairs = pair_rows(conn, run, position)?;
+    let meta = pairs_in(alloc, &pairs)?;
+    entry_in(alloc, row, meta)
+}
+
+/// The entries of a run in their rows, with their pairs.
+fn entries_in<S: Alter>(
+    conn: &mut Connection<S>,
+    alloc: Global,
+    run: u64,
+    rows: &[Row],
+) -> Result<Vec<Entry>, Trouble>
+    requires run { run < 2 ^ 63 }
+    requires wide { AreWide 11 rows.now }
+    ensures entries { OnRuns S.Store conn.old conn.new (λ runs. AreRuns runs
+        → rows.now ≡ map whole_columns (entries_of (run_at runs run))
+        → IfOk result (λ found. found.items ≡ entries_of (run_at runs run))) }
+    ensures looked { Looked S.Store conn.old conn.new }
+{
+    let mut entries = Vec::new(alloc);
+    for row in rows {
+        let entry = entry_of(conn, alloc, run, row)?;
+        add(&mut entries, entry)?;
+    }
+    Ok(entries)
 }
 
 /// The entries of a run with their pairs and their outputs, by position. `NoRun` where no run has the number.
@@ -59,6 +107,5 @@ pub(crate) fn all_entries<S: Alter>(
 {
     look(conn, run)?;
     let rows = entry_rows(conn, run)?;
-    let pairs = pair_rows(conn, run)?;
-    Ok(entries_in(alloc, &rows, &pairs, true)?)
+    Ok(entries_in(conn, alloc, run, &rows)?)
 }

@@ -1,17 +1,15 @@
-ghost use Rattle.std.specs.Prelude.{◌≡◌, ◌<◌, ◌≤◌, pos, ℕ, length, map, List, ◌++◌, ◌+◌, IfOk};
-ghost use Rattle.kt_store.specs.Common.{utf8, AllByRecursion, AreWide, Blob, Int, column, no_output, outputs_of, IsAscending, IsEntry, IsPair, IsText, kind_code, as_shown, shown_columns, width_of, pair_columns, pairs_shown};
+ghost use Rattle.std.specs.Prelude.{◌≡◌, ◌<◌, ◌≤◌, pos, ℕ, length, map, List, ◌++◌, IfOk};
+ghost use Rattle.kt_store.specs.Common.{utf8, AllByRecursion, AreWide, Blob, Int, column, no_output, IsEntry, IsPair, IsText, entry_columns, kind_code, outlined, pair_columns, whole_columns};
 ghost use Rattle.kt_base.specs.declared.entry.Entry.{Entry as Stored};
-ghost use Rattle.kt_store.specs.Inner.Heads.{pair_count};
 ghost use Rattle.kt_base.specs.declared.verdict.Kind.{Kind as Sort};
 ghost use Rattle.sqlite_value.specs.declared.value.Value.TheVariants.{Text as Words};
 ghost use Rattle.kt_base.specs.declared.entry.Output.{Output as Pair};
 ghost use Rattle.kt_base.specs.declared.variable.Variable.{Variable as StoredPair};
+ghost use Rattle.sqlite.specs.Order.{Row as Values};
 
-use crate::CaseOutputs;
 use crate::heads::add;
 use crate::store_fault::Trouble;
 use crate::store_fault::statements::value_in;
-use crate::store_fault::trees::sure;
 use crate::stored_kind::StoredKind;
 use crate::value::{number_in, small_in};
 use kt_base::{Bytes, Entry, Kind, Output, Text, Variable, Variables, Verdict};
@@ -39,35 +37,25 @@ fn kind_in(row: &Row, at: usize) -> Result<Kind, Trouble>
 
 /// The pair in a row.
 fn pair_in(row: &Row) -> Result<Variable, Trouble>
-    requires { 3 ≤ length row.now }
-    ensures pair { (n : ℕ) (v : StoredPair) → IsPair v → row.now ≡ pair_columns n v
-        → IfOk result (λ x. x ≡ v) }
+    requires { 2 ≤ length row.now }
+    ensures { (v : StoredPair) → IsPair v → row.now ≡ pair_columns v → IfOk result (λ x. x ≡ v) }
 {
-    let name = text_in(row, 1)?;
-    let value = text_in(row, 2)?;
+    let name = text_in(row, 0)?;
+    let value = text_in(row, 1)?;
     Ok(Variable { name, value })
 }
 
-/// The pairs of the entry at this position, which are the first of the rows, and the rows after them.
-fn meta_in(alloc: Global, rows: &[Row], position: u32) -> Result<(Variables, &[Row]), Trouble>
-    requires { AreWide 3 rows.now }
-    ensures wide { IfOk result (λ found. AreWide 3 found.1.now) }
-    ensures split { IfOk result (λ found. length found.0 + length found.1.now ≡ length rows.now) }
-    ensures meta { (vs : List StoredPair) (others : List Stored) → AllByRecursion IsPair vs
-        → AllByRecursion (λ (e : Stored). position < e.position) others
-        → rows.now ≡ map (pair_columns position) vs ++ pairs_shown others
-        → IfOk result (λ found. (found.0 ≡ vs) × (found.1.now ≡ pairs_shown others)) }
+/// The pairs in the rows.
+pub(crate) fn pairs_in(alloc: Global, rows: &[Row]) -> Result<Variables, Trouble>
+    requires { AreWide 2 rows.now }
+    ensures { (vs : List StoredPair) → AllByRecursion IsPair vs → rows.now ≡ map pair_columns vs
+        → IfOk result (λ x. x ≡ vs) }
 {
-    let mut meta = Variables::new(alloc);
-    let mut rest = rows;
-    while let Some((row, after)) = rest.split_first() {
-        if number_in(row, 0)? != u64::from(position) {
-            return Ok((meta, rest));
-        }
-        meta.push(pair_in(row)?)?;
-        rest = after;
+    let mut pairs = Variables::new(alloc);
+    for row in rows {
+        pairs.push(pair_in(row)?)?;
     }
-    Ok((meta, rest))
+    Ok(pairs)
 }
 
 /// What a case printed that printed nothing.
@@ -99,30 +87,11 @@ fn output_in(row: &Row, out: usize, err: usize) -> Result<Output, Trouble>
     Ok(Output { out, err })
 }
 
-/// The outputs behind the other columns of an entry, if they are shown.
-fn outputs_behind(alloc: Global, row: &Row, whole: bool) -> Result<CaseOutputs, Trouble>
-    requires { width_of whole ≤ length row.now }
-    ensures outputs { (e : Stored) → row.now ≡ shown_columns whole e
-        → IfOk result (λ o. o ≡ outputs_of (as_shown whole e)) }
-{
-    if !whole {
-        return Ok(CaseOutputs {
-            body: no_output(alloc),
-            cleanup: no_output(alloc),
-        });
-    }
-    let body = output_in(row, 7, 8)?;
-    let cleanup = output_in(row, 9, 10)?;
-    Ok(CaseOutputs { body, cleanup })
-}
-
-/// The entry in a row, with these pairs, and with its outputs if they are shown.
-fn entry_in(alloc: Global, row: &Row, meta: Variables, whole: bool) -> Result<Entry, Trouble>
-    requires parts { 7 ≤ length row.now }
-    requires outputs { width_of whole ≤ length row.now }
-    ensures entry { (e : Stored) → IsEntry e → row.now ≡ shown_columns whole e → meta ≡ e.meta
-        → IfOk result (λ x. x ≡ as_shown whole e) }
-    ensures pairs { IfOk result (λ x. x.meta ≡ meta) }
+/// The entry in a row, without its pairs and outputs.
+fn bare_in(alloc: Global, row: &Row) -> Result<Entry, Trouble>
+    requires { 7 ≤ length row.now }
+    ensures { (e : Stored) (more : Values) → IsEntry e → row.now ≡ entry_columns e ++ more
+        → IfOk result (λ x. x ≡ outlined e) }
 {
     let position = small_in(row, 0)?;
     let kind = kind_in(row, 3)?;
@@ -131,7 +100,6 @@ fn entry_in(alloc: Global, row: &Row, meta: Variables, whole: bool) -> Result<En
     let program = text_in(row, 1)?;
     let case_name = text_in(row, 2)?;
     let reason = text_in(row, 4)?;
-    let outputs = outputs_behind(alloc, row, whole)?;
     Ok(Entry {
         position,
         program,
@@ -139,36 +107,35 @@ fn entry_in(alloc: Global, row: &Row, meta: Variables, whole: bool) -> Result<En
         verdict: Verdict::of(kind, reason),
         started,
         millis,
-        body: outputs.body,
-        cleanup: outputs.cleanup,
-        meta,
+        body: no_output(alloc),
+        cleanup: no_output(alloc),
+        meta: Variables::new(alloc),
     })
 }
 
-/// The entries in the rows, with the pairs in the others, and with their outputs if they are shown.
-pub(crate) fn entries_in(
-    alloc: Global,
-    rows: &[Row],
-    pairs: &[Row],
-    whole: bool,
-) -> Result<Vec<Entry>, Trouble>
-    requires rows { AreWide (width_of whole) rows.now }
-    requires pairs { AreWide 3 pairs.now }
-    // Of any rows.
-    ensures none_left { IfOk result (λ found. pair_count found.items ≡ length pairs.now) }
-    ensures entries { (es : List Stored) → AllByRecursion IsEntry es
-        → IsAscending (λ (a b : Stored). a.position < b.position) es
-        → rows.now ≡ map (shown_columns whole) es → pairs.now ≡ pairs_shown es
-        → IfOk result (λ found. found.items ≡ map (as_shown whole) es) }
+/// The entries in the rows, without their pairs and outputs.
+pub(crate) fn outline_in(alloc: Global, rows: &[Row]) -> Result<Vec<Entry>, Trouble>
+    requires { AreWide 7 rows.now }
+    ensures { (es : List Stored) → AllByRecursion IsEntry es → rows.now ≡ map entry_columns es
+        → IfOk result (λ found. found.items ≡ map outlined es) }
 {
     let mut entries = Vec::new(alloc);
-    let mut rest = pairs;
     for row in rows {
-        let (meta, after) = meta_in(alloc, rest, small_in(row, 0)?)?;
-        let entry = entry_in(alloc, row, meta, whole)?;
+        let entry = bare_in(alloc, row)?;
         add(&mut entries, entry)?;
-        rest = after;
     }
-    sure(rest.is_empty())?;
     Ok(entries)
+}
+
+/// The entry in a row, with its outputs and these pairs.
+pub(crate) fn entry_in(alloc: Global, row: &Row, meta: Variables) -> Result<Entry, Trouble>
+    requires { 11 ≤ length row.now }
+    ensures { (e : Stored) → IsEntry e → row.now ≡ whole_columns e → meta ≡ e.meta
+        → IfOk result (λ x. x ≡ e) }
+{
+    let mut entry = bare_in(alloc, row)?;
+    entry.body = output_in(row, 7, 8)?;
+    entry.cleanup = output_in(row, 9, 10)?;
+    entry.meta = meta;
+    Ok(entry)
 }

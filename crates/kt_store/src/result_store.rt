@@ -1,5 +1,5 @@
 use crate::StoreFault;
-use kt_base::{Entry, Output};
+use kt_base::{Entry, Output, Variables};
 
 /// A run without its entries.
 #[derive(Clone, Copy)]
@@ -52,7 +52,7 @@ pub trait Keeping {
 /// where memory or the store itself failed. What was read is right while the store is sound.
 pub trait ResultStore: Keeping {
     ghost use Rattle.std.specs.Prelude.{IfErr};
-    ghost use Rattle.kt_store.specs.Common.{IsMoment, IsStorable, IsStoreFault, Serves, Began, Put, Finished, Heads, Outline, Outputs, seen_as};
+    ghost use Rattle.kt_store.specs.Common.{IsMoment, IsStorable, IsStoreFault, Serves, Began, Put, Finished, Heads, Outline, Pairs, Outputs, seen_as};
 
     /// Adds an unfinished run of `total` cases, and returns its number. The moment is in
     /// milliseconds since 1970 in UTC. `StoreFull` where there are 1,000,000 runs.
@@ -78,11 +78,16 @@ pub trait ResultStore: Keeping {
             self.old self.new }
         ensures failed { IfErr result IsStoreFault };
 
-    /// The entries of a run without their outputs, by position, and without their pairs unless
-    /// `pairs` is set. `NoRun` where no run has the number. A reason comes back as its text.
-    fn outline(&mut self, run: u64, pairs: bool) -> Result<Vec<Entry>, StoreFault>
-        ensures { Serves Self.Keeping (Outline run pairs (seen_as (λ found. found.items) result))
+    /// The entries of a run without their pairs and their outputs, by position. `NoRun` where no run
+    /// has the number. A reason comes back as its text.
+    fn outline(&mut self, run: u64) -> Result<Vec<Entry>, StoreFault>
+        ensures { Serves Self.Keeping (Outline run (seen_as (λ found. found.items) result))
             self.old self.new };
+
+    /// The pairs of the entry of a run at a position, in their order; none where the run has no entry
+    /// there.
+    fn pairs(&mut self, run: u64, position: u32) -> Result<Variables, StoreFault>
+        ensures { Serves Self.Keeping (Pairs run position result) self.old self.new };
 
     /// The outputs of the entry of a run at a position. `NoRun` where no run has the number, or the
     /// run has no entry there.

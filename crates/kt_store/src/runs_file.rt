@@ -10,12 +10,12 @@ use crate::by_name::places_in;
 use crate::edits::{ended, write_entry, write_finish, write_run};
 use crate::opening::{close_store, open_known};
 use crate::places::Places;
-use crate::seeks::{find_outputs, heads, outline};
+use crate::seeks::{find_outputs, find_pairs, heads, outline};
 use crate::store_fault::Trouble;
 use crate::store_fault::trees::{present, sure};
 use crate::supposed::Contents;
 use crate::{Access, CaseOutputs, Keeping, ResultStore, Results, RunHead, StoreFault};
-use kt_base::{Entry, NoMemory, Text};
+use kt_base::{Entry, NoMemory, Text, Variables};
 use sqlite::{Alter, FileFrom, FileStore};
 use sqlite_catalog::load::load;
 use sqlite_disk::Disk;
@@ -222,8 +222,12 @@ impl<S: Alter> ResultStore for RunsFile<S> {
         heads(&mut self.store, self.alloc, self.places)
     }
 
-    fn outline(&mut self, run: u64, pairs: bool) -> Result<Vec<Entry>, StoreFault> {
-        outline(&mut self.store, self.alloc, self.places, run, pairs)
+    fn outline(&mut self, run: u64) -> Result<Vec<Entry>, StoreFault> {
+        outline(&mut self.store, self.alloc, self.places, run)
+    }
+
+    fn pairs(&mut self, run: u64, position: u32) -> Result<Variables, StoreFault> {
+        find_pairs(&mut self.store, self.alloc, self.places, run, position)
     }
 
     fn outputs(&mut self, run: u64, position: u32) -> Result<CaseOutputs, StoreFault> {

@@ -1,22 +1,20 @@
-ghost use Rattle.std.specs.Prelude.{◌≡◌, ◌⊎◌, ◌<◌, ◌≤◌, ◌^◌, ℕ, Some, None, drop, length, map, IfOk, IfErr, OnOk, true};
-ghost use Rattle.kt_store.specs.Common.{OnTrees, IsStoreFault, StandAt, Looks, LooksThrough, Run, AreRuns, Blob, Entry, column, entry_row, last_run, outputs_of, run_row, head_of, Serves, Heads, Outline, Outputs, entries_of, outlined, run_at, seen_as};
+ghost use Rattle.std.specs.Prelude.{◌≡◌, ◌⊎◌, ◌<◌, ◌≤◌, ◌^◌, ℕ, Some, None, drop, length, map, IfOk, IfErr, OnOk};
+ghost use Rattle.kt_store.specs.Common.{OnTrees, IsStoreFault, StandAt, Looks, LooksThrough, Run, AreRuns, Blob, Entry, column, entry_row, last_run, outputs_of, run_row, head_of, Serves, Heads, Outline, Outputs, Pairs, entries_of, outlined, run_at, seen_as};
 ghost use Rattle.kt_base.specs.declared.entry.Output.{Output as Pair};
 ghost use Rattle.kt_store.specs.Inner.Known.{readings};
-ghost use Rattle.kt_store.specs.Runs.{IsRun};
 ghost use Rattle.sqlite_trees.specs.View.{IsClean};
 
-use crate::ends::{NO_RUN, check_ends};
+use crate::ends::{NO_RUN, check_ends, check_entries, entry_place};
 use crate::heads::{head_in, heads_in};
 use crate::lookup::key;
-use crate::outlines::entries_in;
+use crate::outlines::{outline_in, pairs_in};
 use crate::places::{Place, Places};
 use crate::store_fault::Trouble;
 use crate::store_fault::trees::{
-    Table, add_number, all_shown, number_of, number_row, row_behind, rows_in, shown, stored_bytes,
-    sure,
+    Table, all_shown, number_of, number_row, row_behind, rows_after, shown, stored_bytes, sure,
 };
 use crate::{CaseOutputs, RunHead, StoreFault};
-use kt_base::{Entry, Output};
+use kt_base::{Entry, NoMemory, Output, Variables};
 use sqlite_exec::check::all_rows;
 use sqlite_exec::work::Workspace;
 use sqlite_trees::store::{Direction, Shape, Store};
@@ -136,63 +134,70 @@ pub(crate) fn stored_head(alloc: Global, row: &row::Row) -> Result<RunHead, Trou
     head_in(&shown)
 }
 
-/// The entries of a run without their outputs, by position, with their pairs if they are asked for.
+/// The entries of a run without their pairs and outputs, by position.
 fn all_entries<S: Store>(
     store: &mut S,
     alloc: Global,
     places: Places,
     run: u64,
-    pairs: bool,
 ) -> Result<Vec<Entry>, Trouble>
     requires run { run < 2 ^ 63 }
     requires placed { StandAt places (S.Store.view store.old) }
     ensures all { OnTrees S.Store store.old store.new (λ runs.
-        IfOk result (λ found. found.items ≡ map (outlined pairs) (entries_of (run_at runs run)))) }
+        IfOk result (λ found. found.items ≡ map outlined (entries_of (run_at runs run)))) }
     ensures looks { Looks S.Store store.old store.new }
 {
-    let rows = rows_in(
-        store,
-        alloc,
-        &entries_at(places),
-        run,
-        &[2, 3, 4, 5, 6, 7, 8],
-    )?;
-    if !pairs {
-        return entries_in(alloc, &rows, &[], false);
-    }
-    let shown = rows_in(store, alloc, &pairs_at(places), run, &[2, 4, 5])?;
-    entries_in(alloc, &rows, &shown, false)
+    let before = number_row(alloc, run.saturating_sub(1))?;
+    let key = number_row(alloc, run)?;
+    let columns = &[2, 3, 4, 5, 6, 7, 8];
+    let rows = rows_after(store, alloc, &entries_at(places), &before, &key, columns)?;
+    outline_in(alloc, &rows)
 }
 
-/// Whether a run with this head has so many entries: a finished one as many as its total, another no more.
-fn has_as_many(head: RunHead, count: usize) -> bool
-    ensures { (r : Run) → IsRun r → head ≡ head_of r → count ≡ length r.entries → result ≡ true }
-{
-    if head.finished {
-        count == head.total as usize
-    } else {
-        count <= head.total as usize
-    }
-}
-
-/// The same, of a run that is there.
+/// The entries of a run without their pairs and outputs, by position. If one is missing, which a finished run or a
+/// pair tells, the file is damaged.
 pub(crate) fn outline<S: Store>(
     store: &mut S,
     alloc: Global,
     places: Places,
     run: u64,
-    pairs: bool,
 ) -> Result<Vec<Entry>, StoreFault>
     requires { StandAt places (S.Store.view store.old) }
-    ensures served { Serves (readings S.Store) (Outline run pairs
+    ensures served { Serves (readings S.Store) (Outline run
         (seen_as (λ found. found.items) result)) store.old store.new }
     ensures looks { Looks S.Store store.old store.new }
 {
     let row = stored_run(store, alloc, places, run)?;
     let head = stored_head(alloc, &row)?;
-    let found = all_entries(store, alloc, places, run, pairs)?;
-    sure(has_as_many(head, found.len()))?;
+    let found = all_entries(store, alloc, places, run)?;
+    check_entries(store, alloc, places, head, &found)?;
     Ok(found)
+}
+
+/// What the places before those of an entry begin with, or less.
+fn place_before(alloc: Global, run: u64, position: u32) -> Result<row::Row, NoMemory> {
+    if position == 0 {
+        return number_row(alloc, key(run).saturating_sub(1));
+    }
+    entry_place(alloc, run, u64::from(position) - 1)
+}
+
+/// The pairs of the entry of a run at a position, none if it has no entry there.
+pub(crate) fn find_pairs<S: Store>(
+    store: &mut S,
+    alloc: Global,
+    places: Places,
+    run: u64,
+    position: u32,
+) -> Result<Variables, StoreFault>
+    requires { StandAt places (S.Store.view store.old) }
+    ensures served { Serves (readings S.Store) (Pairs run position result) store.old store.new }
+    ensures looks { Looks S.Store store.old store.new }
+{
+    let before = place_before(alloc, run, position)?;
+    let place = entry_place(alloc, key(run), u64::from(position))?;
+    let rows = rows_after(store, alloc, &pairs_at(places), &before, &place, &[4, 5])?;
+    Ok(pairs_in(alloc, &rows)?)
 }
 
 /// What was printed, in two columns of a stored row.
@@ -229,8 +234,7 @@ pub(crate) fn find_outputs<S: Store>(
     ensures looks { Looks S.Store store.old store.new }
 {
     let number = key(run);
-    let mut place = number_row(alloc, number)?;
-    add_number(&mut place, u64::from(position))?;
+    let place = entry_place(alloc, number, u64::from(position))?;
     match row_behind(store, alloc, &entries_at(places), &place)? {
         Some(row) if number == run => stored_outputs(alloc, &row),
         _ => Err(StoreFault::NoRun),

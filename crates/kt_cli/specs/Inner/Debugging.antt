@@ -1,14 +1,8 @@
 -- What `debug` prints of the case that it runs.
 use Rattle.std.specs.Prelude.{ℕ, Bool, List, [], ◌≡◌, false, Option, Result, Ok, Err}
-use Rattle.kt_base.specs.declared.entry.Entry.{Entry}
-use Rattle.kt_sched.specs.declared.job.Job.{Job}
+use Rattle.kt_cli.specs.Types.{Counts, Entry, Job, Leads, NoEvent, RunFault, SinkFailed, SinkFault, Totals, Trace}
 use Rattle.kt_sched.specs.declared.launcher.Launcher as launcher
-use Rattle.kt_sched.specs.declared.run_fault.RunFault.{RunFault}
-use Rattle.kt_sched.specs.declared.run_fault.RunFault.TheVariants.{NoMemory, SinkFailed}
-use Rattle.kt_sched.specs.declared.sink.SinkFault.{SinkFault}
-use Rattle.kt_sched.specs.declared.totals.Totals.{Totals}
-use Rattle.kt_sched.specs.Run.{Counts}
-use Rattle.kt_sched.specs.Trace.{Trace, NoEvent, Leads}
+use Rattle.kt_sched.specs.declared.run_fault.RunFault.TheVariants.{NoMemory}
 use Rattle.kt_cli.specs.Inner.Pages.{Says}
 use Rattle.kt_cli.specs.Recordings.{AllRecorded}
 use Rattle.kt_cli.specs.Debugging.{all_debug_bytes, debug_bytes}

@@ -1,13 +1,8 @@
 -- What a command means: by the answers of its world and of its store, the bytes and the exit.
 use Rattle.std.specs.Prelude.{ℕ, List, [], ◌≡◌, ◌⊎◌, Option, Ok}
 use Rattle.kt_suite.specs.Answers.{Answered}
-use Rattle.kt_plan.specs.declared.cases.Picked.{Picked}
-use Rattle.kt_words.specs.declared.options.CaseOptions.{CaseOptions}
-use Rattle.kt_sched.specs.Trace.{NoEvent}
-use Rattle.kt_words.specs.Commands.{needs_case}
-use Rattle.kt_words.specs.declared.command.Command.{Command}
+use Rattle.kt_cli.specs.Types.{CaseOptions, Command, NoEvent, Picked, Question, leads_by, needs_case}
 use Rattle.kt_cli.specs.Pages.{Printed}
-use Rattle.kt_plan.specs.Questions.{Question, leads_by}
 use Rattle.kt_plan.specs.Selecting.{SelectsOrShort}
 use Rattle.kt_cli.specs.Meaning.{Course, CutShort, Means, Seen}
 use Rattle.kt_cli.specs.Scenes.{World}
@@ -28,5 +23,5 @@ module _ {W : Type 0} (w : World W) where
     pub uncalled : seen.calls ≡ []
     pub bytes : List ℕ
     pub due : ℕ
-    pub is : Means seen c bytes due ⊎ CutShort seen c bytes due
     pub printed : Printed was now exit bytes due
+    pub is : Means seen c bytes due ⊎ CutShort seen printed.failed c bytes due

@@ -1,11 +1,7 @@
 -- What the calls on runs in memory do.
 use Rattle.std.specs.Prelude.{ℕ, suc, nat_lt, nat_le, if◌then◌else◌, Option, List, [], ◌∷◌, ◌≡◌, ◌<◌, Some, None, Result, Ok, Err, length}
-use Rattle.kt_base.specs.declared.entry.Entry.{Entry}
-use Rattle.kt_base.specs.declared.entry.Run.{Run}
-use Rattle.kt_store.specs.Runs.{AreNumbered, run_at, has_position}
-use Rattle.kt_store.specs.Serving.{Agrees, changed_by}
-use Rattle.kt_store.specs.StoreCalls.{StoreCall}
-use Rattle.kt_store.specs.declared.store_fault.StoreFault.{StoreFault}
+use Rattle.kt_cli.specs.Types.{Agrees, AreNumbered, Entry, Run, StoreCall, StoreFault, changed_by}
+use Rattle.kt_store.specs.Runs.{run_at, has_position}
 use Rattle.kt_store.specs.declared.store_fault.StoreFault.TheVariants.{NoRun, RunClosed, BadPosition, RepeatedPosition, Incomplete}
 
 -- a call over runs in memory: its answer agrees with the runs, which change by it

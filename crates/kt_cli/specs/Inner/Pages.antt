@@ -1,6 +1,6 @@
 -- A writer that is given nothing more once it failed.
 use Rattle.std.specs.Prelude.{ℕ, Bool, true, false, List, ◌≡◌, Option}
-use Rattle.kt_base.specs.Shows.{Shows}
+use Rattle.kt_cli.specs.Types.{Shows}
 
 -- nothing is written by a writer that failed before
 abbrev pub SaysMore : Option (List ℕ) → Bool → Option (List ℕ) → Bool → List ℕ → Type 0

@@ -1,13 +1,8 @@
 -- An entry is put into a run, and then its line is printed.
 use Rattle.std.specs.Prelude.{ℕ, Bool, List, [], ◌∷◌, ◌≡◌, Option, Result, Ok, Err}
-use Rattle.kt_base.specs.declared.entry.Entry.{Entry}
-use Rattle.kt_base.specs.declared.entry.Run.{Run}
-use Rattle.kt_report.specs.Lines.{line_bytes}
-use Rattle.kt_sched.specs.declared.sink.SinkFault.{SinkFault}
+use Rattle.kt_cli.specs.Types.{Entry, Put, Run, SinkFault, StoreFault, line_bytes}
 use Rattle.kt_sched.specs.declared.sink.SinkFault.TheVariants.{Memory, Other}
-use Rattle.kt_store.specs.StoreCalls.{Put}
 use Rattle.kt_store.specs.declared.result_store.Keeping as keeping
-use Rattle.kt_store.specs.declared.store_fault.StoreFault.{StoreFault}
 use Rattle.kt_store.specs.declared.store_fault.StoreFault.TheVariants.{NoMemory}
 use Rattle.kt_cli.specs.Inner.Pages.{Says}
 use Rattle.kt_cli.specs.Inner.Stores.{put_all}

@@ -1,17 +1,9 @@
 -- What became of a plan's cases: which were recorded and printed, and how it ended.
 use Rattle.std.specs.Prelude.{ℕ, Bool, false, List, [], ◌∷◌, ◌++◌, ◌≡◌, Result, Ok, Err}
-use Rattle.kt_base.specs.declared.entry.Entry.{Entry}
-use Rattle.kt_sched.specs.declared.job.Job.{Job}
+use Rattle.kt_cli.specs.Types.{Counts, Entry, Job, Leads, NoEvent, Put, RunFault, SinkFailed, SinkFault, StoreCall, StoreFault, Totals, Trace}
 use Rattle.kt_sched.specs.declared.launcher.Launcher as launcher
-use Rattle.kt_sched.specs.declared.sink.SinkFault.{SinkFault}
-use Rattle.kt_sched.specs.declared.totals.Totals.{Totals}
-use Rattle.kt_sched.specs.declared.run_fault.RunFault.{RunFault}
-use Rattle.kt_sched.specs.declared.run_fault.RunFault.TheVariants.{NoMemory, SinkFailed}
-use Rattle.kt_sched.specs.Run.{Counts}
-use Rattle.kt_sched.specs.Trace.{Trace, NoEvent, Leads}
-use Rattle.kt_store.specs.StoreCalls.{StoreCall, Put}
+use Rattle.kt_sched.specs.declared.run_fault.RunFault.TheVariants.{NoMemory}
 use Rattle.kt_store.specs.declared.result_store.Keeping as keeping
-use Rattle.kt_store.specs.declared.store_fault.StoreFault.{StoreFault}
 use Rattle.kt_cli.specs.Inner.Pages.{Says}
 use Rattle.kt_cli.specs.Inner.Recording.{sink_fault_of}
 use Rattle.kt_cli.specs.Scenes.{Scene}

@@ -1,59 +1,93 @@
 -- Which run is shown, and what is shown of it.
-use Rattle.std.specs.Prelude.{ℕ, true, false, List, [], ◌∷◌, ◌++◌, ◌≡◌, ◌≤◌, ◌⊎◌, Option, Some, Result, Ok, Err, length, slice_get, flat_map}
-use Rattle.kt_base.specs.declared.entry.Entry.{Entry}
-use Rattle.kt_base.specs.declared.entry.Run.{Run}
-use Rattle.kt_base.specs.Shows.{Shows}
+use Rattle.std.specs.Prelude.{ℕ, Bool, true, false, List, [], ◌∷◌, ◌++◌, ◌≡◌, ◌⊎◌, Option, None, Result, Ok, Err, drop, flat_map}
+use Rattle.kt_cli.specs.Types.{Date, Entry, IsDateOf, Kind, Outputs, Pairs, Run, Shows, StoreCall, by_section, case_bytes, ending, heading, last_kind, opening, summary, titled_lines}
 use Rattle.kt_report.specs.Cases.{with_outputs}
-use Rattle.kt_report.specs.Junits.{heading, case_bytes, ending}
-use Rattle.kt_store.specs.StoreCalls.{StoreCall, Outputs}
 use Rattle.kt_store.specs.declared.result_store.CaseOutputs.{CaseOutputs}
 use Rattle.kt_store.specs.declared.result_store.Keeping as keeping
 use Rattle.kt_cli.specs.Pages.{Printed}
 use Rattle.kt_cli.specs.Stores.{Stored}
-use Rattle.kt_cli.specs.Reports.{JunitCut, Unread, filled, asked_outputs}
+use Rattle.kt_cli.specs.Reports.{DifferInOutputs, DifferInPairs, JunitCut, TextCut, Unread, asked_outputs, asked_pairs, ending_of, next_bytes}
 use Rattle.kt_cli.specs.declared.commands.report_stop.JunitStop.{JunitStop}
 use Rattle.kt_cli.specs.declared.commands.report_stop.JunitStop.TheVariants.{Refused, Report}
+use Rattle.kt_cli.specs.declared.commands.report_stop.TextStop.{TextStop}
+use Rattle.kt_cli.specs.declared.commands.report_stop.TextStop.TheVariants.{NoPairs, Output}
 
--- the store refused to be read, or the report ended early
-abbrev pub JunitOrUnread : Option ℕ → List StoreCall → List ℕ → ℕ → Type 0
-JunitOrUnread number calls bytes exit = Unread number false calls bytes exit ⊎ JunitCut number calls bytes exit
+-- the store refused to be read, or the text ended early
+abbrev pub TextOrUnread : Option ℕ → List Kind → Bool → Bool → List StoreCall → List ℕ → ℕ → Type 0
+TextOrUnread number kinds verbose failed calls bytes exit =
+    Unread number calls bytes exit ⊎ ((verbose ≡ true) × TextCut number kinds failed calls bytes exit)
+
+-- the store refused to be read, or the JUnit report ended early
+abbrev pub JunitOrUnread : Option ℕ → Bool → List StoreCall → List ℕ → ℕ → Type 0
+JunitOrUnread number failed calls bytes exit = Unread number calls bytes exit ⊎ JunitCut number failed calls bytes exit
 
 module _ {R : Type 0} (r : keeping.Ghosts R) where
   module _ (store after : R) (was now : Option (List ℕ)) where
     -- what was read of a store and printed of it, in one of two ways
-    pub record DidReport (exit : ℕ) (Means Cut : List StoreCall → List ℕ → ℕ → Type 0) : Type 0 where
+    pub record DidReport (exit : ℕ) (Means : List StoreCall → List ℕ → ℕ → Type 0) (Cut : Bool → List StoreCall → List ℕ → ℕ → Type 0) : Type 0 where
       pub calls : List StoreCall
       pub stored : Stored r calls store after
       pub bytes : List ℕ
       pub due : ℕ
-      pub is : Means calls bytes due ⊎ Cut calls bytes due
       pub printed : Printed was now exit bytes due
+      pub is : Means calls bytes due ⊎ Cut printed.failed calls bytes due
+
+    -- the entries that were due, of the run of a number, were written after one of a kind, each when its pairs had been asked for; or the first
+    -- of them, as the answer says
+    abbrev pub EndsEntries : ℕ → Option Kind → List Entry → Result (Option Kind) TextStop → Type 0
+    EndsEntries number before due (Ok last) =
+        (shown : List Entry) × DifferInPairs shown due × (last ≡ last_kind before shown) × Stored r (asked_pairs number shown) store after × Shows was now false (titled_lines true before shown)
+    EndsEntries number before due (Err (NoPairs fault)) =
+        (shown rest : List Entry) × (e : Entry) × DifferInPairs (shown ++ e ∷ rest) due × Stored r
+        (asked_pairs number shown ++ Pairs number e.position (Err fault) ∷ []) store after
+        × Shows was now false (titled_lines true before shown ++ opening (last_kind before shown) e.verdict.kind)
+    EndsEntries number before due (Err (Output fault)) =
+        (shown rest : List Entry) × DifferInPairs (shown ++ rest) due × Stored r (asked_pairs number shown) store after
+        × ((end : List ℕ) → Shows was now true (titled_lines true before shown ++ next_bytes (last_kind before shown) rest end))
+
+    pub record WritesEntries (number : ℕ) (before : Option Kind) (due : List Entry) (answer : Result (Option Kind) TextStop) : Type 0 where
+      pub ends : EndsEntries number before due answer
+
+    -- the sections of a run and its summary were written in this way
+    abbrev pub EndsText : List Kind → Run → Result (Unit {0}) TextStop → Type 0
+    EndsText kinds run (Ok done) =
+        (shown : List Entry) × (date : Date) × IsDateOf run.started date × DifferInPairs shown (by_section kinds run.entries) × Stored r (asked_pairs run.number shown) store after
+        × Shows was now false (titled_lines true None shown ++ summary date run)
+    EndsText kinds run (Err (NoPairs fault)) = EndsEntries run.number None (by_section kinds run.entries) (Err (NoPairs fault))
+    EndsText kinds run (Err (Output fault)) =
+        (shown rest : List Entry) × (date : Date) × IsDateOf run.started date × DifferInPairs (shown ++ rest)
+        (by_section kinds run.entries) × Stored r (asked_pairs run.number shown) store after
+        × Shows was now true (titled_lines true None shown ++ next_bytes (last_kind None shown) rest (summary date run))
+
+    pub record WritesText (kinds : List Kind) (run : Run) (answer : Result (Unit {0}) TextStop) : Type 0 where
+      pub ends : EndsText kinds run answer
 
     -- the outputs of an entry of the run of a number were asked for, and its case was written with them
     abbrev pub WritesCase : ℕ → Entry → Result (Unit {0}) JunitStop → Type 0
-    WritesCase number e (Ok done) = (o : CaseOutputs) × Stored r (Outputs number e.position (Ok o) ∷ []) store after × Shows was now false (case_bytes (with_outputs e o.body o.cleanup))
+    WritesCase number e (Ok done) =
+        (o : CaseOutputs) × Stored r (Outputs number e.position (Ok o) ∷ []) store after × Shows was now false (case_bytes (with_outputs e o.body o.cleanup))
     WritesCase number e (Err (Refused fault)) = Stored r (Outputs number e.position (Err fault) ∷ []) store after × (now ≡ was)
-    WritesCase number e (Err (Report fault)) = (o : CaseOutputs) × Stored r (Outputs number e.position (Ok o) ∷ []) store after × Shows was now true (case_bytes (with_outputs e o.body o.cleanup))
+    WritesCase number e (Err (Report fault)) =
+        (o : CaseOutputs) × Stored r (Outputs number e.position (Ok o) ∷ []) store after × Shows was now true (case_bytes (with_outputs e o.body o.cleanup))
 
     -- the heading of a run was written, and the cases of its first entries
     abbrev pub WritesFirst : Run → ℕ → Type 0
     WritesFirst run count =
-        (outputs : List CaseOutputs) × (length outputs ≡ count) × (count ≤ length run.entries) × Stored r (asked_outputs run.number run.entries outputs) store after
-        × Shows was now false (heading run ++ flat_map case_bytes (filled run.entries outputs))
+        (shown : List Entry) × DifferInOutputs (shown ++ drop count run.entries) run.entries × Stored r (asked_outputs run.number shown) store after
+        × Shows was now false (heading run ++ flat_map case_bytes shown)
 
-    -- the outputs of the first entries of a run were asked for, and a proper prefix of their report was written
-    abbrev pub CutsJunit : Run → Type 0
-    CutsJunit run =
-        (outputs : List CaseOutputs) × Stored r (asked_outputs run.number run.entries outputs) store after
-        × Shows was now true (heading run ++ flat_map case_bytes (filled run.entries outputs) ++ ending)
+    -- the outputs of the entries of a run were asked for, one after the other, and its report was written with them, or as far as it came
+    abbrev pub EndsJunit : Run → Result (Unit {0}) JunitStop → Type 0
+    EndsJunit run (Ok done) =
+        (shown : List Entry) × DifferInOutputs shown run.entries × Stored r (asked_outputs run.number shown) store after
+        × Shows was now false (heading run ++ flat_map case_bytes shown ++ ending)
+    EndsJunit run (Err (Refused fault)) =
+        (shown rest : List Entry) × (e : Entry) × DifferInOutputs (shown ++ e ∷ rest) run.entries
+        × Stored r (asked_outputs run.number shown ++ Outputs run.number e.position (Err fault) ∷ []) store after
+        × Shows was now false (heading run ++ flat_map case_bytes shown)
+    EndsJunit run (Err (Report fault)) =
+        (shown rest : List Entry) × DifferInOutputs (shown ++ rest) run.entries × Stored r (asked_outputs run.number shown) store after
+        × Shows was now true (heading run ++ flat_map case_bytes shown ++ ending_of rest)
 
-    -- the outputs of the entries of a run were asked for, one after the other, and its report was written with them
-    abbrev pub WritesJunit : Run → Result (Unit {0}) JunitStop → Type 0
-    WritesJunit run (Ok done) =
-        (outputs : List CaseOutputs) × (length outputs ≡ length run.entries) × Stored r (asked_outputs run.number run.entries outputs) store after
-        × Shows was now false (heading run ++ flat_map case_bytes (filled run.entries outputs) ++ ending)
-    WritesJunit run (Err (Refused fault)) =
-        (outputs : List CaseOutputs) × (e : Entry) × (slice_get run.entries (length outputs) ≡ Some e)
-        × Stored r (asked_outputs run.number run.entries outputs ++ Outputs run.number e.position (Err fault) ∷ []) store after
-        × Shows was now false (heading run ++ flat_map case_bytes (filled run.entries outputs))
-    WritesJunit run (Err (Report fault)) = CutsJunit run
+    pub record WritesJunit (run : Run) (answer : Result (Unit {0}) JunitStop) : Type 0 where
+      pub ends : EndsJunit run answer

@@ -1,11 +1,7 @@
 -- The run that is read to be shown, or why none is.
-use Rattle.std.specs.Prelude.{ℕ, Bool, List, [], ◌∷◌, ◌≡◌, Option, Some, None, Result, Ok, Err}
-use Rattle.kt_base.specs.declared.entry.Entry.{Entry}
-use Rattle.kt_base.specs.declared.entry.Run.{Run}
-use Rattle.kt_store.specs.StoreCalls.{StoreCall, Heads, Outline}
+use Rattle.std.specs.Prelude.{ℕ, List, [], ◌∷◌, ◌≡◌, Option, Some, None, Result, Ok, Err}
+use Rattle.kt_cli.specs.Types.{Entry, Heads, Outline, Run, RunHead, StoreCall, StoreFault}
 use Rattle.kt_store.specs.declared.result_store.Keeping as keeping
-use Rattle.kt_store.specs.declared.result_store.RunHead.{RunHead}
-use Rattle.kt_store.specs.declared.store_fault.StoreFault.{StoreFault}
 use Rattle.kt_cli.specs.declared.commands.report_stop.NotShown.{NotShown}
 use Rattle.kt_cli.specs.declared.commands.report_stop.NotShown.TheVariants.{NoRuns, NoRun, Refused}
 use Rattle.kt_cli.specs.FaultLines.{refusal_line}
@@ -22,16 +18,16 @@ not_shown_line (Refused fault) = refusal_line fault
 abbrev pub IsMissing : Option ℕ → List RunHead → NotShown → Type 0
 IsMissing number heads why = missing_line number heads ≡ not_shown_line why
 
--- what the store answered to one who looked for the run of a number, with pairs or without, and what was found
-pub data FindsRun (number : Option ℕ) (pairs : Bool) : List StoreCall → Result Run NotShown → Type 0 where
-  read : (heads : List RunHead) (head : RunHead) (outline : List Entry) → chosen number heads ≡ Some head → FindsRun number pairs (Heads (Ok heads) ∷ Outline head.number pairs (Ok outline) ∷ []) (Ok (run_of head outline))
-  missing : (heads : List RunHead) (why : NotShown) → chosen number heads ≡ None → IsMissing number heads why → FindsRun number pairs (Heads (Ok heads) ∷ []) (Err why)
-  no_heads : (fault : StoreFault) → FindsRun number pairs (Heads (Err fault) ∷ []) (Err (Refused fault))
-  no_outline : (heads : List RunHead) (head : RunHead) (fault : StoreFault) → chosen number heads ≡ Some head → FindsRun number pairs (Heads (Ok heads) ∷ Outline head.number pairs (Err fault) ∷ []) (Err (Refused fault))
+-- what the store answered to one who looked for the run of a number, and what was found
+pub data FindsRun (number : Option ℕ) : List StoreCall → Result Run NotShown → Type 0 where
+  read : (heads : List RunHead) (head : RunHead) (outline : List Entry) → chosen number heads ≡ Some head → FindsRun number (Heads (Ok heads) ∷ Outline head.number (Ok outline) ∷ []) (Ok (run_of head outline))
+  missing : (heads : List RunHead) (why : NotShown) → chosen number heads ≡ None → IsMissing number heads why → FindsRun number (Heads (Ok heads) ∷ []) (Err why)
+  no_heads : (fault : StoreFault) → FindsRun number (Heads (Err fault) ∷ []) (Err (Refused fault))
+  no_outline : (heads : List RunHead) (head : RunHead) (fault : StoreFault) → chosen number heads ≡ Some head → FindsRun number (Heads (Ok heads) ∷ Outline head.number (Err fault) ∷ []) (Err (Refused fault))
 
 module _ {R : Type 0} (r : keeping.Ghosts R) where
   -- the calls on a store by which a run was looked for
-  pub record ReadsRun (number : Option ℕ) (pairs : Bool) (old new : R) (answer : Result Run NotShown) : Type 0 where
+  pub record ReadsRun (number : Option ℕ) (old new : R) (answer : Result Run NotShown) : Type 0 where
     pub calls : List StoreCall
     pub stored : Stored r calls old new
-    pub finds : FindsRun number pairs calls answer
+    pub finds : FindsRun number calls answer

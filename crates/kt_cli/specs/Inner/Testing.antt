@@ -1,8 +1,7 @@
 -- What becomes of a plan that is run over a store: the calls on the store, the bytes and the exit.
 use Rattle.std.specs.Prelude.{ℕ, List, ◌⊎◌}
 use Rattle.kt_sched.specs.declared.launcher.Launcher as launcher
-use Rattle.kt_sched.specs.Trace.{Trace, Leads}
-use Rattle.kt_store.specs.StoreCalls.{StoreCall}
+use Rattle.kt_cli.specs.Types.{Leads, StoreCall, Trace}
 use Rattle.kt_store.specs.declared.result_store.Keeping as keeping
 use Rattle.kt_cli.specs.Pages.{Printed}
 use Rattle.kt_cli.specs.Scenes.{Scene}

@@ -1,5 +1,6 @@
 ghost use Rattle.std.specs.Prelude.{◌≡◌};
 ghost use Rattle.kt_cli.specs.declared.commands.report_stop.JunitStop.TheVariants as stop;
+ghost use Rattle.kt_cli.specs.declared.commands.report_stop.TextStop.TheVariants as text;
 ghost use Rattle.kt_report.specs.declared.report_fault.ReportFault.TheVariants as fault;
 
 use kt_base::OutputFault;
@@ -15,6 +16,30 @@ pub enum NotShown {
     NoRun(u64),
     /// The store refused a call.
     Refused(StoreFault),
+}
+
+/// Why a text report that shows pairs ends early.
+#[derive(Clone, Copy)]
+pub enum TextStop {
+    /// The store refused the pairs of an entry.
+    NoPairs(StoreFault),
+    Output(OutputFault),
+}
+
+impl From<StoreFault> for TextStop {
+    ghost from_gives = { λ refusal e. e ≡ text.NoPairs refusal };
+
+    fn from(refusal: StoreFault) -> TextStop {
+        TextStop::NoPairs(refusal)
+    }
+}
+
+impl From<OutputFault> for TextStop {
+    ghost from_gives = { λ refusal e. e ≡ text.Output refusal };
+
+    fn from(refusal: OutputFault) -> TextStop {
+        TextStop::Output(refusal)
+    }
 }
 
 /// Why a JUnit report ends early.

@@ -1,12 +1,15 @@
-ghost use Rattle.std.specs.Prelude.{◌≡◌, is_err};
-ghost use Rattle.kt_cli.specs.Common.{utf8, Shows, JunitOrUnread, DidReport, WritesCase, WritesJunit, chosen, Reported, ReportedJunit, Unread, IsMissing, ReadsRun, not_shown_line};
+ghost use Rattle.std.specs.Prelude.{◌≡◌, ◌∷◌, [], None, is_err};
+ghost use Rattle.kt_cli.specs.Common.{utf8, Shows, TextOrUnread, JunitOrUnread, DidReport, WritesCase, WritesEntries, WritesJunit, WritesText, by_section, chosen, chosen_of, Reported, ReportedJunit, IsMissing, ReadsRun, not_shown_line};
 
 use crate::Exit;
-use crate::commands::report_stop::{JunitStop, NotShown};
+use crate::commands::report_stop::{JunitStop, NotShown, TextStop};
 use crate::messages::{write_memory, write_refusal};
 use crate::output::exit::{FAILED, ended};
 use kt_base::{Decimal, Entry, Items, Kind, OutputFault, Run, emit, emit_all};
-use kt_report::{ReportFault, junit_case, junit_end, junit_heading, text};
+use kt_report::{
+    ReportFault, date_of, is_chosen, junit_case, junit_end, junit_heading, same_kind, text,
+    text_entry, text_order, text_summary, text_title,
+};
 use kt_store::{ResultStore, RunHead};
 use std::alloc::Global;
 use std::io::Write;
@@ -35,13 +38,9 @@ fn missing(number: Option<u64>, heads: &[RunHead]) -> NotShown
     }
 }
 
-/// The run that is asked for, or else the last one, with its entries without their outputs.
-fn read_run<R: ResultStore>(
-    number: Option<u64>,
-    pairs: bool,
-    results: &mut R,
-) -> Result<Run, NotShown>
-    ensures { ReadsRun R.Keeping number pairs results.old results.new result }
+/// The run that is asked for, or else the last one, with its entries without their pairs and their outputs.
+fn read_run<R: ResultStore>(number: Option<u64>, results: &mut R) -> Result<Run, NotShown>
+    ensures { ReadsRun R.Keeping number results.old results.new result }
 {
     let heads = match results.runs() {
         Ok(heads) => heads,
@@ -50,7 +49,7 @@ fn read_run<R: ResultStore>(
     let Some(head) = chosen_head(number, heads.as_slice()) else {
         return Err(missing(number, heads.as_slice()));
     };
-    match results.outline(head.number, pairs) {
+    match results.outline(head.number) {
         Ok(entries) => Ok(Run {
             number: head.number,
             started: head.started,
@@ -82,7 +81,85 @@ fn write_not_shown<O: Write>(why: NotShown, out: &mut O) -> Result<(), OutputFau
     }
 }
 
-/// The command `report`. If `verbose` is set, what a case declared stands beneath its line.
+/// Writes an entry of a text report after one of kind `before`, and the pairs below it, for which it
+/// asks. Returns its kind.
+fn write_entry<R: ResultStore, O: Write>(
+    run: u64,
+    before: Option<Kind>,
+    entry: &Entry,
+    results: &mut R,
+    out: &mut O,
+) -> Result<Option<Kind>, TextStop>
+    ensures { WritesEntries R.Keeping results.old results.new (O.contents out.old)
+        (O.contents out.new) run before (entry.now ∷ []) result }
+{
+    let kind = entry.verdict.kind();
+    text_title(before, kind, out)?;
+    let pairs = results.pairs(run, entry.position)?;
+    text_entry(entry, &pairs, out)?;
+    Ok(Some(kind))
+}
+
+/// Writes the section of a kind, if it is chosen. Returns the kind of the last entry that is written.
+fn write_section<R: ResultStore, O: Write>(
+    run: &Run,
+    kinds: &[Kind],
+    kind: Kind,
+    before: Option<Kind>,
+    results: &mut R,
+    out: &mut O,
+) -> Result<Option<Kind>, TextStop>
+    ensures { WritesEntries R.Keeping results.old results.new (O.contents out.old)
+        (O.contents out.new) run.now.number before (chosen_of kinds.now run.now.entries kind)
+        result }
+{
+    if !is_chosen(kinds, kind) {
+        return Ok(before);
+    }
+    let mut last = before;
+    for entry in run.entries.as_slice() {
+        if same_kind(kind, entry.verdict.kind()) {
+            last = write_entry(run.number, last, entry, results, out)?;
+        }
+    }
+    Ok(last)
+}
+
+/// Writes the sections of the chosen kinds.
+fn write_sections<R: ResultStore, O: Write>(
+    run: &Run,
+    kinds: &[Kind],
+    results: &mut R,
+    out: &mut O,
+) -> Result<Option<Kind>, TextStop>
+    ensures { WritesEntries R.Keeping results.old results.new (O.contents out.old)
+        (O.contents out.new) run.now.number None (by_section kinds.now run.now.entries) result }
+{
+    let mut last = None;
+    for kind in text_order() {
+        last = write_section(run, kinds, *kind, last, results, out)?;
+    }
+    Ok(last)
+}
+
+/// Writes the text report, with pairs, of a run whose entries have none. It never holds the pairs of
+/// more than one entry.
+fn write_text<R: ResultStore, O: Write>(
+    run: &Run,
+    kinds: &[Kind],
+    results: &mut R,
+    out: &mut O,
+) -> Result<(), TextStop>
+    ensures { WritesText R.Keeping results.old results.new (O.contents out.old)
+        (O.contents out.new) kinds.now run.now result }
+{
+    let date = date_of(run.started);
+    write_sections(run, kinds, results, out)?;
+    text_summary(date, run, out)?;
+    Ok(())
+}
+
+/// The command `report`. If `verbose` is set, what a case declared stands below its line.
 pub fn report<R: ResultStore, O: Write>(
     number: Option<u64>,
     kinds: &[Kind],
@@ -92,11 +169,19 @@ pub fn report<R: ResultStore, O: Write>(
 ) -> Exit
     ensures { DidReport R.Keeping results.old results.new (O.contents out.old)
         (O.contents out.new) result.status (Reported number kinds.now verbose)
-        (Unread number verbose) }
+        (TextOrUnread number kinds.now verbose) }
 {
-    match read_run(number, verbose, results) {
-        Ok(run) => ended(text(&run, kinds, verbose, out), 0),
-        Err(why) => ended(write_not_shown(why, out), FAILED),
+    let run = match read_run(number, results) {
+        Ok(run) => run,
+        Err(why) => return ended(write_not_shown(why, out), FAILED),
+    };
+    if !verbose {
+        return ended(text(&run, kinds, false, out), 0);
+    }
+    match write_text(&run, kinds, results, out) {
+        Ok(()) => Exit { status: 0 },
+        Err(TextStop::NoPairs(fault)) => ended(write_refusal(fault, out), FAILED),
+        Err(TextStop::Output(_)) => Exit { status: FAILED },
     }
 }
 
@@ -145,7 +230,7 @@ pub fn report_junit<R: ResultStore, O: Write>(
     ensures { DidReport R.Keeping results.old results.new (O.contents out.old)
         (O.contents out.new) result.status (ReportedJunit number) (JunitOrUnread number) }
 {
-    let run = match read_run(number, false, results) {
+    let run = match read_run(number, results) {
         Ok(run) => run,
         Err(why) => return ended(write_not_shown(why, out), FAILED),
     };

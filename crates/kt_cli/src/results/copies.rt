@@ -1,4 +1,4 @@
-ghost use Rattle.std.specs.Prelude.{◌≡◌, map, true, IfOk};
+ghost use Rattle.std.specs.Prelude.{◌≡◌, map, IfOk};
 ghost use Rattle.kt_cli.specs.Common.{outlined, outputs_of};
 
 use kt_base::{Entry, NoMemory, Output, Text, Variables, Verdict};
@@ -32,9 +32,9 @@ pub fn copy_of_outputs(entry: &Entry) -> Result<CaseOutputs, NoMemory>
     })
 }
 
-/// A copy of an entry without its outputs. Its reason is kept as its text.
-fn copy_without(alloc: Global, entry: &Entry) -> Result<Entry, NoMemory>
-    ensures { IfOk result (λ copy. copy ≡ outlined true entry.now) }
+/// A copy of an entry without its pairs and its outputs. Its reason is kept as its text.
+fn outlined(alloc: Global, entry: &Entry) -> Result<Entry, NoMemory>
+    ensures { IfOk result (λ copy. copy ≡ outlined entry.now) }
 {
     Ok(Entry {
         position: entry.position,
@@ -43,7 +43,7 @@ fn copy_without(alloc: Global, entry: &Entry) -> Result<Entry, NoMemory>
         verdict: copy_of_verdict(alloc, &entry.verdict)?,
         started: entry.started,
         millis: entry.millis,
-        meta: entry.meta.copy()?,
+        meta: Variables::new(alloc),
         body: no_output(alloc),
         cleanup: no_output(alloc),
     })
@@ -53,30 +53,20 @@ fn copy_without(alloc: Global, entry: &Entry) -> Result<Entry, NoMemory>
 pub fn copy_of_entry(alloc: Global, entry: &Entry) -> Result<Entry, NoMemory>
     ensures { IfOk result (λ copy. copy ≡ entry.now) }
 {
-    let mut copy = copy_without(alloc, entry)?;
+    let mut copy = outlined(alloc, entry)?;
+    copy.meta = entry.meta.copy()?;
     copy.body = copy_of_output(&entry.body)?;
     copy.cleanup = copy_of_output(&entry.cleanup)?;
     Ok(copy)
 }
 
-/// A copy of an entry without its outputs, with its pairs if they are asked for.
-fn outlined(alloc: Global, entry: &Entry, pairs: bool) -> Result<Entry, NoMemory>
-    ensures { IfOk result (λ copy. copy ≡ outlined pairs entry.now) }
-{
-    let mut copy = copy_without(alloc, entry)?;
-    if !pairs {
-        copy.meta = Variables::new(alloc);
-    }
-    Ok(copy)
-}
-
-/// Copies of entries without their outputs, with their pairs if they are asked for.
-pub fn outlined_all(alloc: Global, entries: &[Entry], pairs: bool) -> Result<Vec<Entry>, NoMemory>
-    ensures { IfOk result (λ copies. copies.items ≡ map (outlined pairs) entries.now) }
+/// Copies of entries without their pairs and their outputs.
+pub fn outlined_all(alloc: Global, entries: &[Entry]) -> Result<Vec<Entry>, NoMemory>
+    ensures { IfOk result (λ copies. copies.items ≡ map outlined entries.now) }
 {
     let mut copies = Vec::new(alloc);
     for entry in entries {
-        copies.push(outlined(alloc, entry, pairs)?)?;
+        copies.push(outlined(alloc, entry)?)?;
     }
     Ok(copies)
 }

@@ -1,5 +1,5 @@
 use crate::results::copies::{copy_of_entry, copy_of_outputs, outlined_all};
-use kt_base::{Entry, Items, NoMemory, Run};
+use kt_base::{Entry, Items, NoMemory, Run, Variables};
 use kt_store::{CaseOutputs, Keeping, ResultStore, RunHead, StoreFault};
 use std::alloc::Global;
 use std::marker::Model;
@@ -27,7 +27,7 @@ impl Model for MemRuns {
 
 impl MemRuns {
     ghost use Rattle.std.specs.Prelude.{◌≡◌, [], IfErr};
-    ghost use Rattle.kt_cli.specs.Common.{IsStoreFault, Began, Put, Finished, Heads, Outline, Outputs, seen_as, FindsPlace, ServesInMemory};
+    ghost use Rattle.kt_cli.specs.Common.{IsStoreFault, Began, Put, Finished, Heads, Outline, Pairs, Outputs, seen_as, FindsPlace, ServesInMemory};
 
     /// No runs. Allocates nothing.
     pub fn new(alloc: Global) -> MemRuns
@@ -97,13 +97,28 @@ impl MemRuns {
         Ok(())
     }
 
-    fn outline_of(&self, number: u64, pairs: bool) -> Result<Vec<Entry>, StoreFault>
+    fn outline_of(&self, number: u64) -> Result<Vec<Entry>, StoreFault>
         ensures { ServesInMemory self.now
-            (Outline number pairs (seen_as (λ found. found.items) result)) self.now }
+            (Outline number (seen_as (λ found. found.items) result)) self.now }
     {
         let place = self.place(number)?;
-        match outlined_all(self.alloc, self.runs[place].entries.as_slice(), pairs) {
+        match outlined_all(self.alloc, self.runs[place].entries.as_slice()) {
             Ok(entries) => Ok(entries),
+            Err(refusal) => Err(short(refusal)),
+        }
+    }
+
+    fn pairs_at(&self, number: u64, position: u32) -> Result<Variables, StoreFault>
+        ensures { ServesInMemory self.now (Pairs number position result) self.now }
+    {
+        let Ok(place) = self.place(number) else {
+            return Ok(Variables::new(self.alloc));
+        };
+        let Some(entry) = entry_at(self.runs[place].entries.as_slice(), position) else {
+            return Ok(Variables::new(self.alloc));
+        };
+        match entry.meta.copy() {
+            Ok(pairs) => Ok(pairs),
             Err(refusal) => Err(short(refusal)),
         }
     }
@@ -169,8 +184,12 @@ impl ResultStore for MemRuns {
         self.heads()
     }
 
-    fn outline(&mut self, run: u64, pairs: bool) -> Result<Vec<Entry>, StoreFault> {
-        self.outline_of(run, pairs)
+    fn outline(&mut self, run: u64) -> Result<Vec<Entry>, StoreFault> {
+        self.outline_of(run)
+    }
+
+    fn pairs(&mut self, run: u64, position: u32) -> Result<Variables, StoreFault> {
+        self.pairs_at(run, position)
     }
 
     fn outputs(&mut self, run: u64, position: u32) -> Result<CaseOutputs, StoreFault> {

@@ -268,7 +268,7 @@ pub(crate) fn row_behind<S: Store>(
 
 /// These columns of the rows of a table that the index of its key has under a key, in its order. One row is held at a
 /// time.
-pub(crate) fn rows_behind<S: Store>(
+fn rows_behind<S: Store>(
     store: &mut S,
     alloc: Global,
     table: &Table,
@@ -298,18 +298,18 @@ pub(crate) fn rows_behind<S: Store>(
     Err(FAULTY)
 }
 
-/// These columns of the rows of a run, in the order of their key. The last place before them is read too, and its row:
-/// it may be one of these that was damaged.
-pub(crate) fn rows_in<S: Store>(
+/// The same, after the last place was read that begins with the key `before` or less, and its row: it may be one of these
+/// that was damaged.
+pub(crate) fn rows_after<S: Store>(
     store: &mut S,
     alloc: Global,
     table: &Table,
-    run: u64,
+    before: &row::Row,
+    key: &row::Row,
     columns: &[usize],
 ) -> Result<Vec<Row>, Trouble>
-    requires { run < 2 ^ 63 }
     ensures all { IfOk result (λ rows. IsClean (S.Store.view store.new)
-        → ShowsUnder table.now.tree table.now.index (Int (pos run) ∷ []) columns.now
+        → ShowsUnder table.now.tree table.now.index key.now columns.now
         (S.Store.view store.old).trees rows.items) }
     ensures wide { IfOk result (λ rows. AreWide (length columns.now) rows.items) }
     ensures sound { OnOk result (IsClean (S.Store.view store.new)
@@ -317,13 +317,11 @@ pub(crate) fn rows_in<S: Store>(
     ensures looks { Looks S.Store store.old store.new }
 {
     sure(are_shaped(store, table))?;
-    let before = number_row(alloc, run.saturating_sub(1))?;
-    store.seek(0, table.index, &before, Direction::Backward)?;
+    store.seek(0, table.index, before, Direction::Backward)?;
     let mut found = Found::new(alloc);
-    next_row(store, alloc, table, &before, &mut found)?;
-    drop((before, found));
-    let key = number_row(alloc, run)?;
-    rows_behind(store, alloc, table, &key, columns)
+    next_row(store, alloc, table, before, &mut found)?;
+    drop(found);
+    rows_behind(store, alloc, table, key, columns)
 }
 
 /// How many places the index of a table's key has under a key.

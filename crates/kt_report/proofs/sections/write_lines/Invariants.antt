@@ -1,8 +1,9 @@
-use Rattle.std.proofs.Common.{◌≡◌, ℕ, List, ◌++◌, false, drop, flat_map}
-use Rattle.kt_report.proofs.Common.{Shows, entry_bytes, entries_of}
+use Rattle.std.proofs.Common.{false, take, flat_map}
+use Rattle.kt_report.proofs.Common.{Shows, entry_bytes}
+use Rattle.kt_report.proofs.LineSteps.{if_of}
 use Rattle.kt_report.proofs.sections.write_lines.Given as goal
 
--- what was written, and the lines of the rest
+-- the lines so far were written
 abbrev pub invariant-loop-entry : goal.invariant-loop-entry
-invariant-loop-entry g l = (front : List ℕ) × Shows (g.W.Write.contents l.fn.out) (g.W.Write.contents l.out) false front
-    × (front ++ flat_map (entry_bytes l.verbose) (entries_of l.kind (drop l.entry-index l.entries)) ≡ flat_map (entry_bytes l.verbose) (entries_of l.kind l.entries))
+invariant-loop-entry g l =
+    Shows (g.W.Write.contents l.fn.out) (g.W.Write.contents l.out) false (flat_map (if_of (entry_bytes l.verbose) l.kind) (take l.entry-index l.entries))

@@ -8,4 +8,4 @@ returns-in_err-write_sections g c =
 
 pub returns : goal.returns
 returns g c =
-    (c.date_of-date.result, c.date_of-date.ensures, shows_both (shows_as (ap (sections c.args.verbose c.args.kinds.now) c.as_slice.ensures) c.in_ok-write_sections.ensures) c.write_summary.ensures)
+    (c.date_of-date.result, c.date_of-date.ensures, shows_both (shows_as (ap (sections c.args.verbose c.args.kinds.now) c.as_slice.ensures) c.in_ok-write_sections.ensures) c.text_summary.ensures)

@@ -1,4 +1,5 @@
-use Rattle.kt_store.proofs.Common.{[], ap, arith, get_or, head_columns, head_of, length, length-map, map, refl, rules, subst, suc, sym, take, ◌++◌, ◌+◌, ◌<◌, ◌∙◌, ◌∷◌, ◌≡◌}
+use Rattle.kt_store.proofs.Common.{[], all_from, ap, arith, get_or, head_columns, head_of, length, length-map, map, refl, rules, subst, suc, sym, take, ◌++◌, ◌+◌, ◌<◌, ◌∙◌, ◌∷◌, ◌≡◌}
+use Rattle.std.specs.Prelude.{⊤}
 use Rattle.kt_store.proofs.RunLemmas.{one_more}
 use Rattle.kt_store.proofs.heads.heads_in.Goals as goal
 
@@ -6,8 +7,8 @@ pub loop-row-preserved : goal.loop-row-preserved
 loop-row-preserved c runs are =
     let pushed : c.add.new.items.items ≡ c.loop-row.heads.items ++ c.in_ok-head.head ∷ [] = search rules in
     let low : c.loop-row.row-index < length runs = omega (arith, c.loop-row-test.true, ap length are, length-map runs head_columns) in
-    let it = one_more head_columns head_of runs c.loop-row.row-index c.row-item.result low (subst (λ l. c.row-item.result ≡ get_or l c.loop-row.row-index c.row-item.result) are c.row-item.is) in
+    let it = one_more (λ _. ⊤) head_columns head_of runs c.loop-row.row-index c.row-item.result (all_from (λ _. ⊤) runs (λ _ _. tt)) low (subst (λ l. c.row-item.result ≡ get_or l c.loop-row.row-index c.row-item.result) are c.row-item.is) in
     let head : c.in_ok-head.head ≡ head_of it.0 = c.in_ok-head.ensures.head it.0 it.1 in
-    let more : map head_of (take (suc c.loop-row.row-index) runs) ≡ c.loop-row.heads.items ++ c.in_ok-head.head ∷ [] = it.2 ∙ rw (head, c.loop-row.invariant runs are) refl in
+    let more : map head_of (take (suc c.loop-row.row-index) runs) ≡ c.loop-row.heads.items ++ c.in_ok-head.head ∷ [] = it.3 ∙ rw (head, c.loop-row.invariant runs are) refl in
     let place : suc c.loop-row.row-index ≡ c.loop-row.row-index + 1 = omega arith in
     pushed ∙ sym more ∙ ap (λ k. map head_of (take k runs)) place

@@ -10,9 +10,11 @@ all_entries-requires-clause-placed g c = still_at g.S.Store _ _ c.args.places c.
 
 pub returns-clause-served : goal.returns-clause-served
 returns-clause-served g c =
-    looked_serves g.S.Store _ _ (looks_then g.S.Store _ _ _ c.stored_run.ensures.looks c.all_entries.ensures.looks) (Outline c.args.run c.args.pairs _) (λ runs. refl) (λ runs may left. left) (λ runs has clean.
+    let entries = looks_then g.S.Store _ _ _ c.stored_run.ensures.looks c.all_entries.ensures.looks in
+    looked_serves g.S.Store _ _ (looks_then g.S.Store _ _ _ entries c.check_entries.ensures.looks) (Outline c.args.run _) (λ runs. refl) (λ runs may left. left) (λ runs has late.
+    let clean = c.check_entries.ensures.looks.clean late in
     let is = c.in_ok-row.ensures.found runs has (c.all_entries.ensures.looks.clean clean) in (
       is.0,
       is.1,
-      c.in_ok-found.ensures.all runs (still_has g.S.Store _ _ c.stored_run.ensures.looks runs has) clean ∙ ap (λ o. map (outlined c.args.pairs) (entries_of o)) is.1,
+      c.in_ok-found.ensures.all runs (still_has g.S.Store _ _ c.stored_run.ensures.looks runs has) clean ∙ ap (λ o. map outlined (entries_of o)) is.1,
     ))

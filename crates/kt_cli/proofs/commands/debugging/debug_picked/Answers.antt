@@ -1,4 +1,4 @@
-use Rattle.std.proofs.Common.{rules, ◌≡◌, ◌∷◌, ◌∙◌, List, ap, refl, sym, take, Ok, Err, true}
+use Rattle.std.proofs.Common.{rules, ◌≡◌, ◌∙◌, List, ap, refl, sym, take, Ok, Err, true}
 use Rattle.kt_cli.proofs.Common.{Candidate, idle, world_of}
 use Rattle.kt_words.specs.declared.command.Command.TheVariants as command
 use Rattle.kt_cli.proofs.Testings.{picked_only, short_only, printed_as, debug_only, debug_short}

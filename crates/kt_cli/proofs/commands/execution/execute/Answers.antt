@@ -1,12 +1,19 @@
-use Rattle.std.proofs.Common.{rules, ◌≡◌}
+use Rattle.std.proofs.Common.{rules}
 use Rattle.kt_cli.proofs.Common.{world_of}
-use Rattle.kt_words.specs.declared.command.Command.TheVariants as command
-use Rattle.kt_cli.proofs.Testings.{did_report, did_junit}
+use Rattle.kt_cli.proofs.Testings.{did_told, did_report, did_junit}
 use Rattle.kt_cli.proofs.commands.execution.execute.Goals as goal
+
+pub returns-in-List-clause-did : goal.returns-in-List-clause-did
+returns-in-List-clause-did g c = rw c.in-List.is (did_told (world_of g.W.Tree g.W.Launcher g.W.World) g.R.Keeping _ _ _ _ _ _ _ c.list.ensures.told)
+
+pub returns-in-Debug-clause-did : goal.returns-in-Debug-clause-did
+returns-in-Debug-clause-did g c =
+    rw c.in-Debug.is (did_told (world_of g.W.Tree g.W.Launcher g.W.World) g.R.Keeping _ _ _ _ _ _ _ c.debug.ensures.told)
 
 pub returns-in-Report-clause-did : goal.returns-in-Report-clause-did
 returns-in-Report-clause-did g c =
-    did_report (world_of g.W.Tree g.W.Launcher g.W.World) g.R.Keeping _ _ _ _ _ _ _ c.in-Report.options c.as_slice.result.now c.in-Report.verbose (search rules) c.report.ensures
+    did_report (world_of g.W.Tree g.W.Launcher g.W.World) g.R.Keeping _ _ _ _ _ _ _ c.in-Report.options c.as_slice.result.now c.in-Report.verbose
+    (search rules) c.report.ensures
 
 pub returns-in-ReportJunit-clause-did : goal.returns-in-ReportJunit-clause-did
 returns-in-ReportJunit-clause-did g c =

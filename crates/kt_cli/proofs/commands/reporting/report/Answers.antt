@@ -1,9 +1,35 @@
-use Rattle.kt_cli.proofs.Common.{no_run}
-use Rattle.kt_cli.proofs.ShownRuns.{did_tell, did_not_tell}
+use Rattle.std.proofs.Common.{rules, ◌≡◌, true, false, inl, refl}
+use Rattle.kt_cli.proofs.Common.{Reported, TextOrUnread, no_run}
+use Rattle.kt_cli.proofs.ShownRuns.{did_tell, did_not_tell, did_tell_pairs, did_refuse_pairs, did_stop_pairs}
 use Rattle.kt_cli.proofs.commands.reporting.report.Goals as goal
 
-pub returns-in-Ok : goal.returns-in-Ok
-returns-in-Ok g c = did_tell g.R.Keeping c.args.number _ _ _ _ _ c.args.kinds.now c.args.verbose c.in-Ok.run' _ c.in-Ok.ensures c.text.ensures c.ended.ensures
-
 pub returns-in-Err : goal.returns-in-Err
-returns-in-Err g c = did_not_tell g.R.Keeping c.args.number _ _ _ _ _ _ _ c.args.verbose c.in-Err.why _ no_run (λ calls bytes u. u) c.in-Err.ensures c.write_not_shown.ensures c.ended-in-Err.ensures
+returns-in-Err g c =
+    did_not_tell g.R.Keeping c.args.number _ _ _ _ _ (Reported c.args.number c.args.kinds.now c.args.verbose)
+    (TextOrUnread c.args.number c.args.kinds.now c.args.verbose) c.in-Err.why _ (no_run c.args.verbose) (λ calls bytes u. inl u)
+    c.in-Err.ensures c.write_not_shown.ensures c.ended.ensures
+
+pub returns-then-not-verbose : goal.returns-then-not-verbose
+returns-then-not-verbose g c =
+    let off : c.args.verbose ≡ false = search rules in
+    did_tell g.R.Keeping c.args.number _ _ _ _ _ c.args.kinds.now c.args.verbose _ c.in-Ok.run' _ off c.in-Ok.ensures.stored c.in-Ok.ensures.finds
+    c.text.ensures c.ended-then-not-verbose.ensures
+
+pub returns-in-Ok-write_text : goal.returns-in-Ok-write_text
+returns-in-Ok-write_text g c =
+    let on : c.args.verbose ≡ true = search rules in
+    did_tell_pairs g.R.Keeping c.args.number _ _ _ _ _ c.args.kinds.now c.args.verbose _ _ c.in-Ok.run' on c.in-Ok.ensures.stored c.in-Ok.ensures.finds
+    c.in-Ok-write_text.ensures refl
+
+pub returns-in-Err-NoPairs : goal.returns-in-Err-NoPairs
+returns-in-Err-NoPairs g c =
+    let on : c.args.verbose ≡ true = search rules in
+    did_refuse_pairs g.R.Keeping c.args.number _ _ _ _ _ c.args.kinds.now c.args.verbose _ _ c.in-Ok.run' _ _ c.in-Err-NoPairs.fault on
+    c.in-Ok.ensures.stored c.in-Ok.ensures.finds (rw c.in-Err-NoPairs.field-0-is at c.in-Err-NoPairs.ensures)
+    c.write_refusal.ensures c.ended-in-Err-NoPairs.ensures
+
+pub returns : goal.returns
+returns g c =
+    let on : c.args.verbose ≡ true = search rules in
+    did_stop_pairs g.R.Keeping c.args.number _ _ _ _ _ c.args.kinds.now c.args.verbose _ _ c.in-Ok.run' _ on c.in-Ok.ensures.stored c.in-Ok.ensures.finds
+    (rw c.in-Err-Output.field-0-is at c.in-Err-Output.ensures) refl

@@ -1,27 +1,29 @@
-use Rattle.std.proofs.Common.{Err, false, inl, refl, subst}
-use Rattle.kt_cli.proofs.Common.{WritesJunit}
+use Rattle.std.proofs.Common.{inl, refl}
+use Rattle.kt_cli.proofs.Common.{JunitOrUnread, ReportedJunit}
 use Rattle.kt_cli.specs.Reports.{no_run}
-use Rattle.kt_cli.specs.declared.commands.report_stop.JunitStop.{JunitStop}
 use Rattle.kt_cli.proofs.ShownRuns.{did_tell_junit, did_not_tell, did_refuse, did_cut, did_stop}
 use Rattle.kt_cli.proofs.commands.reporting.report_junit.Goals as goal
 
 pub returns-in-Err : goal.returns-in-Err
-returns-in-Err g c = did_not_tell g.R.Keeping c.args.number _ _ _ _ _ _ _ false c.in-Err.why _ no_run (λ calls bytes u. inl u) c.in-Err.ensures c.write_not_shown.ensures c.ended.ensures
+returns-in-Err g c =
+    did_not_tell g.R.Keeping c.args.number _ _ _ _ _ (ReportedJunit c.args.number) (JunitOrUnread c.args.number) c.in-Err.why _ no_run
+    (λ calls bytes u. inl u) c.in-Err.ensures c.write_not_shown.ensures c.ended.ensures
 
 pub returns-in-Ok-write_junit : goal.returns-in-Ok-write_junit
-returns-in-Ok-write_junit g c = did_tell_junit g.R.Keeping c.args.number _ _ _ _ _ _ c.in-Ok.run' c.in-Ok.ensures c.in-Ok-write_junit.ensures refl
+returns-in-Ok-write_junit g c =
+    did_tell_junit g.R.Keeping c.args.number _ _ _ _ _ _ _ c.in-Ok.run' c.in-Ok.ensures.stored c.in-Ok.ensures.finds c.in-Ok-write_junit.ensures refl
 
 pub returns-in-Err-Refused : goal.returns-in-Err-Refused
 returns-in-Err-Refused g c =
-    did_refuse g.R.Keeping c.args.number _ _ _ _ _ _ c.in-Ok.run' _ _ c.in-Err-Refused.fault c.in-Ok.ensures
-    (subst (λ (stop : JunitStop). WritesJunit g.R.Keeping c.read_run.new.results c.write_junit.new.results (g.O.Write.contents c.args.out.now) (g.O.Write.contents c.write_junit.new.out) c.in-Ok.run' (Err stop)) c.in-Err-Refused.field-0-is c.in-Err-Refused.ensures) c.write_refusal.ensures c.ended-in-Err-Refused.ensures
+    did_refuse g.R.Keeping c.args.number _ _ _ _ _ _ _ c.in-Ok.run' _ _ c.in-Err-Refused.fault c.in-Ok.ensures.stored c.in-Ok.ensures.finds
+    (rw c.in-Err-Refused.field-0-is at c.in-Err-Refused.ensures) c.write_refusal.ensures c.ended-in-Err-Refused.ensures
 
 pub returns-in-Err-Report-Output : goal.returns-in-Err-Report-Output
 returns-in-Err-Report-Output g c =
-    did_stop g.R.Keeping c.args.number _ _ _ _ _ _ c.in-Ok.run' _ c.in-Ok.ensures
-    (subst (λ (stop : JunitStop). WritesJunit g.R.Keeping c.read_run.new.results c.write_junit.new.results (g.O.Write.contents c.args.out.now) (g.O.Write.contents c.write_junit.new.out) c.in-Ok.run' (Err stop)) c.in-Err-Report-Output.field-0-is c.in-Err-Report-Output.ensures) refl refl
+    did_stop g.R.Keeping c.args.number _ _ _ _ _ _ _ c.in-Ok.run' _ c.in-Ok.ensures.stored c.in-Ok.ensures.finds
+    (rw c.in-Err-Report-Output.field-0-is at c.in-Err-Report-Output.ensures) refl
 
 pub returns : goal.returns
 returns g c =
-    did_cut g.R.Keeping c.args.number _ _ _ _ _ _ c.in-Ok.run' _ c.in-Ok.ensures
-    (subst (λ (stop : JunitStop). WritesJunit g.R.Keeping c.read_run.new.results c.write_junit.new.results (g.O.Write.contents c.args.out.now) (g.O.Write.contents c.write_junit.new.out) c.in-Ok.run' (Err stop)) c.in-Err-Report-NoMemory.field-0-is c.in-Err-Report-NoMemory.ensures) _ c.write_memory.ensures c.ended-in-Err-Report-NoMemory.ensures
+    did_cut g.R.Keeping c.args.number _ _ _ _ _ _ _ c.in-Ok.run' _ _ _ c.in-Ok.ensures.stored c.in-Ok.ensures.finds
+    (rw c.in-Err-Report-NoMemory.field-0-is at c.in-Err-Report-NoMemory.ensures) c.write_memory.ensures c.ended-in-Err-Report-NoMemory.ensures

@@ -1,5 +1,5 @@
 use Rattle.std.proofs.Common.{Ok, Err, rules, ◌≡◌}
-use Rattle.kt_cli.proofs.Common.{Began, Finished, run_for}
+use Rattle.kt_cli.proofs.Common.{Began, Finished}
 use Rattle.kt_cli.proofs.PlanRuns.{ran_unbegun, ran_failed, ran_unfinished, ran_all}
 use Rattle.kt_cli.proofs.StoreChains.{stored_call}
 use Rattle.kt_cli.proofs.commands.testing.run_plan.Goals as goal

@@ -4,4 +4,4 @@ use Rattle.kt_cli.proofs.results.copies.outlined_all.Given as goal
 
 -- the copies of the rest go behind those so far
 abbrev pub invariant-loop-entry : goal.invariant-loop-entry
-invariant-loop-entry l = map (outlined l.pairs) l.entries ≡ l.copies.items ++ map (outlined l.pairs) (drop l.entry-index l.entries)
+invariant-loop-entry l = map outlined l.entries ≡ l.copies.items ++ map outlined (drop l.entry-index l.entries)

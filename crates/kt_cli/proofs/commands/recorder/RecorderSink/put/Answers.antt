@@ -1,4 +1,4 @@
-use Rattle.std.proofs.Common.{rules, true, false, is_err, ◌≡◌, Ok, refl, sym, subst, List}
+use Rattle.std.proofs.Common.{rules, Ok, refl, sym, subst, List}
 use Rattle.kt_cli.proofs.Common.{Run, Put}
 use Rattle.kt_cli.proofs.Numbered.{put_more}
 use Rattle.kt_cli.proofs.Saying.{says_no_more, says_on}

@@ -1,5 +1,4 @@
-use Rattle.std.proofs.Common.{rules, ◌≡◌}
-use Rattle.kt_cli.proofs.Common.{insert_at}
+use Rattle.std.proofs.Common.{rules}
 use Rattle.kt_cli.proofs.MemoryLaws.{put_refused, put_well}
 use Rattle.kt_cli.proofs.results.mem_runs.MemRuns.put_entry.Goals as goal
 

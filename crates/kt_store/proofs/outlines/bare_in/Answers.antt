@@ -1,10 +1,8 @@
 use Rattle.kt_store.proofs.Common.{Int, ap, column, pos, refl, sym, ◌∙◌, ◌≡◌}
-use Rattle.kt_store.proofs.MergeLemmas.{begins, outputs_shown}
-use Rattle.kt_store.proofs.outlines.entry_in.Goals as goal
+use Rattle.kt_store.proofs.outlines.bare_in.Goals as goal
 
-pub returns-clause-entry : goal.returns-clause-entry
-returns-clause-entry c e sound row meta =
-    let is = row ∙ (begins c.args.whole e).1 in
+pub returns : goal.returns
+returns c e more sound is =
     let position : c.in_ok-position.position ≡ e.position = let q : Int (pos c.in_ok-position.position) ≡ Int (pos e.position) = sym c.in_ok-position.ensures.number ∙ ap (λ l. column l 0) is in cc in
     let program : c.in_ok-program.program ≡ e.program = c.in_ok-program.ensures.text e.program sound.program (ap (λ l. column l 1) is) in
     let case_name : c.in_ok-case_name.case_name ≡ e.case_name = c.in_ok-case_name.ensures.text e.case_name sound.case_name (ap (λ l. column l 2) is) in
@@ -13,4 +11,4 @@ returns-clause-entry c e sound row meta =
     let verdict : c.of.result ≡ e.verdict = c.of.ensures (λ passed. reason ∙ sound.passed (sym kind ∙ passed)) ∙ rw (kind, reason) refl in
     let started : c.in_ok-started.started ≡ e.started = let q : Int (pos c.in_ok-started.started) ≡ Int (pos e.started) = sym c.in_ok-started.ensures.number ∙ ap (λ l. column l 5) is in cc in
     let millis : c.in_ok-millis.millis ≡ e.millis = let q : Int (pos c.in_ok-millis.millis) ≡ Int (pos e.millis) = sym c.in_ok-millis.ensures.number ∙ ap (λ l. column l 6) is in cc in
-    rw (position, program, case_name, verdict, started, millis, meta) (outputs_shown c.args.whole e c.in_ok-outputs.outputs (c.in_ok-outputs.ensures.outputs e row))
+    rw (position, program, case_name, verdict, started, millis, c.no_output.ensures, c.no_output-2.ensures, c.new.ensures) refl
