@@ -9,7 +9,9 @@
 # It works on a copy of the checkout, with what the last check of each crate kept in out/: so prove the crates first. Bodies in
 # different functions are tried by one check, since a function is proved from its own body and the contracts of those that it calls. A
 # body of which that check says nothing is tried alone, in 20 to 60 processor seconds, and one that is not refused once more from
-# nothing. There is one job.
+# nothing.
+# So many crates as RT_JOBS says are tried side by side, one if it isn't set: each takes a processor and up to 5 GB. What is said of a
+# crate's bodies is printed once all of them were tried.
 # rt is taken from PATH, else from the kit that RATTLE_KIT names.
 set -eu -o pipefail
 top=$(cd "$(dirname "$0")/.." && pwd)
@@ -22,7 +24,7 @@ trap 'exit 1' HUP INT TERM
 mkdir "$room/tree"
 (cd "$top" && tar -cf - --exclude=out crates crates.txt HANDLES) | tar -xf - -C "$room/tree"
 python3 - "$top" "$room" "$(realpath "$(command -v rt)")" "$@" <<'TRY'
-import importlib.machinery, importlib.util, os, re, shutil, sys
+import concurrent.futures, importlib.machinery, importlib.util, os, re, shutil, sys
 top, room, rt_path, *chosen = sys.argv[1:]
 sys.dont_write_bytecode = True
 loader = importlib.machinery.SourceFileLoader("rt", rt_path)
@@ -151,30 +153,22 @@ os.environ.pop(rt.rtlib.ALLOW_C, None)
 rt.rtlib.guarded()
 crates = {it.name: it for it in rt.rtlib.crates_below(os.getcwd())}
 flags = ["--jobs", "1"]
-passed, failed = 0, 0
-for name in dict.fromkeys(it["crate"] for it in bodies):
-    crate = crates[name]
+
+
+def is_ready(crate):
+    """Sets what is kept of a crate and of those below where its bodies are tried, and says whether those below are proved."""
     for below in crate.below():
         copy(below.name, "rlib")
-    copy(name, "incremental")
-    kept = f"{crate.folder}/out/incremental"
-    os.makedirs(kept, exist_ok=True)
-    with open(f"{room}/log", "w") as log:
-        for it in crates.values():
-            it.out = log
-        is_proved = not any(it.build_rlib(flags, anew=False) for it in crate.below())
-    ran = rt.checked(crate, {}, flags, kept)
-    listed = re.findall(r"(?m)^fn (\S+): proved", ran.stdout)
+    copy(crate.name, "incremental")
+    os.makedirs(f"{crate.folder}/out/incremental", exist_ok=True)
+    return not any(it.build_rlib(flags, anew=False) for it in crate.below())
+
+
+def grouped(here):
+    """These bodies in groups of different functions, without those that can't be tried so."""
     groups = []
-    here = [it for it in bodies if it["crate"] == name]
     for body in here:
-        body["changes"], body["why"] = changes_of(body, crate.folder)
-        if not is_proved or ran.returncode:
-            body["why"] = f"{name} is not proved as it is"
-        if body["why"]:
-            continue
-        body["functions"] = [around(crate, listed, file, at) for file, at, _ in body["changes"]]
-        if None in body["functions"]:
+        if body["why"] or None in body["functions"]:
             continue
         names = {it[0] for it in body["functions"]}
         for group in groups:
@@ -185,8 +179,25 @@ for name in dict.fromkeys(it["crate"] for it in bodies):
             groups.append(group)
         group[0].update(names)
         group[1].append(body)
-    for _, group in groups:
+    return [group for _, group in groups]
+
+
+def tried(name):
+    """What is said of each body of a crate, and how many are refused."""
+    crate = crates[name]
+    kept = f"{crate.folder}/out/incremental"
+    ran = rt.checked(crate, {}, flags, kept)
+    listed = re.findall(r"(?m)^fn (\S+): proved", ran.stdout)
+    here = [it for it in bodies if it["crate"] == name]
+    for body in here:
+        body["changes"], body["why"] = changes_of(body, crate.folder)
+        if not ready[name] or ran.returncode:
+            body["why"] = f"{name} is not proved as it is"
+        if not body["why"]:
+            body["functions"] = [around(crate, listed, file, at) for file, at, _ in body["changes"]]
+    for group in grouped(here):
         try_together(crate, group, kept)
+    said, refused = [], 0
     for body in here:
         is_refused = "functions" in body and bool(body["why"])
         if is_refused:
@@ -195,9 +206,24 @@ for name in dict.fromkeys(it["crate"] for it in bodies):
             why = try_alone(crate, body, kept)
             body["why"] = why.replace("refused, as it must be", "refused")
             is_refused = body["why"] != why
-        passed, failed = passed + is_refused, failed + (not is_refused)
-        print(f"{body['name']}: {body['why']}", flush=True)
+        refused += is_refused
+        said.append(f"{body['name']}: {body['why']}")
     shutil.rmtree(kept)
-print(f"{passed} passed, {failed} failed")
-sys.exit(failed != 0)
+    return said, refused
+
+
+names = list(dict.fromkeys(it["crate"] for it in bodies))
+with open(f"{room}/log", "w") as log:
+    for it in crates.values():
+        it.out = log
+    ready = {name: is_ready(crates[name]) for name in names}
+passed = 0
+# What takes longest begins.
+names.sort(key=lambda it: -sum(len(read(f"{at}/{file}")) for at, _, files in os.walk(f"{crates[it].folder}/proofs") for file in files))
+with concurrent.futures.ThreadPoolExecutor(int(os.environ.get("RT_JOBS") or 1)) as pool:
+    for said, refused in pool.map(tried, names):
+        print("\n".join(said), flush=True)
+        passed += refused
+print(f"{passed} passed, {len(bodies) - passed} failed")
+sys.exit(passed != len(bodies))
 TRY
