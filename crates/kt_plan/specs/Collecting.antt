@@ -5,7 +5,7 @@ use Rattle.kt_plan.specs.Types.{Asked, Atf, Candidate, CaseDef, Chosen, Filter, 
 use Rattle.kt_config.specs.Values.{variables_of}
 use Rattle.kt_atflist.specs.Cases.{AreCases}
 use Rattle.kt_suite.specs.Matching.{MayMatch}
-use Rattle.kt_suite.specs.Selecting.{most_items, is_selected, idle_places}
+use Rattle.kt_suite.specs.Selecting.{most_items, is_selected, unmatched_places}
 use Rattle.kt_plan.specs.declared.stop.Stop.TheVariants as stop
 use Rattle.kt_plan.specs.Listings.{Loads, LoadsFirst}
 use Rattle.kt_plan.specs.Told.{Told, Lists}
@@ -66,7 +66,7 @@ selected_cases filters found = filter (λ candidate. is_selected filters (item_o
 abbrev pub chosen_of : List Filter → List Candidate → Chosen
 chosen_of filters found = record {
   cases = selected_cases filters found;
-  unmatched = idle_places (map item_of found) filters;
+  unmatched = unmatched_places (map item_of found) filters;
 }
 
 -- the selected cases of a tree, or why it stops the command

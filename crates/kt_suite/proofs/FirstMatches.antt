@@ -45,12 +45,12 @@ selected_without : (filters : List Filter) (item : Item) → list_any (matches_i
 selected_without [] item e = refl
 selected_without (f ∷ fs) item e = (let z : (length (f ∷ fs) == 0) ≡ false = search rules in z) ∙ sym e
 
--- without a first match an item is selected where there is no filter, and all filters stay idle
-pub no_match : (filters : List Filter) (item : Item) (idle : List ℕ) → first_match filters item ≡ None
-    → ((length filters == 0) ≡ is_selected filters item) × (idle ≡ filter (is_miss filters item) idle)
-no_match filters item idle e =
+-- without a first match an item is selected where there is no filter, and all filters stay unmatched
+pub no_match : (filters : List Filter) (item : Item) (unmatched : List ℕ) → first_match filters item ≡ None
+    → ((length filters == 0) ≡ is_selected filters item) × (unmatched ≡ filter (is_miss filters item) unmatched)
+no_match filters item unmatched e =
     let none = none_match item filters e in
-    (selected_without filters item none.0, sym (kept_all (is_miss filters item) (λ k. ap not (none.1 k)) idle))
+    (selected_without filters item none.0, sym (kept_all (is_miss filters item) (λ k. ap not (none.1 k)) unmatched))
 
 -- what stands before the first match misses the item
 pub misses_before : (filters : List Filter) (item : Item) (first place : ℕ) → place < first → first_match filters item ≡ Some first → true ≡ is_miss filters item place

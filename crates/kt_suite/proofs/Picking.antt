@@ -1,10 +1,10 @@
 -- The filters that match no item are what the items leave of all filters.
 use Rattle.std.proofs.Common.{◌≡◌, ℕ, ◌+◌, suc, Bool, true, false, List, [], ◌∷◌, ◌++◌, refl, sym, ap, ◌∙◌, arith, length, slice_get, Option, ◌||◌, not}
-use Rattle.kt_suite.proofs.Common.{append_assoc, list_any, filter, Filter, Item, all_places, is_match, is_miss, matches_item, option_map_or, places, is_idle, idle_places}
+use Rattle.kt_suite.proofs.Common.{append_assoc, list_any, filter, Filter, Item, all_places, is_match, is_miss, matches_item, option_map_or, places, is_unmatched, unmatched_places}
 
 -- the filter at a position matches none of these items
-abbrev pub is_idle_at : List Item → List Filter → ℕ → Bool
-is_idle_at items filters place = not (list_any (λ item. is_match filters item place) items)
+abbrev pub is_unmatched_at : List Item → List Filter → ℕ → Bool
+is_unmatched_at items filters place = not (list_any (λ item. is_match filters item place) items)
 
 -- ---- what tests leave
 
@@ -37,31 +37,31 @@ place_passed test n items item after old new all e t h w = rw h (rw (e, ← t) a
 -- ---- the filters that no item matches
 
 -- the filters that no item matches, counted from a number
-idle_from : (items : List Item) (all : List Filter) (n : ℕ) (filters : List Filter) → ((k : ℕ) → slice_get all (n + k) ≡ slice_get filters k)
-    → filter (is_idle_at items all) (places (λ f. true) n filters) ≡ places (is_idle items) n filters
-idle_from items all n [] at = refl
-idle_from items all n (f ∷ rest) at =
+unmatched_from : (items : List Item) (all : List Filter) (n : ℕ) (filters : List Filter) → ((k : ℕ) → slice_get all (n + k) ≡ slice_get filters k)
+    → filter (is_unmatched_at items all) (places (λ f. true) n filters) ≡ places (is_unmatched items) n filters
+unmatched_from items all n [] at = refl
+unmatched_from items all n (f ∷ rest) at =
     let same : n ≡ n + 0 = omega arith in
-    let here : is_idle_at items all n ≡ is_idle items f = ap (λ (o : Option Filter). not (list_any (λ item. option_map_or (matches_item item) o false) items)) (ap (slice_get all) same ∙ at 0) in
-    let later = idle_from items all (n + 1) rest (λ k. ap (λ (p : ℕ). slice_get all p) (next_place n k) ∙ at (suc k)) in
+    let here : is_unmatched_at items all n ≡ is_unmatched items f = ap (λ (o : Option Filter). not (list_any (λ item. option_map_or (matches_item item) o false) items)) (ap (slice_get all) same ∙ at 0) in
+    let later = unmatched_from items all (n + 1) rest (λ k. ap (λ (p : ℕ). slice_get all p) (next_place n k) ∙ at (suc k)) in
     rw (here, later) refl
 
--- what all items leave of all filters are the idle ones
-pub idle_of_all : (items : List Item) (filters : List Filter) (all : List ℕ) → all ≡ all_places filters → filter (is_idle_at items filters) all ≡ idle_places items filters
-idle_of_all items filters all e =
-    ap (λ (ps : List ℕ). filter (is_idle_at items filters) ps) e
-    ∙ idle_from items filters 0 filters (λ k. ap (λ (p : ℕ). slice_get filters p) (let z : 0 + k ≡ k = omega arith in z))
+-- what all items leave of all filters are the unmatched ones
+pub unmatched_of_all : (items : List Item) (filters : List Filter) (all : List ℕ) → all ≡ all_places filters → filter (is_unmatched_at items filters) all ≡ unmatched_places items filters
+unmatched_of_all items filters all e =
+    ap (λ (ps : List ℕ). filter (is_unmatched_at items filters) ps) e
+    ∙ unmatched_from items filters 0 filters (λ k. ap (λ (p : ℕ). slice_get filters p) (let z : 0 + k ≡ k = omega arith in z))
 
 -- what one item leaves, the items after it go on with
-pub idle_after : (items : List Item) (filters : List Filter) (item : Item) (after : List Item) (idle left wanted : List ℕ) → items ≡ item ∷ after
-    → left ≡ filter (is_miss filters item) idle → filter (is_idle_at items filters) idle ≡ wanted → filter (is_idle_at after filters) left ≡ wanted
-idle_after items filters item after idle left wanted e l w =
-    rw l (sym (kept_both (is_match filters item) (λ place. list_any (λ x. is_match filters x place) after) idle) ∙ (rw e at w))
+pub unmatched_after : (items : List Item) (filters : List Filter) (item : Item) (after : List Item) (unmatched left wanted : List ℕ) → items ≡ item ∷ after
+    → left ≡ filter (is_miss filters item) unmatched → filter (is_unmatched_at items filters) unmatched ≡ wanted → filter (is_unmatched_at after filters) left ≡ wanted
+unmatched_after items filters item after unmatched left wanted e l w =
+    rw l (sym (kept_both (is_match filters item) (λ place. list_any (λ x. is_match filters x place) after) unmatched) ∙ (rw e at w))
 
-left_by_none : (items : List Item) (filters : List Filter) → length items ≡ 0 → (place : ℕ) → is_idle_at items filters place ≡ true
+left_by_none : (items : List Item) (filters : List Filter) → length items ≡ 0 → (place : ℕ) → is_unmatched_at items filters place ≡ true
 left_by_none [] filters e place = refl
 left_by_none (item ∷ items) filters e place = absurd (let z : length (item ∷ items) ≡ 0 = e in omega (arith, z))
 
 -- no item leaves all
-pub idle_at_last : (items : List Item) (filters : List Filter) (idle : List ℕ) → length items ≡ 0 → idle ≡ filter (is_idle_at items filters) idle
-idle_at_last items filters idle e = sym (kept_all (is_idle_at items filters) (left_by_none items filters e) idle)
+pub unmatched_at_last : (items : List Item) (filters : List Filter) (unmatched : List ℕ) → length items ≡ 0 → unmatched ≡ filter (is_unmatched_at items filters) unmatched
+unmatched_at_last items filters unmatched e = sym (kept_all (is_unmatched_at items filters) (left_by_none items filters e) unmatched)

@@ -27,9 +27,9 @@ abbrev pub selected_places : List Item → List Filter → List ℕ
 selected_places items filters = places (is_selected filters) 0 items
 
 -- a filter matches no item
-abbrev pub is_idle : List Item → Filter → Bool
-is_idle items filter = not (list_any (λ item. matches_item item filter) items)
+abbrev pub is_unmatched : List Item → Filter → Bool
+is_unmatched items filter = not (list_any (λ item. matches_item item filter) items)
 
 -- the positions of the filters that match no item
-abbrev pub idle_places : List Item → List Filter → List ℕ
-idle_places items filters = places (is_idle items) 0 filters
+abbrev pub unmatched_places : List Item → List Filter → List ℕ
+unmatched_places items filters = places (is_unmatched items) 0 filters

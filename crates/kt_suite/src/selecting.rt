@@ -2,7 +2,7 @@ ghost use Rattle.std.specs.Prelude.{◌≡◌, ◌↔◌, ◌<◌, length, Err, 
 ghost use Rattle.std.specs.List.{filter};
 ghost use Rattle.kt_suite.specs.declared.selecting.SelectFault.TheVariants.{TooMany};
 ghost use Rattle.kt_suite.specs.Inner.Steps.{all_places, first_match, is_match, is_miss};
-ghost use Rattle.kt_suite.specs.Selecting.{most_items, matches_item, is_selected, selected_places, idle_places};
+ghost use Rattle.kt_suite.specs.Selecting.{most_items, matches_item, is_selected, selected_places, unmatched_places};
 ghost use Rattle.kt_suite.specs.declared.selecting.SelectFault.TheVariants as fault;
 
 use crate::Filter;
@@ -94,22 +94,22 @@ fn is_miss(filters: &[Filter], item: &Item, first: usize, place: usize) -> bool
 }
 
 /// Drops the positions of the filters that match an item, by the first of all filters that does.
-fn drop_matches(idle: &mut Vec<usize>, filters: &[Filter], item: &Item, first: usize)
+fn drop_matches(unmatched: &mut Vec<usize>, filters: &[Filter], item: &Item, first: usize)
     requires { first_match filters.now item.now ≡ Some first }
-    ensures { idle.new.items ≡ filter (is_miss filters.now item.now) idle.old.items }
+    ensures { unmatched.new.items ≡ filter (is_miss filters.now item.now) unmatched.old.items }
 {
-    idle.retain(|place| is_miss(filters, item, first, *place));
+    unmatched.retain(|place| is_miss(filters, item, first, *place));
 }
 
-/// Whether an item is selected. Each filter is compared once at most, and those that match the item are no longer idle.
-fn compare_item(filters: &[Filter], item: &Item, idle: &mut Vec<usize>) -> bool
+/// Whether an item is selected. Each filter is compared once at most, and those that match the item are no longer unmatched.
+fn compare_item(filters: &[Filter], item: &Item, unmatched: &mut Vec<usize>) -> bool
     ensures selected { result ≡ is_selected filters.now item.now }
-    ensures idle { idle.new.items ≡ filter (is_miss filters.now item.now) idle.old.items }
+    ensures unmatched { unmatched.new.items ≡ filter (is_miss filters.now item.now) unmatched.old.items }
 {
     match first_match(filters, item) {
         None => filters.is_empty(),
         Some(first) => {
-            drop_matches(idle, filters, item, first);
+            drop_matches(unmatched, filters, item, first);
             true
         }
     }
@@ -127,11 +127,11 @@ fn all_places(alloc: Global, filters: &[Filter]) -> Result<Vec<usize>, NoMemory>
     Ok(all)
 }
 
-/// Goes over the items once. The filters that match no item so far are idle.
-#[tactic(auto, using(crate::proofs::Picking::idle_of_all))]
+/// Goes over the items once. The filters that match no item so far are unmatched.
+#[tactic(auto, using(crate::proofs::Picking::unmatched_of_all))]
 fn compare_items(alloc: Global, items: &[Item], filters: &[Filter]) -> Result<Selection, NoMemory>
     ensures cases { IfOk result (λ s. s.cases.items ≡ selected_places items.now filters.now) }
-    ensures idle { IfOk result (λ s. s.unmatched.items ≡ idle_places items.now filters.now) }
+    ensures unmatched { IfOk result (λ s. s.unmatched.items ≡ unmatched_places items.now filters.now) }
 {
     let mut cases = Vec::new(alloc);
     let mut unmatched = all_places(alloc, filters)?;
@@ -149,7 +149,7 @@ fn compare_items(alloc: Global, items: &[Item], filters: &[Filter]) -> Result<Se
 /// Filters may share cases.
 pub fn select(alloc: Global, items: &[Item], filters: &[Filter]) -> Result<Selection, SelectFault>
     ensures cases { IfOk result (λ s. s.cases.items ≡ selected_places items.now filters.now) }
-    ensures unmatched { IfOk result (λ s. s.unmatched.items ≡ idle_places items.now filters.now) }
+    ensures unmatched { IfOk result (λ s. s.unmatched.items ≡ unmatched_places items.now filters.now) }
 
     // It refuses by number alone.
     ensures too_many { (result ≡ Err TooMany) ↔ (most_items < length items.now) }

@@ -1,6 +1,6 @@
 use Rattle.std.proofs.Common.{rules, ◌≡◌, ◌+◌, ◌∷◌, length, drop, sym, ap, ◌∙◌, drop_of_length-le}
 use Rattle.kt_suite.proofs.Common.{drop_more, Item, is_selected}
-use Rattle.kt_suite.proofs.Picking.{idle_at_last, idle_after, place_taken, place_passed}
+use Rattle.kt_suite.proofs.Picking.{unmatched_at_last, unmatched_after, place_taken, place_passed}
 use Rattle.kt_suite.proofs.selecting.compare_items.Goals.{then-compare_item+in_ok-push, else-compare_item}
 use Rattle.kt_suite.proofs.selecting.compare_items.Goals as goal
 
@@ -21,11 +21,11 @@ loop-item-preserved c =
           ];
       counted = search rules;
       left =
-          idle_after (drop i xs) c.args.filters.now c.item-item.result (drop (i + 1) xs) c.loop-item.unmatched.items c.compare_item.new.idle.items _ rest c.compare_item.ensures.idle
+          unmatched_after (drop i xs) c.args.filters.now c.item-item.result (drop (i + 1) xs) c.loop-item.unmatched.items c.compare_item.new.unmatched.items _ rest c.compare_item.ensures.unmatched
           c.loop-item.invariant.left;
     }
 
-pub returns-clause-idle : goal.returns-clause-idle
-returns-clause-idle c =
-    idle_at_last (drop c.loop-item.item-index c.args.items.now) c.args.filters.now c.loop-item.unmatched.items (ap length (drop_of_length-le c.args.items.now c.loop-item-test.false))
+pub returns-clause-unmatched : goal.returns-clause-unmatched
+returns-clause-unmatched c =
+    unmatched_at_last (drop c.loop-item.item-index c.args.items.now) c.args.filters.now c.loop-item.unmatched.items (ap length (drop_of_length-le c.args.items.now c.loop-item-test.false))
     ∙ c.loop-item.invariant.left

@@ -1,12 +1,12 @@
 use Rattle.std.proofs.Common.{◌≡◌, ◌++◌, drop}
-use Rattle.kt_suite.proofs.Common.{filter, places, is_selected, selected_places, idle_places}
-use Rattle.kt_suite.proofs.Picking.{is_idle_at}
+use Rattle.kt_suite.proofs.Common.{filter, places, is_selected, selected_places, unmatched_places}
+use Rattle.kt_suite.proofs.Picking.{is_unmatched_at}
 use Rattle.kt_suite.proofs.selecting.compare_items.Given as goal
 
--- what was found, and what the rest gives; what is idle, and what the rest leaves of it
+-- what was found, and what the rest gives; what is unmatched, and what the rest leaves of it
 abbrev pub invariant-loop-item : goal.invariant-loop-item
 invariant-loop-item l = record {
   found : l.cases.items ++ places (is_selected l.filters) l.place (drop l.item-index l.items) ≡ selected_places l.items l.filters;
   counted : l.place ≡ l.item-index;
-  left : filter (is_idle_at (drop l.item-index l.items) l.filters) l.unmatched.items ≡ idle_places l.items l.filters;
+  left : filter (is_unmatched_at (drop l.item-index l.items) l.filters) l.unmatched.items ≡ unmatched_places l.items l.filters;
 }
