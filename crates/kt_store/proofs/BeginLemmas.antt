@@ -1,11 +1,11 @@
 -- What the INSERT of `begin` does.
-use Rattle.kt_store.proofs.Common.{AreNumbered, Chosen, Command, Database, Does, Enforced, Ghosts, HasCleanDisk, Held, Insert, Int, IsDatabase, IsRun, IsStore, IsTrue, Keeps, Leaves, Less, List, MayTell, Mode, None, Ok, Option, Row, Run, Some, StandsFor, State, Tables, Tally, Told, Trees, Values, [], all-append, ap, append-nil, arith, begin_text, drop, edit_of, entry_row, entry_rows, flat_map, fold, id_in, inl, inr, ints, last_id, length, length-append, map, map-append, new_run, next_rowid, pair_rows, pos, prop_rows, put_all, put_row, refl, rowid, run_row, runs_1, schema_2, state, subst, suc, sym, taken_by, unwrap_or, value_cmp, value_rows, works, ℕ, ℤ, ◌++◌, ◌+ℤ◌, ◌+◌, ◌<◌, ◌∙◌, ◌∷◌, ◌≡◌}
+use Rattle.kt_store.proofs.Common.{AreNumbered, Chosen, Command, Database, Does, Enforced, Ghosts, HasCleanDisk, Held, Insert, Int, IsDatabase, IsRun, IsStore, IsTrue, Keeps, Leaves, Less, List, MayExecute, Mode, None, Ok, Option, Row, Run, Some, StandsFor, State, Tables, Tally, Executed, Trees, Values, [], all-append, ap, append-nil, arith, begin_text, drop, edit_of, entry_row, entry_rows, flat_map, fold, id_in, inl, inr, ints, last_id, length, length-append, map, map-append, new_run, next_rowid, pair_rows, pos, prop_rows, put_all, put_row, refl, rowid, run_row, runs_1, schema_2, state, subst, suc, sym, taken_by, unwrap_or, value_cmp, value_rows, works, ℕ, ℤ, ◌++◌, ◌+ℤ◌, ◌+◌, ◌<◌, ◌∙◌, ◌∷◌, ◌≡◌}
 use Rattle.std.specs.List.Sorted.{IsPermutation}
 use Rattle.std.proofs.lemmas.Grind.{flat_map-append}
 use Rattle.kt_store.proofs.SqlFacts.{begin_is, begin_terms}
 use Rattle.kt_store.proofs.InsertLemmas.{Changed, changed}
 use Rattle.kt_store.proofs.Numbered.{numbers_new}
-use Rattle.kt_store.proofs.WriteLemmas.{Ends, told_by, crash_by}
+use Rattle.kt_store.proofs.WriteLemmas.{Ends, executed_by, crash_by}
 use Rattle.kt_store.proofs.Values.{below, cast_int, cast_null}
 
 abbrev above : ℤ → Row → ℤ
@@ -85,13 +85,13 @@ module _ {S : Type 0} (g : Ghosts S) (old new : Held S) (runs : List Run) (total
       let did = begin_changed limit mode total started db after text tally enforced has.schema does in
       (begun runs total started db after tally has (room (earlier clean)) small did, last_begun runs total started db after tally has (room (earlier clean)) small did)
 
-  pub told_begin : HasCleanDisk (state g new) → Told g begin_text (begin_params total started) old new
+  pub executed_begin : HasCleanDisk (state g new) → Executed g begin_text (begin_params total started) old new
       → IsStore (state g new) (runs ++ new_run runs total started ∷ []) × ((state g new).last_rowid ≡ pos (suc (length runs))) × IsTrue (state g new).is_open × IsDatabase (state g new).now
-  told_begin clean it =
-      let done = told_by begin_text (begin_params total started) begin_command begin_is.0 begin_is.1 (λ _ _ _ _ ran. ran) no_end runs (runs ++ new_run runs total started ∷ []) IsLast (step clean) g old new has earlier clean it in
+  executed_begin clean it =
+      let done = executed_by begin_text (begin_params total started) begin_command begin_is.0 begin_is.1 (λ _ _ _ _ ran. ran) no_end runs (runs ++ new_run runs total started ∷ []) IsLast (step clean) g old new has earlier clean it in
       (done.0, done.5 ∙ ap (λ o. unwrap_or o (state g it.mid).last_rowid) done.4, done.1, done.2)
 
-  pub crash_begin : HasCleanDisk (state g new) → (trees : Trees) → MayTell g begin_text (begin_params total started) old trees → Keeps (runs ++ new_run runs total started ∷ []) trees
+  pub crash_begin : HasCleanDisk (state g new) → (trees : Trees) → MayExecute g begin_text (begin_params total started) old trees → Keeps (runs ++ new_run runs total started ∷ []) trees
   crash_begin clean trees it =
       crash_by begin_text (begin_params total started) begin_command begin_is.0 begin_is.1 (λ _ _ _ _ ran. ran) no_end runs (runs ++ new_run runs total started ∷ []) IsLast (step clean) g old new has earlier clean trees it
 

@@ -1,11 +1,11 @@
 -- A run is finished.
-use Rattle.kt_store.proofs.Common.{AllByRecursion, Applies, AreRuns, Database, Does, Enforced, Entry, Ghosts, Given, HasCleanDisk, Held, Incomplete, Int, IsAscending, IsComplete, IsDatabase, IsPermutation, IsRun, IsStore, IsTrue, Keeps, List, MayTell, Mode, None, Ok, Option, Run, RunClosed, Some, StandsFor, Tables, Tally, Told, Trees, Update, [], all_from, all_weaker, ap, arith, done_row, drop, edit_of, entries_of, entry_row, entry_rows, false, finish, finish_refusal, finish_refusal_of, finish_text, flat_map, ids_of, length, map, nat_lt, nat_tests, pair_rows, pos, prop_rows, refl, run_at, runs_1, schema_2, state, subst, suc, sym, true, zero, ℕ, ◌++◌, ◌+◌, ◌<◌, ◌∙◌, ◌∷◌, ◌≡◌, ◌≤◌}
+use Rattle.kt_store.proofs.Common.{AllByRecursion, Applies, AreRuns, Database, Does, Enforced, Entry, Ghosts, Given, HasCleanDisk, Held, Incomplete, Int, IsAscending, IsComplete, IsDatabase, IsPermutation, IsRun, IsStore, IsTrue, Keeps, List, MayExecute, Mode, None, Ok, Option, Run, RunClosed, Some, StandsFor, Tables, Tally, Executed, Trees, Update, [], all_from, all_weaker, ap, arith, done_row, drop, edit_of, entries_of, entry_row, entry_rows, false, finish, finish_refusal, finish_refusal_of, finish_text, flat_map, ids_of, length, map, nat_lt, nat_tests, pair_rows, pos, prop_rows, refl, run_at, runs_1, schema_2, state, subst, suc, sym, true, zero, ℕ, ◌++◌, ◌+◌, ◌<◌, ◌∙◌, ◌∷◌, ◌≡◌, ◌≤◌}
 use Rattle.std.specs.List.{slice_index_or}
 use Rattle.kt_store.proofs.RunsByNumber.{finish_each, finish_unseen, run_of}
 use Rattle.kt_store.proofs.SqlFacts.{finish_is}
 use Rattle.kt_store.proofs.FinishLemmas.{finish_program, finish_writes, finished_rows}
 use Rattle.kt_store.proofs.Numbered.{numbers_finish}
-use Rattle.kt_store.proofs.WriteLemmas.{told_update, crash_update}
+use Rattle.kt_store.proofs.WriteLemmas.{executed_update, crash_update}
 
 whole_run : (r : Run) → IsRun r → length r.entries ≡ r.total → IsRun (record r { finished = true })
 whole_run r is whole = record { small = is.small; ordered = is.ordered; below = is.below; sound = is.sound; whole = λ done. whole }
@@ -40,21 +40,21 @@ module _ {S : Type 0} (g : Ghosts S) (old new : Held S) (runs : List Run) (run :
   abbrev pub Closes : Type 0
   Closes = HasCleanDisk (state g old) → IsComplete run runs
 
-  told_at : (run : ℕ) (r : Run) → run_at runs run ≡ Some r → length r.entries ≡ r.total → HasCleanDisk (state g new) → Told g finish_text (Int (pos run) ∷ []) old new
+  executed_at : (run : ℕ) (r : Run) → run_at runs run ≡ Some r → length r.entries ≡ r.total → HasCleanDisk (state g new) → Executed g finish_text (Int (pos run) ∷ []) old new
       → IsStore (state g new) (finish run runs) × IsTrue (state g new).is_open × IsDatabase (state g new).now
-  told_at zero r there whole clean it = absurd cc
-  told_at (suc k) r there whole clean it =
-      told_update finish_text (Int (pos (suc k)) ∷ []) 1 finish_program finish_is.0 finish_is.1 runs (finish (suc k) runs) (finish_step runs k r there whole) g old new has earlier clean it
+  executed_at zero r there whole clean it = absurd cc
+  executed_at (suc k) r there whole clean it =
+      executed_update finish_text (Int (pos (suc k)) ∷ []) 1 finish_program finish_is.0 finish_is.1 runs (finish (suc k) runs) (finish_step runs k r there whole) g old new has earlier clean it
 
-  crash_at : (run : ℕ) (r : Run) → run_at runs run ≡ Some r → length r.entries ≡ r.total → HasCleanDisk (state g new) → (trees : Trees) → MayTell g finish_text (Int (pos run) ∷ []) old trees → Keeps (finish run runs) trees
+  crash_at : (run : ℕ) (r : Run) → run_at runs run ≡ Some r → length r.entries ≡ r.total → HasCleanDisk (state g new) → (trees : Trees) → MayExecute g finish_text (Int (pos run) ∷ []) old trees → Keeps (finish run runs) trees
   crash_at zero r there whole clean trees it = absurd cc
   crash_at (suc k) r there whole clean trees it =
       crash_update finish_text (Int (pos (suc k)) ∷ []) 1 finish_program finish_is.0 finish_is.1 runs (finish (suc k) runs) (finish_step runs k r there whole) g old new has earlier clean trees it
 
-  pub told_finish : Closes → HasCleanDisk (state g new) → Told g finish_text (Int (pos run) ∷ []) old new → IsStore (state g new) (finish run runs) × IsTrue (state g new).is_open × IsDatabase (state g new).now
-  told_finish closes clean it = let f = closes (earlier clean) in told_at run f.1 f.3 f.4 clean it
+  pub executed_finish : Closes → HasCleanDisk (state g new) → Executed g finish_text (Int (pos run) ∷ []) old new → IsStore (state g new) (finish run runs) × IsTrue (state g new).is_open × IsDatabase (state g new).now
+  executed_finish closes clean it = let f = closes (earlier clean) in executed_at run f.1 f.3 f.4 clean it
 
-  pub crash_finish : Closes → HasCleanDisk (state g new) → (trees : Trees) → MayTell g finish_text (Int (pos run) ∷ []) old trees → Keeps (finish run runs) trees
+  pub crash_finish : Closes → HasCleanDisk (state g new) → (trees : Trees) → MayExecute g finish_text (Int (pos run) ∷ []) old trees → Keeps (finish run runs) trees
   crash_finish closes clean trees it = let f = closes (earlier clean) in crash_at run f.1 f.3 f.4 clean trees it
 
 -- positions that ascend below a bound are no more than it

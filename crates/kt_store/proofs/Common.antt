@@ -114,10 +114,10 @@ pub use Rattle.sqlite_wal.specs.Reads.{AreClean, are_clean}
 pub use Rattle.sqlite_wal.specs.Recovery.{AreWhole, Image, IsIgnored, only_page}
 pub use Rattle.kt_store.specs.Ask.{IsNoMemory, IsStoreFault, Rests}
 pub use Rattle.kt_store.specs.Attaching.{Blank, Current, IsOf, Numbered, Older, Refuses, Takes, Was}
-pub use Rattle.kt_store.specs.Closing.{HasAlone}
+pub use Rattle.kt_store.specs.Closing.{HasWithoutLog}
 pub use Rattle.kt_store.specs.Files.{Ends, EndsIn}
 pub use Rattle.kt_store.specs.Heads.{entry_at, head_of, outlined, outputs_of, pairs_of, without_outputs, without_pairs}
-pub use Rattle.kt_store.specs.Inner.Ask.{AreWide, Asked, HasColumns, MayShow, MayTell, ShowsOf, Told}
+pub use Rattle.kt_store.specs.Inner.Ask.{AreWide, Asked, HasColumns, MayShow, MayExecute, ShowsOf, Executed}
 pub use Rattle.kt_store.specs.Inner.Calls.{IsOurs, Statement, entry_statements, make_statements, pair_statement, pair_statements, pair_text, plain_statements, raise_statements}
 pub use Rattle.kt_store.specs.Inner.Cursors.{CountsUnder, HoldsCommit, IsAt, Looks, LooksThrough, Places, Shows, ShowsUnder, begins, in_columns}
 pub use Rattle.kt_store.specs.Inner.Edits.{Ended, Fills, IsSettledStore, Obeys, PutsRows, Wrote, begun_row, done_row, unnumbered}

@@ -16,6 +16,10 @@ pub ok_later : {T E A : Type 0} (P : Type 0) (r : Result T E) → (A → OnOk r 
 ok_later P (Ok x) f = f
 ok_later P (Err e) f = tt
 
+pub on_err : {T E : Type 0} (P : Type 0) (r : Result T E) → P → OnErr r P
+on_err P (Ok x) p = tt
+on_err P (Err e) p = p
+
 pub err_later : {T E A : Type 0} (P : Type 0) (r : Result T E) → (A → OnErr r P) → OnErr r (A → P)
 err_later P (Ok x) f = tt
 err_later P (Err e) f = f

@@ -27,7 +27,7 @@ pub mod ServeLemmas
 pub mod FillLemmas
 pub mod RaiseLemmas
 pub mod PairsLemmas
-pub mod MergeLemmas
+pub mod SoundEntries
 pub mod CursorLemmas
 pub mod SeenLemmas
 pub mod OpeningLemmas

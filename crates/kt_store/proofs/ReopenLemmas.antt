@@ -1,5 +1,5 @@
 -- What a close leaves is what an opening asks of a file.
-use Rattle.kt_store.proofs.Common.{EndsIn, FileStore, HasAlone, HoldsDatabase, HoldsRuns, Image, IsOfRuns, IsTrue, Keeps, List, Recovers, Run, [], adopts_of, file_alone, kept_schema, schema_2, settled, size_is_allowed, subst, ∥∥₁_elim, ∥∥₁_map, ◌≡◌}
+use Rattle.kt_store.proofs.Common.{EndsIn, FileStore, HasWithoutLog, HoldsDatabase, HoldsRuns, Image, IsOfRuns, IsTrue, Keeps, List, Recovers, Run, [], adopts_of, file_alone, kept_schema, schema_2, settled, size_is_allowed, subst, ∥∥₁_elim, ∥∥₁_map, ◌≡◌}
 use Rattle.sqlite_disk.specs.declared.Disk.{Ghosts}
 use Rattle.sqlite_wal.proofs.LogLemmas.{SeenMayStay}
 use Rattle.sqlite_wal.proofs.StateLemmas.{clean_of}
@@ -7,14 +7,14 @@ use Rattle.sqlite_store.specs.FileStore.{state, view, log_frames}
 use Rattle.sqlite_store.specs.Listing.{IsOurs}
 use Rattle.kt_store.proofs.EditLemmas.{sound_in}
 
-pub alone_of : {D : Type 0} {g : Ghosts D} (it : FileStore D g) → SeenMayStay g → IsTrue (view it).is_open → log_frames it ≡ 0 → (image : Image) → (state it).may_leave image → HasAlone (view it).is_numbered (view it).committed image
-alone_of it stays is_open empty image may = record {
+pub without_log_of : {D : Type 0} {g : Ghosts D} (it : FileStore D g) → SeenMayStay g → IsTrue (view it).is_open → log_frames it ≡ 0 → (image : Image) → (state it).may_leave image → HasWithoutLog (view it).is_numbered (view it).committed image
+without_log_of it stays is_open empty image may = record {
   size = (state it).page_size;
   pages = (state it).committed;
   wanted = kept_schema it.saved it.schema.items;
   allowed = size_is_allowed it.pool;
   both = (settled it.pool stays is_open).durable image may;
-  alone = file_alone it.pool stays is_open empty image may;
+  without_log = file_alone it.pool stays is_open empty image may;
   file = ∥∥₁_map (it.stored is_open) (λ stored. stored.ours);
   reads = rw (clean_of (state it) is_open);
 }
@@ -26,8 +26,8 @@ pub supposed : (image : Image) (runs : List Run) → HoldsRuns image runs → �
 supposed image runs (db, found, keeps) = ∥∥₁_map found (λ (it : HoldsDatabase image db). let r : IsOfRuns image = λ size pages recovered lists. (runs, db, it, keeps) in r)
 
 module _ {D : Type 0} {g : Ghosts D} (store : FileStore D g) (runs : List Run) (image : Image) (end : EndsIn store runs image) where
-  left : HasAlone (view store).is_numbered (view store).committed image
-  left = end.ends.alone end.honest image end.outcome
+  left : HasWithoutLog (view store).is_numbered (view store).committed image
+  left = end.ends.left end.honest image end.outcome
 
   keeps : Keeps runs (view store).committed
   keeps = end.has (end.ends.was_open end.honest)
@@ -52,4 +52,4 @@ module _ {D : Type 0} {g : Ghosts D} (store : FileStore D g) (runs : List Run) (
   )
 
   pub held : HoldsRuns image runs × HoldsRuns (record image { log = [] }) runs
-  held = (holds image left.both, holds (record image { log = [] }) left.alone)
+  held = (holds image left.both, holds (record image { log = [] }) left.without_log)

@@ -1,5 +1,5 @@
 -- A write that is one statement in its own commit, from what it does to the tables alone.
-use Rattle.kt_store.proofs.Common.{Command, Commit, CommitsBy, Database, Does, Enforced, Executes, Ghosts, HasCleanDisk, Held, IsDatabase, IsNewestNamed, IsPlain, IsStore, IsTrue, Keeps, List, MayTell, Mode, None, Ok, Option, Program, Release, Row, Run, Runs, StandsFor, State, Tables, Tally, Told, Trees, Update, Writes, ap, begins_at, command_of, cond, inl, inr, mode_of, names_in, refl, runs_as, schema_2, state, statement_of, understood, unwrap_or, ℕ, ⊤, ◌∙◌, ◌≡◌, ◌⊎◌}
+use Rattle.kt_store.proofs.Common.{Command, Commit, CommitsBy, Database, Does, Enforced, Executes, Ghosts, HasCleanDisk, Held, IsDatabase, IsNewestNamed, IsPlain, IsStore, IsTrue, Keeps, List, MayExecute, Mode, None, Ok, Option, Program, Release, Row, Run, Runs, StandsFor, State, Tables, Tally, Executed, Trees, Update, Writes, ap, begins_at, command_of, cond, inl, inr, mode_of, names_in, refl, runs_as, schema_2, state, statement_of, understood, unwrap_or, ℕ, ⊤, ◌∙◌, ◌≡◌, ◌⊎◌}
 use Rattle.kt_store.proofs.StepLemmas.{commits_as, same_store}
 
 abbrev pub Ends : Command → State → Type 0
@@ -37,10 +37,10 @@ module _ (sql : List ℕ) (params : Row) (command : Command) (is : command_of (u
   ]
 
   module _ {S : Type 0} (g : Ghosts S) (old new : Held S) (has : StandsFor (state g old) runs) (earlier : HasCleanDisk (state g new) → HasCleanDisk (state g old)) where
-    pub told_by : HasCleanDisk (state g new) → (it : Told g sql params old new) → Wrote (state g it.mid) (state g new)
-    told_by clean it = wrote (state g it.mid) (state g new) it.count (same_store (state g old) (state g it.mid) runs (has (earlier clean) it.same.0.was_open) it.same) it.ran
+    pub executed_by : HasCleanDisk (state g new) → (it : Executed g sql params old new) → Wrote (state g it.mid) (state g new)
+    executed_by clean it = wrote (state g it.mid) (state g new) it.count (same_store (state g old) (state g it.mid) runs (has (earlier clean) it.same.0.was_open) it.same) it.ran
 
-    pub crash_by : HasCleanDisk (state g new) → (trees : Trees) → MayTell g sql params old trees → Keeps more trees
+    pub crash_by : HasCleanDisk (state g new) → (trees : Trees) → MayExecute g sql params old trees → Keeps more trees
     crash_by clean trees it = commits (state g it.0) trees (same_store (state g old) (state g it.0) runs (has (earlier clean) it.1.0.was_open) it.1) it.2
 
 no_end_update : (at : ℕ) (q : Program) (old : State) → Ends (Update at q) old → ⊥
@@ -50,10 +50,10 @@ no_end_update at q old (inr it) = let e = it.2 in cc
 module _ (sql : List ℕ) (params : Row) (at : ℕ) (q : Program) (is : command_of (understood schema_2 sql) ≡ Update at q) (plain : IsPlain (understood schema_2 sql)) (runs more : List Run)
     (step : (limit : Option ℕ) (mode : Mode) (db after : Database) (text : List ℕ) (tally : Tally) → mode.keys ≡ Enforced → Tables db runs → Does limit mode params db text None (Update at q) (Ok (tally, after)) → Tables after more)
     {S : Type 0} (g : Ghosts S) (old new : Held S) (has : StandsFor (state g old) runs) (earlier : HasCleanDisk (state g new) → HasCleanDisk (state g old)) where
-  pub told_update : HasCleanDisk (state g new) → Told g sql params old new → IsStore (state g new) more × IsTrue (state g new).is_open × IsDatabase (state g new).now
-  told_update clean it =
-      let done = told_by sql params (Update at q) is plain (λ _ _ _ _ ran. ran) (no_end_update at q) runs more (λ _. ⊤) (λ limit mode db after text tally enforced has does. (step limit mode db after text tally enforced has does, tt)) g old new has earlier clean it in
+  pub executed_update : HasCleanDisk (state g new) → Executed g sql params old new → IsStore (state g new) more × IsTrue (state g new).is_open × IsDatabase (state g new).now
+  executed_update clean it =
+      let done = executed_by sql params (Update at q) is plain (λ _ _ _ _ ran. ran) (no_end_update at q) runs more (λ _. ⊤) (λ limit mode db after text tally enforced has does. (step limit mode db after text tally enforced has does, tt)) g old new has earlier clean it in
       (done.0, done.1, done.2)
 
-  pub crash_update : HasCleanDisk (state g new) → (trees : Trees) → MayTell g sql params old trees → Keeps more trees
+  pub crash_update : HasCleanDisk (state g new) → (trees : Trees) → MayExecute g sql params old trees → Keeps more trees
   crash_update = crash_by sql params (Update at q) is plain (λ _ _ _ _ ran. ran) (no_end_update at q) runs more (λ _. ⊤) (λ limit mode db after text tally enforced has does. (step limit mode db after text tally enforced has does, tt)) g old new has earlier

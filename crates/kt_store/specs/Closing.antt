@@ -9,12 +9,12 @@ use Rattle.sqlite_wal.specs.PageSize.{IsPageSize}
 use Rattle.sqlite_wal.specs.Recovery.{Image}
 
 -- the two files, and the database file with no log, recover to a sound file with these trees, which are numbered if those of the store were
-pub record HasAlone (is_numbered : Bool) (trees : Trees) (image : Image) : Type 0 where
+pub record HasWithoutLog (is_numbered : Bool) (trees : Trees) (image : Image) : Type 0 where
   pub size : ℕ
   pub pages : PageMap
   pub wanted : List Wanted
   pub allowed : ∥ IsPageSize (stored_size size) ∥₁
   pub both : Recovers size image pages
-  pub alone : Recovers size (record image { log = [] }) pages
+  pub without_log : Recovers size (record image { log = [] }) pages
   pub file : ∥ IsOurs size is_numbered wanted pages ∥₁
   pub reads : trees ≡ file_trees size wanted pages

@@ -19,12 +19,12 @@ pub use Rattle.kt_store.specs.Ask.{IsNoMemory, IsStoreFault, Rests}
 pub use Rattle.kt_store.specs.Attaching.{Blank, IsOf, Older, Refuses, Takes}
 pub use Rattle.kt_store.specs.Files.{AreOver, Ends, EndsIn, Finds, IsOver}
 pub use Rattle.kt_store.specs.Heads.{entry_at, head_of, no_output, outlined, outputs_of, pairs_of, without_outputs, without_pairs}
-pub use Rattle.kt_store.specs.Inner.Ask.{AreWide, Asked, HasColumns, MayShow, MayTell, ShowsOf, Told}
+pub use Rattle.kt_store.specs.Inner.Ask.{AreWide, Asked, HasColumns, MayShow, MayExecute, ShowsOf, Executed}
 pub use Rattle.kt_store.specs.Inner.Attaching.{HasNumber}
 pub use Rattle.kt_store.specs.Inner.Calls.{IsOurs, Statement, entry_statements, pair_statement, pair_statements, plain_statements}
 pub use Rattle.kt_store.specs.Inner.Cursors.{CountsUnder, FindsUnder, Goes, HoldsCommit, Looks, LooksThrough, ShowsUnder, in_columns}
 pub use Rattle.kt_store.specs.Inner.Edits.{Ended, Fills, Obeys, PutsRows, Wrote, done_row, unnumbered}
-pub use Rattle.kt_store.specs.Inner.Fault.{IsShort, Tells, TellsOf, TellsOfWrite}
+pub use Rattle.kt_store.specs.Inner.Fault.{IsShort, IsOfError, IsOfTreeError, IsOfWriteError}
 pub use Rattle.kt_store.specs.Inner.Heads.{entry_columns, head_columns, pair_columns, whole_columns}
 pub use Rattle.kt_store.specs.Inner.Opening.{ListsRuns, OpensOver}
 pub use Rattle.kt_store.specs.Inner.Places.{AreNamed, StandAt, places_2}

@@ -15,7 +15,7 @@ use Rattle.sqlite.specs.Start.{FindsIn}
 use Rattle.sqlite.specs.Files.{file_state, IsOpened}
 use Rattle.kt_base.specs.declared.entry.Run.{Run}
 use Rattle.kt_store.specs.Attaching.{Was, IsOf, Takes}
-use Rattle.kt_store.specs.Closing.{HasAlone}
+use Rattle.kt_store.specs.Closing.{HasWithoutLog}
 use Rattle.kt_store.specs.Runs.{SaysIn}
 use Rattle.kt_store.specs.Seeks.{HasCommitted, OpensRuns}
 use Rattle.kt_store.specs.Stands.{StandsFor}
@@ -53,7 +53,7 @@ module _ {D : Type 0} {g : disk.Ghosts D} where
     pub files : Files D
     pub own : files_in last ≡ (files.log, files.db)
     pub was_open : AreClean g files.log files.db → IsTrue (view store).is_open
-    pub alone : AreClean g files.log files.db → (image : Image) → outcomes g files.log files.db image → HasAlone (view store).is_numbered (view store).committed image
+    pub left : AreClean g files.log files.db → (image : Image) → outcomes g files.log files.db image → HasWithoutLog (view store).is_numbered (view store).committed image
 
   -- the two files may have become these after a store whose trees are numbered ended, also by a crash; its last commit had these runs
   pub record EndsIn (store : FileStore D g) (runs : List Run) (image : Image) : Type 0 where

@@ -17,15 +17,9 @@ use Rattle.kt_store.specs.declared.store_fault.StoreFault.TheVariants.{StoreFull
 -- the runs after a call: one that is refused changes nothing
 abbrev pub changed_by : StoreCall → List Run → List Run
 changed_by (Began total moment (Ok number)) runs = runs ++ new_run runs total moment ∷ []
-changed_by (Began total moment (Err fault)) runs = runs
 changed_by (Put number e (Ok done)) runs = with_entry number e runs
-changed_by (Put number e (Err fault)) runs = runs
 changed_by (Finished number (Ok done)) runs = finish number runs
-changed_by (Finished number (Err fault)) runs = runs
-changed_by (Heads answer) runs = runs
-changed_by (Outline number answer) runs = runs
-changed_by (Pairs number position answer) runs = runs
-changed_by (Outputs number position answer) runs = runs
+changed_by _ runs = runs
 
 -- a call's answer agrees with the runs before it
 abbrev pub Agrees : List Run → StoreCall → Type 0
@@ -45,7 +39,7 @@ Agrees runs (Outputs number position (Ok outputs)) = (e : Entry) × (entry_at (r
 Agrees runs (Outputs number position (Err fault)) = IsStoreFault fault ⊎ ((fault ≡ NoRun) × (entry_at (run_at runs number) position ≡ None))
 
 module _ {R : Type 0} (LeavesOne : R → List (List Run) → Type 0) where
-  -- after a call that was done and writes, a crash leaves its runs alone; after one that was refused, what it left before or the runs with its
+  -- after a call that was done and writes, a crash leaves only its runs; after one that was refused, what it left before or the runs with its
   -- change; after one that reads, what it left before
   abbrev pub Outlasts : StoreCall → List Run → List (List Run) → R → R → Type 0
   Outlasts (Began total moment (Ok number)) runs may old new = LeavesOne new ((runs ++ new_run runs total moment ∷ []) ∷ [])
@@ -54,10 +48,7 @@ module _ {R : Type 0} (LeavesOne : R → List (List Run) → Type 0) where
   Outlasts (Put number e (Err fault)) runs may old new = LeavesOne old (runs ∷ may) → LeavesOne new (runs ∷ with_entry number e runs ∷ may)
   Outlasts (Finished number (Ok done)) runs may old new = LeavesOne new (finish number runs ∷ [])
   Outlasts (Finished number (Err fault)) runs may old new = LeavesOne old (runs ∷ may) → LeavesOne new (runs ∷ finish number runs ∷ may)
-  Outlasts (Heads answer) runs may old new = LeavesOne old may → LeavesOne new may
-  Outlasts (Outline number answer) runs may old new = LeavesOne old may → LeavesOne new may
-  Outlasts (Pairs number position answer) runs may old new = LeavesOne old may → LeavesOne new may
-  Outlasts (Outputs number position answer) runs may old new = LeavesOne old may → LeavesOne new may
+  Outlasts _ runs may old new = LeavesOne old may → LeavesOne new may
 
 -- a store serves a call with this answer: whatever runs it stood for, it stands for the changed runs; if it is sound then, it was so before, and
 -- the answer agrees with the runs
@@ -68,7 +59,7 @@ pub record Serves {R : Type 0} (r : store.Ghosts R) (call : StoreCall) (old new 
   pub agrees : (runs : List Run) → r.stands old runs → r.sound new → Agrees runs call
   pub crash : (runs : List Run) (may : List (List Run)) → r.stands old runs → Outlasts r.leaves call runs may old new
 
--- calls that read alone: whatever runs a store stood for, it stands for them; if it is sound then, it was so before; a crash leaves only what it
+-- calls that only read: whatever runs a store stood for, it stands for them; if it is sound then, it was so before; a crash leaves only what it
 -- left before
 pub record Reads {R : Type 0} (r : store.Ghosts R) (old new : R) : Type 0 where
   pub stands : (runs : List Run) → r.stands old runs → r.stands new runs

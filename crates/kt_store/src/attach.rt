@@ -76,27 +76,6 @@ pub(crate) fn schema_number<S: Alter>(conn: &mut Connection<S>) -> Result<i64, S
     Ok(number)
 }
 
-/// Whether the number is that of schema 1. Any number but 1 and 2 is refused.
-pub(crate) fn says_old<S: Alter>(conn: &mut Connection<S>) -> Result<bool, StoreFault>
-    ensures asks { AsksNumber S.Store conn.old conn.new }
-    ensures same { OnOk result (LeavesSchema S.Store conn.old conn.new) }
-    ensures number { (n : ℤ) → SaysSchema n (state S.Store conn.old)
-        → HasCleanDisk (state S.Store conn.new)
-        → IfOk result (λ old. (old ≡ true → n ≡ pos 1) × (old ≡ false → n ≡ pos 2)) }
-    ensures taken { (n : ℤ) → SaysSchema n (state S.Store conn.old) → (n ≡ pos 1) ⊎ (n ≡ pos 2)
-        → HasCleanDisk (state S.Store conn.new) → IfErr result IsStoreFault }
-    ensures due { IfErr result (λ e. IsStoreFault e ⊎ (e ≡ StoreFault.UnknownSchema)) }
-{
-    let number = schema_number(conn)?;
-    if number == 1 {
-        return Ok(true);
-    }
-    if number != 2 {
-        return Err(StoreFault::UnknownSchema);
-    }
-    Ok(false)
-}
-
 /// Asks whether the queries of a store can be prepared: for runs, for entries and, where the tables
 /// are not those of schema 1, for pairs.
 pub(crate) fn find_tables<S: Alter>(conn: &mut Connection<S>, old: bool) -> Result<(), Trouble>
@@ -140,7 +119,11 @@ pub(crate) fn is_old<S: Alter>(conn: &mut Connection<S>) -> Result<bool, StoreFa
         → HasCleanDisk (state S.Store conn.new) → IfErr result IsStoreFault }
     ensures due { IfErr result (λ e. IsStoreFault e ⊎ (e ≡ StoreFault.UnknownSchema)) }
 {
-    let old = says_old(conn)?;
+    let number = schema_number(conn)?;
+    if number != 1 && number != 2 {
+        return Err(StoreFault::UnknownSchema);
+    }
+    let old = number == 1;
     find_tables(conn, old)?;
     Ok(old)
 }

@@ -9,7 +9,7 @@ ghost use Rattle.sqlite_catalog.specs.Listing.{IsSound};
 use crate::StoreFault;
 use crate::ends::{check_last, entry_place};
 use crate::heads::add;
-use crate::lookup::MOST_RUNS;
+use crate::lookup::{MOST_RUNS, key};
 use crate::places::Places;
 use crate::put::{code, reason_of};
 use crate::seeks::{entries_at, last_number, stored_head, stored_run};
@@ -24,6 +24,7 @@ use sqlite_trees::store::Alter;
 use sqlite_value::row::Row;
 use sqlite_value::value::ValueRef;
 use std::alloc::Global;
+use std::slice;
 
 /// A row of these values.
 fn row_of(alloc: Global, values: &[ValueRef<'_>]) -> Result<Row, NoMemory>
@@ -36,56 +37,15 @@ fn row_of(alloc: Global, values: &[ValueRef<'_>]) -> Result<Row, NoMemory>
     Ok(row)
 }
 
-/// Puts one row into the table at a place of the schema, in place of those with these rowids, without a commit. The row
-/// is read from a column on.
-fn put_one<S: Alter>(
-    store: &mut S,
-    alloc: Global,
-    schema: &Schema,
-    place: usize,
-    gone: &[i64],
-    rowids: Rowids,
-    from: usize,
-    row: Row,
-) -> Result<(), Trouble>
-    requires obeys { IsClean (S.Store.view store.old)
-        → Obeys (S.Store.view store.old) schema.now }
-    requires short { from ≡ 0 ⊎ from ≡ 1 }
-    ensures puts { IsClean (S.Store.view store.new)
-        → OnOk result (PutsRows schema.now place gone.now rowids from (row ∷ [])
-        (S.Store.view store.old).trees (S.Store.view store.new).trees) }
-    ensures obeys { IsClean (S.Store.view store.new)
-        → OnOk result (Obeys (S.Store.view store.new) schema.now) }
-    ensures held { IsClean (S.Store.view store.new)
-        → HoldsCommit (S.Store.view store.old) (S.Store.view store.new) }
-    ensures clean { IsClean (S.Store.view store.new) → IsClean (S.Store.view store.old) }
-    ensures outcomes { (db : Trees) → S.Store.recovers store.new db
-        → S.Store.recovers store.old db }
-{
-    let mut rows = Vec::new(alloc);
-    add(&mut rows, row)?;
-    put_rows(
-        store,
-        alloc,
-        schema,
-        place,
-        gone,
-        rowids,
-        from,
-        rows.as_slice(),
-    )?;
-    Ok(())
-}
-
 /// The row of the pair at a place among those of an entry.
 fn pair_row(
     alloc: Global,
-    run: u64,
+    run: u32,
     position: u32,
     place: u64,
     pair: &Variable,
 ) -> Result<Row, NoMemory>
-    requires { (run < 2 ^ 63) × (place < 2 ^ 63) }
+    requires { place < 2 ^ 63 }
     ensures row { IfOk result (λ row. row ≡ unnumbered (pair_row run position place pair.now)) }
     ensures texts { IsPair pair.now }
 {
@@ -93,7 +53,7 @@ fn pair_row(
         alloc,
         &[
             ValueRef::Null,
-            int(run),
+            int(u64::from(run)),
             int(u64::from(position)),
             int(place),
             text(&pair.name),
@@ -105,11 +65,10 @@ fn pair_row(
 /// The rows of the pairs of an entry.
 fn rows_of_pairs(
     alloc: Global,
-    run: u64,
+    run: u32,
     position: u32,
     pairs: &[Variable],
 ) -> Result<Vec<Row>, NoMemory>
-    requires { run < 2 ^ 63 }
     ensures rows { IfOk result (λ rows. rows.items
         ≡ map unnumbered (pair_rows_from run position 0 pairs.now)) }
     ensures texts { OnOk result (AllByRecursion IsPair pairs.now) }
@@ -127,11 +86,10 @@ fn rows_of_pairs(
 /// The row of an entry of a run.
 fn row_of_entry<'a>(
     alloc: Global,
-    run: u64,
+    run: u32,
     entry: &'a Entry,
     reason: &'a Text,
 ) -> Result<Row, NoMemory>
-    requires run { run < 2 ^ 63 }
     requires reason { reason.now ≡ entry.now.verdict.reason }
     requires moments { IsStorable entry.now }
     ensures row { IfOk result (λ row. row ≡ unnumbered (entry_row run entry.now)) }
@@ -142,7 +100,7 @@ fn row_of_entry<'a>(
         alloc,
         &[
             ValueRef::Null,
-            int(run),
+            int(u64::from(run)),
             int(u64::from(entry.position)),
             text(&entry.program),
             text(&entry.case_name),
@@ -172,7 +130,7 @@ fn next_number<S: Alter>(store: &mut S, alloc: Global, places: Places) -> Result
 {
     let last = last_number(store, alloc, places)?;
     check_last(store, alloc, places, last)?;
-    if last >= MOST_RUNS {
+    if last >= u64::from(MOST_RUNS) {
         return Err(StoreFault::StoreFull);
     }
     Ok(last + 1)
@@ -204,7 +162,7 @@ pub(crate) fn write_run<S: Alter>(
             int(0),
         ],
     )?;
-    put_one(
+    put_rows(
         store,
         alloc,
         schema,
@@ -212,7 +170,7 @@ pub(crate) fn write_run<S: Alter>(
         &[],
         Rowids::Chosen,
         0,
-        row,
+        slice::from_ref(&row),
     )?;
     Ok(number)
 }
@@ -244,7 +202,7 @@ fn check_entry<S: Alter>(
     if entry.position >= head.total {
         return Err(StoreFault::BadPosition);
     }
-    let place = entry_place(alloc, run, u64::from(entry.position))?;
+    let place = entry_place(alloc, key(run), entry.position)?;
     if count_under(store, alloc, &entries_at(places), &place)? > 0 {
         return Err(StoreFault::RepeatedPosition);
     }
@@ -257,11 +215,10 @@ fn fill<S: Alter>(
     alloc: Global,
     schema: &Schema,
     places: Places,
-    run: u64,
+    run: u32,
     entry: &Entry,
     reason: &Text,
 ) -> Result<(), Trouble>
-    requires run { run < 2 ^ 63 }
     requires reason { reason.now ≡ entry.now.verdict.reason }
     requires moments { IsStorable entry.now }
     requires obeys { IsClean (S.Store.view store.old)
@@ -278,7 +235,7 @@ fn fill<S: Alter>(
         → S.Store.recovers store.old db }
 {
     let row = row_of_entry(alloc, run, entry, reason)?;
-    put_one(
+    put_rows(
         store,
         alloc,
         schema,
@@ -286,7 +243,7 @@ fn fill<S: Alter>(
         &[],
         Rowids::Chosen,
         0,
-        row,
+        slice::from_ref(&row),
     )?;
     let pairs = rows_of_pairs(alloc, run, entry.position, entry.meta.as_slice())?;
     put_rows(
@@ -319,7 +276,7 @@ pub(crate) fn write_entry<S: Alter>(
 {
     let reason = reason_of(alloc, entry)?;
     check_entry(store, alloc, places, run, entry)?;
-    fill(store, alloc, schema, places, run, entry, &reason)?;
+    fill(store, alloc, schema, places, key(run), entry, &reason)?;
     Ok(())
 }
 
@@ -363,8 +320,8 @@ fn check_run<S: Alter>(
     if head.finished {
         return Err(StoreFault::RunClosed);
     }
-    let key = number_row(alloc, run)?;
-    if count_under(store, alloc, &entries_at(places), &key)? < u64::from(head.total) {
+    let place = number_row(alloc, key(run))?;
+    if count_under(store, alloc, &entries_at(places), &place)? < u64::from(head.total) {
         return Err(StoreFault::Incomplete);
     }
     Ok(row)
@@ -385,15 +342,15 @@ pub(crate) fn write_finish<S: Alter>(
 {
     let row = check_run(store, alloc, places, run)?;
     let done = finished_row(alloc, &row)?;
-    put_one(
+    put_rows(
         store,
         alloc,
         schema,
         places.runs.at,
-        &[run as i64],
+        &[key(run) as i64],
         Rowids::Given,
         1,
-        done,
+        slice::from_ref(&done),
     )?;
     Ok(())
 }

@@ -13,7 +13,7 @@ use crate::places::Places;
 use crate::seeks::{entries_at, pairs_at, stored_head};
 use crate::store_fault::Trouble;
 use crate::store_fault::trees::{
-    Found, Table, add_number, are_shaped, columns_of, count_under, next_row, number_row, sure,
+    Table, add_number, are_shaped, columns_of, count_under, next_row, number_row, sure,
 };
 use kt_base::{Entry, NoMemory};
 use sqlite_trees::store::{Direction, Shape, Store};
@@ -43,9 +43,10 @@ fn last_place<S: Store>(
 {
     sure(are_shaped(store, table))?;
     store.seek(0, table.index, key, Direction::Backward)?;
-    let mut found = Found::new(alloc);
-    next_row(store, alloc, table, key, &mut found)?;
-    Ok(columns_of(alloc, &found.place, &[0, 1])?)
+    let mut place = Row::new(alloc);
+    let mut row = Row::new(alloc);
+    next_row(store, alloc, table, key, &mut place, &mut row)?;
+    Ok(columns_of(alloc, &place, &[0, 1])?)
 }
 
 /// Whether the index of a table has the place of its last row.
@@ -76,12 +77,10 @@ fn end_of<S: Store>(store: &mut S, alloc: Global, table: &Table) -> Result<Row, 
 }
 
 /// What the places of an entry and of its pairs begin with in their indexes.
-pub(crate) fn entry_place(alloc: Global, run: u64, position: u64) -> Result<Row, NoMemory>
-    requires { position < 2 ^ 63 }
-    ensures { run ≤ last_run
-        → IfOk result (λ place. place ≡ Int (pos run) ∷ Int (pos position) ∷ []) }
+pub(crate) fn entry_place(alloc: Global, run: u32, position: u32) -> Result<Row, NoMemory>
+    ensures { IfOk result (λ place. place ≡ Int (pos run) ∷ Int (pos position) ∷ []) }
 {
-    let mut place = number_row(alloc, key(run))?;
+    let mut place = number_row(alloc, run)?;
     add_number(&mut place, position)?;
     Ok(place)
 }
@@ -89,12 +88,12 @@ pub(crate) fn entry_place(alloc: Global, run: u64, position: u64) -> Result<Row,
 /// Whether this may be the end of the index of entries if the last run has this head: of a finished run it is the last
 /// position.
 fn is_end(alloc: Global, end: &Row, last: RunHead) -> Result<bool, NoMemory> {
-    let total = u64::from(last.total);
-    if last.finished && total > 0 {
-        let whole = entry_place(alloc, last.number, total - 1)?;
+    let number = key(last.number);
+    if last.finished && last.total > 0 {
+        let whole = entry_place(alloc, number, last.total - 1)?;
         return Ok(end.cmp_prefix(Order::PLAIN, &whole) == Ordering::Equal);
     }
-    let past = entry_place(alloc, last.number, total)?;
+    let past = entry_place(alloc, number, last.total)?;
     Ok(end.cmp_prefix(Order::PLAIN, &past) == Ordering::Less)
 }
 
@@ -143,7 +142,7 @@ fn last_head<S: Store>(
     }
     sure(store.shape(places.runs.tree) == Shape::Table)?;
     let mut row = Row::new(alloc);
-    sure(store.get(places.runs.tree, key(last) as i64, &mut row)?)?;
+    sure(store.get(places.runs.tree, i64::from(key(last)), &mut row)?)?;
     stored_head(alloc, &row)
 }
 
@@ -195,14 +194,14 @@ fn count_pairs<S: Store>(
     store: &mut S,
     alloc: Global,
     table: &Table,
-    run: u64,
+    run: u32,
     entries: &[Entry],
 ) -> Result<u64, Trouble>
     ensures looks { Looks S.Store store.old store.new }
 {
     let mut count: u64 = 0;
     for entry in entries {
-        let place = entry_place(alloc, run, u64::from(entry.position))?;
+        let place = entry_place(alloc, run, entry.position)?;
         count = count.saturating_add(count_under(store, alloc, table, &place)?);
     }
     Ok(count)
@@ -220,13 +219,14 @@ fn are_of_entries<S: Store>(
     ensures looks { Looks S.Store store.old store.new }
 {
     let table = pairs_at(places);
-    let key = number_row(alloc, key(head.number))?;
+    let run = key(head.number);
+    let place = number_row(alloc, run)?;
     if head.finished {
-        let pair = last_place(store, alloc, &table, &key)?;
+        let pair = last_place(store, alloc, &table, &place)?;
         return has_entry(store, alloc, places, &pair);
     }
-    let all = count_under(store, alloc, &table, &key)?;
-    Ok(all == count_pairs(store, alloc, &table, head.number, entries)?)
+    let all = count_under(store, alloc, &table, &place)?;
+    Ok(all == count_pairs(store, alloc, &table, run, entries)?)
 }
 
 /// Asks whether these are all entries of the run with this head, as far as it and its pairs tell.

@@ -3,7 +3,7 @@ ghost use Rattle.kt_store.specs.Common.{OnRuns, AreWide, AreRuns, Entry as Store
 
 use crate::StoreFault;
 use crate::heads::add;
-use crate::lookup::look;
+use crate::lookup::{key, look};
 use crate::outlines::{entry_in, pairs_in};
 use crate::store_fault::Trouble;
 use crate::store_fault::statements::query;
@@ -13,8 +13,7 @@ use sqlite::{Alter, Connection, Row};
 use std::alloc::Global;
 
 /// The rows of a run's entries, by position.
-pub(crate) fn entry_rows<S: Alter>(conn: &mut Connection<S>, run: u64) -> Result<Vec<Row>, Trouble>
-    requires { run < 2 ^ 63 }
+pub(crate) fn entry_rows<S: Alter>(conn: &mut Connection<S>, run: u32) -> Result<Vec<Row>, Trouble>
     ensures all { OnRuns S.Store conn.old conn.new (λ runs.
         IfOk result (λ rows. rows.items
         ≡ map whole_columns (entries_of (run_at runs run)))) }
@@ -26,17 +25,16 @@ pub(crate) fn entry_rows<S: Alter>(conn: &mut Connection<S>, run: u64) -> Result
         conn,
         "SELECT position, program, case_name, kind, reason, started, millis, body_out, body_err, clean_out, clean_err FROM entries WHERE run = ?1 ORDER BY position",
         11,
-        &[int(run)],
+        &[int(u64::from(run))],
     )
 }
 
 /// The rows of the pairs of the entry of a run at a position, by place.
 fn pair_rows<S: Alter>(
     conn: &mut Connection<S>,
-    run: u64,
+    run: u32,
     position: u32,
 ) -> Result<Vec<Row>, Trouble>
-    requires { run < 2 ^ 63 }
     ensures all { OnRuns S.Store conn.old conn.new (λ runs.
         IfOk result (λ rows. rows.items
         ≡ map pair_columns (pairs_of (entry_at (run_at runs run) position)))) }
@@ -47,7 +45,7 @@ fn pair_rows<S: Alter>(
         conn,
         "SELECT name, value FROM props WHERE run = ?1 AND position = ?2 ORDER BY place",
         2,
-        &[int(run), int(u64::from(position))],
+        &[int(u64::from(run)), int(u64::from(position))],
     )
 }
 
@@ -55,10 +53,9 @@ fn pair_rows<S: Alter>(
 fn entry_of<S: Alter>(
     conn: &mut Connection<S>,
     alloc: Global,
-    run: u64,
+    run: u32,
     row: &Row,
 ) -> Result<Entry, Trouble>
-    requires run { run < 2 ^ 63 }
     requires wide { 11 ≤ length row.now }
     ensures entry { OnRuns S.Store conn.old conn.new (λ runs. (e : Stored) → IsEntry e
         → entry_at (run_at runs run) e.position ≡ Some e → row.now ≡ whole_columns e
@@ -75,10 +72,9 @@ fn entry_of<S: Alter>(
 fn entries_in<S: Alter>(
     conn: &mut Connection<S>,
     alloc: Global,
-    run: u64,
+    run: u32,
     rows: &[Row],
 ) -> Result<Vec<Entry>, Trouble>
-    requires run { run < 2 ^ 63 }
     requires wide { AreWide 11 rows.now }
     ensures entries { OnRuns S.Store conn.old conn.new (λ runs. AreRuns runs
         → rows.now ≡ map whole_columns (entries_of (run_at runs run))
@@ -106,6 +102,7 @@ pub(crate) fn all_entries<S: Alter>(
     ensures looked { Looked S.Store conn.old conn.new }
 {
     look(conn, run)?;
-    let rows = entry_rows(conn, run)?;
-    Ok(entries_in(conn, alloc, run, &rows)?)
+    let number = key(run);
+    let rows = entry_rows(conn, number)?;
+    Ok(entries_in(conn, alloc, number, &rows)?)
 }

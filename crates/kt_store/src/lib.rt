@@ -23,7 +23,6 @@ mod run_rows;
 mod runs_file;
 mod seeks;
 mod store_fault;
-mod stored_kind;
 mod supposed;
 mod value;
 

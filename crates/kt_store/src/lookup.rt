@@ -8,14 +8,13 @@ use crate::value::{int, number_in};
 use sqlite::{Alter, Connection};
 
 /// How many runs this profile keeps.
-pub(crate) const MOST_RUNS: u64 = 1_000_000;
+pub(crate) const MOST_RUNS: u32 = 1_000_000;
 
 /// The total of a run, and 1 where it is finished.
 pub(crate) fn find<S: Alter>(
     conn: &mut Connection<S>,
-    run: u64,
+    run: u32,
 ) -> Result<Option<(u64, u64)>, Trouble>
-    requires { run < 2 ^ 63 }
     ensures looked { Looked S.Store conn.old conn.new }
     ensures valid { OnRuns S.Store conn.old conn.new (λ runs. OnOk result (AreRuns runs)) }
     ensures found { OnRuns S.Store conn.old conn.new (λ runs.
@@ -26,7 +25,7 @@ pub(crate) fn find<S: Alter>(
         conn,
         "SELECT total, finished FROM runs WHERE id = ?1",
         2,
-        &[int(run)],
+        &[int(u64::from(run))],
     )?;
     let Some(row) = rows.first() else {
         return Ok(None);
@@ -36,13 +35,17 @@ pub(crate) fn find<S: Alter>(
     Ok(Some((total, finished)))
 }
 
-/// A number that SQL takes: the run's own, or 0 for one past the last that may be.
-pub(crate) fn key(run: u64) -> u64
+/// The number of a run as the tables have it: its own, or 0, which no run has, for one past the last that may be.
+pub(crate) fn key(run: u64) -> u32
     ensures low { result ≤ last_run }
     ensures same { run ≤ last_run → result ≡ run }
     ensures none { last_run < run → result ≡ 0 }
 {
-    if run <= MOST_RUNS { run } else { 0 }
+    if run <= u64::from(MOST_RUNS) {
+        run as u32
+    } else {
+        0
+    }
 }
 
 /// The total of a run that is there, and whether it is finished.
@@ -59,7 +62,7 @@ pub(crate) fn look<S: Alter>(conn: &mut Connection<S>, run: u64) -> Result<(u64,
     let Some((total, finished)) = find(conn, number)? else {
         return Err(StoreFault::NoRun);
     };
-    if number != run {
+    if u64::from(number) != run {
         return Err(StoreFault::NoRun);
     }
     Ok((total, finished > 0))
@@ -68,10 +71,9 @@ pub(crate) fn look<S: Alter>(conn: &mut Connection<S>, run: u64) -> Result<(u64,
 /// Whether the run has an entry with this position.
 pub(crate) fn there<S: Alter>(
     conn: &mut Connection<S>,
-    run: u64,
+    run: u32,
     position: u32,
 ) -> Result<bool, Trouble>
-    requires { run < 2 ^ 63 }
     ensures looked { Looked S.Store conn.old conn.new }
     ensures found { OnRuns S.Store conn.old conn.new (λ runs.
         IfOk result (λ b. b ≡ has_position position (entries_of (run_at runs run)))) }
@@ -80,7 +82,7 @@ pub(crate) fn there<S: Alter>(
         conn,
         "SELECT position FROM entries WHERE run = ?1 AND position = ?2 ORDER BY position",
         1,
-        &[int(run), int(u64::from(position))],
+        &[int(u64::from(run)), int(u64::from(position))],
     )?;
     Ok(has_rows(&rows))
 }

@@ -1,4 +1,4 @@
-ghost use Rattle.std.specs.Prelude.{◌≡◌, ◌<◌, ◌≤◌, pos, ℕ, length, map, List, ◌++◌, IfOk};
+ghost use Rattle.std.specs.Prelude.{◌≡◌, ◌<◌, ◌≤◌, pos, ℕ, length, map, List, ◌++◌, Some, IfOk};
 ghost use Rattle.kt_store.specs.Common.{utf8, AllByRecursion, AreWide, Blob, Int, column, no_output, IsEntry, IsPair, IsText, entry_columns, kind_code, outlined, pair_columns, whole_columns};
 ghost use Rattle.kt_base.specs.declared.entry.Entry.{Entry as Stored};
 ghost use Rattle.kt_base.specs.declared.verdict.Kind.{Kind as Sort};
@@ -10,7 +10,7 @@ ghost use Rattle.sqlite.specs.Order.{Row as Values};
 use crate::heads::add;
 use crate::store_fault::Trouble;
 use crate::store_fault::statements::value_in;
-use crate::stored_kind::StoredKind;
+use crate::store_fault::trees::present;
 use crate::value::{number_in, small_in};
 use kt_base::{Bytes, Entry, Kind, Output, Text, Variable, Variables, Verdict};
 use sqlite::Row;
@@ -25,14 +25,28 @@ fn text_in(row: &Row, at: usize) -> Result<Text, Trouble>
     Ok(Text::from_string(string))
 }
 
+/// The kind with this number (docs/formats/store.md).
+fn kind_of(code: u64) -> Option<Kind>
+    ensures { (k : Sort) → code ≡ kind_code k → result ≡ Some k }
+{
+    match code {
+        0 => Some(Kind::Passed),
+        1 => Some(Kind::Skipped),
+        2 => Some(Kind::ExpectedFailure),
+        3 => Some(Kind::Failed),
+        4 => Some(Kind::Broken),
+        _ => None,
+    }
+}
+
 /// The kind in a row.
 fn kind_in(row: &Row, at: usize) -> Result<Kind, Trouble>
     requires { at < length row.now }
     ensures kind { (k : Sort) → column row.now at ≡ Int (pos (kind_code k))
         → IfOk result (λ x. x ≡ k) }
 {
-    let stored = value_in::<StoredKind>(row, at)?;
-    Ok(stored.kind)
+    let code = number_in(row, at)?;
+    present(kind_of(code))
 }
 
 /// The pair in a row.

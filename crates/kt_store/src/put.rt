@@ -3,7 +3,7 @@ ghost use Rattle.kt_store.specs.Common.{OnRuns, last_run, IsStorable, IsStoreFau
 
 use crate::StoreFault;
 use crate::batch::Batch;
-use crate::lookup::{look, there};
+use crate::lookup::{key, look, there};
 use crate::store_fault::Trouble;
 use crate::store_fault::statements::{commit, step};
 use crate::value::{blob, int, text};
@@ -37,12 +37,12 @@ pub(crate) fn reason_of(alloc: Global, entry: &Entry) -> Result<Text, NoMemory>
 /// Adds the pair at a place among those of an entry, inside a transaction.
 fn add_pair<S: Alter>(
     tx: &mut Transaction<'_, S>,
-    run: u64,
+    run: u32,
     position: u32,
     place: u64,
     pair: &Variable,
 ) -> Result<(), Trouble>
-    requires { (run < 2 ^ 63) × (place < 2 ^ 63) }
+    requires { place < 2 ^ 63 }
     ensures same_reference { tx.new.conn.ghost_name ≡ tx.old.conn.ghost_name }
     ensures runs { OnOk result (RunsOne S.Store (pair_statement run position place pair.now)
         tx.old.conn.now tx.new.conn.now) }
@@ -52,7 +52,7 @@ fn add_pair<S: Alter>(
         tx,
         "INSERT INTO props (run, position, place, name, value) VALUES (?1, ?2, ?3, ?4, ?5)",
         &[
-            int(run),
+            int(u64::from(run)),
             int(u64::from(position)),
             int(place),
             text(&pair.name),
@@ -64,11 +64,10 @@ fn add_pair<S: Alter>(
 /// Adds the pairs of an entry, inside a transaction.
 fn add_pairs<S: Alter>(
     tx: &mut Transaction<'_, S>,
-    run: u64,
+    run: u32,
     position: u32,
     pairs: &[Variable],
 ) -> Result<(), Trouble>
-    requires { run < 2 ^ 63 }
     ensures same_reference { tx.new.conn.ghost_name ≡ tx.old.conn.ghost_name }
     ensures runs { OnOk result (RunsAll S.Store (pair_statements run position 0 pairs.now)
         tx.old.conn.now tx.new.conn.now) }
@@ -85,11 +84,10 @@ fn add_pairs<S: Alter>(
 /// Adds an entry and its pairs, inside a transaction.
 pub(crate) fn fill<S: Alter>(
     tx: &mut Transaction<'_, S>,
-    run: u64,
+    run: u32,
     entry: &Entry,
     reason: &Text,
 ) -> Result<(), Trouble>
-    requires run { run < 2 ^ 63 }
     requires reason { reason.now ≡ entry.now.verdict.reason }
     requires moments { IsStorable entry.now }
     ensures same_reference { tx.new.conn.ghost_name ≡ tx.old.conn.ghost_name }
@@ -101,7 +99,7 @@ pub(crate) fn fill<S: Alter>(
         tx,
         "INSERT INTO entries (run, position, program, case_name, kind, reason, started, millis, body_out, body_err, clean_out, clean_err) VALUES (?1, ?2, ?3, ?4, ?5, ?6, ?7, ?8, ?9, ?10, ?11, ?12)",
         &[
-            int(run),
+            int(u64::from(run)),
             int(u64::from(entry.position)),
             text(&entry.program),
             text(&entry.case_name),
@@ -121,7 +119,7 @@ pub(crate) fn fill<S: Alter>(
 /// An entry that is put into a run, with the text of its reason.
 #[derive(Clone, Copy)]
 pub(crate) struct NewEntry<'a> {
-    run: u64,
+    run: u32,
     entry: &'a Entry,
     reason: &'a Text,
 }
@@ -132,8 +130,7 @@ impl Batch for NewEntry<'_> {
 
     ghost statements = { λ n. entry_statements n.run n.entry.now };
 
-    ghost is_ready = { λ n. (n.run < 2 ^ 63) × (n.reason.now ≡ n.entry.now.verdict.reason)
-        × IsStorable n.entry.now };
+    ghost is_ready = { λ n. (n.reason.now ≡ n.entry.now.verdict.reason) × IsStorable n.entry.now };
 
     fn fill<S: Alter>(&self, tx: &mut Transaction<'_, S>) -> Result<(), Trouble> {
         fill(tx, self.run, self.entry, self.reason)
@@ -143,11 +140,10 @@ impl Batch for NewEntry<'_> {
 /// Adds an entry and its pairs to a run that is there, where the run takes it, in one commit.
 pub(crate) fn add_entry<S: Alter>(
     conn: &mut Connection<S>,
-    run: u64,
+    run: u32,
     entry: &Entry,
     reason: &Text,
 ) -> Result<(), Trouble>
-    requires run { run < 2 ^ 63 }
     requires reason { reason.now ≡ entry.now.verdict.reason }
     requires moments { IsStorable entry.now }
     ensures added { OnOk result (Changes S.Store conn.old conn.new
@@ -180,7 +176,7 @@ pub(crate) fn check<S: Alter>(
     if u64::from(entry.position) >= total {
         return Err(StoreFault::BadPosition);
     }
-    if there(conn, run, entry.position)? {
+    if there(conn, key(run), entry.position)? {
         return Err(StoreFault::RepeatedPosition);
     }
     Ok(())

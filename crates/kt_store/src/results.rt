@@ -1,6 +1,7 @@
 use crate::attach::settle;
 use crate::entries::all_entries;
 use crate::heads::all_heads;
+use crate::lookup::key;
 use crate::new_file::prepare;
 use crate::put::{add_entry, check, reason_of};
 use crate::run_rows::{self, add_run, is_full, mark};
@@ -90,7 +91,7 @@ impl<S: Alter> Results<S> {
     {
         let reason = reason_of(self.alloc, entry)?;
         check(&mut self.conn, run, entry)?;
-        Ok(add_entry(&mut self.conn, run, entry, &reason)?)
+        Ok(add_entry(&mut self.conn, key(run), entry, &reason)?)
     }
 
     /// Finishes a run, with the refusals of `ResultStore::finish`.
@@ -98,7 +99,7 @@ impl<S: Alter> Results<S> {
         ensures { Serves (results S.Store) (Finished run result) self.old self.new }
     {
         run_rows::check(&mut self.conn, run)?;
-        Ok(mark(&mut self.conn, run)?)
+        Ok(mark(&mut self.conn, key(run))?)
     }
 
     /// All runs without their entries, by number.

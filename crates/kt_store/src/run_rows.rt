@@ -3,9 +3,9 @@ ghost use Rattle.kt_store.specs.Common.{OnRuns, last_run, IsMoment, HasCleanDisk
 
 use crate::StoreFault;
 use crate::entries::entry_rows;
-use crate::lookup::{MOST_RUNS, find, look};
+use crate::lookup::{MOST_RUNS, find, key, look};
 use crate::store_fault::Trouble;
-use crate::store_fault::statements::tell;
+use crate::store_fault::statements::execute;
 use crate::value::int;
 use sqlite::{Alter, Connection};
 
@@ -35,7 +35,7 @@ pub(crate) fn add_run<S: Alter>(
     ensures crash { MayChange S.Store conn.old conn.new
         (λ runs. length runs < last_run) (λ runs. runs ++ new_run runs total moment ∷ []) }
 {
-    tell(
+    execute(
         conn,
         "INSERT INTO runs (started, total, finished) VALUES (?1, ?2, 0)",
         &[int(moment), int(u64::from(total))],
@@ -56,7 +56,7 @@ pub(crate) fn check<S: Alter>(conn: &mut Connection<S>, run: u64) -> Result<(), 
     if finished {
         return Err(StoreFault::RunClosed);
     }
-    let rows = entry_rows(conn, run)?;
+    let rows = entry_rows(conn, key(run))?;
     let count = rows.as_slice().len() as u64;
     if count < total {
         return Err(StoreFault::Incomplete);
@@ -65,15 +65,14 @@ pub(crate) fn check<S: Alter>(conn: &mut Connection<S>, run: u64) -> Result<(), 
 }
 
 /// Sets the state of a run that has all its entries.
-pub(crate) fn mark<S: Alter>(conn: &mut Connection<S>, run: u64) -> Result<(), Trouble>
-    requires { run < 2 ^ 63 }
+pub(crate) fn mark<S: Alter>(conn: &mut Connection<S>, run: u32) -> Result<(), Trouble>
     ensures marked { OnOk result (Changes S.Store conn.old conn.new (IsComplete run) (finish run)) }
     ensures kept { OnErr result (KeepsRuns S.Store conn.old conn.new) }
     ensures crash { MayChange S.Store conn.old conn.new (IsComplete run) (finish run) }
 {
-    tell(
+    execute(
         conn,
         "UPDATE runs SET finished = 1 WHERE id = ?1",
-        &[int(run)],
+        &[int(u64::from(run))],
     )
 }

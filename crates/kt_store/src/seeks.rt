@@ -1,6 +1,5 @@
 ghost use Rattle.std.specs.Prelude.{◌≡◌, ◌⊎◌, ◌<◌, ◌≤◌, ◌^◌, ℕ, Some, None, drop, length, map, IfOk, IfErr, OnOk};
 ghost use Rattle.kt_store.specs.Common.{OnTrees, IsStoreFault, StandAt, Looks, LooksThrough, Run, AreRuns, Blob, Entry, column, entry_row, last_run, outputs_of, run_row, head_of, Serves, Heads, Outline, Outputs, Pairs, entries_of, outlined, run_at, seen_as};
-ghost use Rattle.kt_base.specs.declared.entry.Output.{Output as Pair};
 ghost use Rattle.kt_store.specs.Inner.Known.{readings};
 ghost use Rattle.sqlite_trees.specs.View.{IsClean};
 
@@ -120,7 +119,7 @@ pub(crate) fn stored_run<S: Store>(
     let number = key(run);
     sure(store.shape(places.runs.tree) == Shape::Table)?;
     let mut row = row::Row::new(alloc);
-    if !store.get(places.runs.tree, number as i64, &mut row)? || number != run {
+    if !store.get(places.runs.tree, number as i64, &mut row)? || u64::from(number) != run {
         return Err(StoreFault::NoRun);
     }
     Ok(row)
@@ -139,10 +138,9 @@ fn all_entries<S: Store>(
     store: &mut S,
     alloc: Global,
     places: Places,
-    run: u64,
+    run: u32,
 ) -> Result<Vec<Entry>, Trouble>
-    requires run { run < 2 ^ 63 }
-    requires placed { StandAt places (S.Store.view store.old) }
+    requires { StandAt places (S.Store.view store.old) }
     ensures all { OnTrees S.Store store.old store.new (λ runs.
         IfOk result (λ found. found.items ≡ map outlined (entries_of (run_at runs run)))) }
     ensures looks { Looks S.Store store.old store.new }
@@ -169,17 +167,17 @@ pub(crate) fn outline<S: Store>(
 {
     let row = stored_run(store, alloc, places, run)?;
     let head = stored_head(alloc, &row)?;
-    let found = all_entries(store, alloc, places, run)?;
+    let found = all_entries(store, alloc, places, key(run))?;
     check_entries(store, alloc, places, head, &found)?;
     Ok(found)
 }
 
 /// What the places before those of an entry begin with, or less.
-fn place_before(alloc: Global, run: u64, position: u32) -> Result<row::Row, NoMemory> {
+fn place_before(alloc: Global, run: u32, position: u32) -> Result<row::Row, NoMemory> {
     if position == 0 {
-        return number_row(alloc, key(run).saturating_sub(1));
+        return number_row(alloc, run.saturating_sub(1));
     }
-    entry_place(alloc, run, u64::from(position) - 1)
+    entry_place(alloc, run, position - 1)
 }
 
 /// The pairs of the entry of a run at a position, none if it has no entry there.
@@ -194,20 +192,11 @@ pub(crate) fn find_pairs<S: Store>(
     ensures served { Serves (readings S.Store) (Pairs run position result) store.old store.new }
     ensures looks { Looks S.Store store.old store.new }
 {
-    let before = place_before(alloc, run, position)?;
-    let place = entry_place(alloc, key(run), u64::from(position))?;
+    let number = key(run);
+    let before = place_before(alloc, number, position)?;
+    let place = entry_place(alloc, number, position)?;
     let rows = rows_after(store, alloc, &pairs_at(places), &before, &place, &[4, 5])?;
     Ok(pairs_in(alloc, &rows)?)
-}
-
-/// What was printed, in two columns of a stored row.
-fn stored_output(alloc: Global, row: &row::Row, out: usize, err: usize) -> Result<Output, Trouble>
-    ensures output { (o : Pair) → column row.now out ≡ Blob o.out → column row.now err ≡ Blob o.err
-        → IfOk result (λ x. x ≡ o) }
-{
-    let out = stored_bytes(alloc, row, out)?;
-    let err = stored_bytes(alloc, row, err)?;
-    Ok(Output { out, err })
 }
 
 /// The outputs in the row of an entry.
@@ -216,8 +205,12 @@ fn stored_outputs(alloc: Global, row: &row::Row) -> Result<CaseOutputs, StoreFau
         → IfOk result (λ o. o ≡ outputs_of e) }
     ensures failed { IfErr result IsStoreFault }
 {
-    let body = stored_output(alloc, row, 9, 10)?;
-    let cleanup = stored_output(alloc, row, 11, 12)?;
+    let out = stored_bytes(alloc, row, 9)?;
+    let err = stored_bytes(alloc, row, 10)?;
+    let body = Output { out, err };
+    let out = stored_bytes(alloc, row, 11)?;
+    let err = stored_bytes(alloc, row, 12)?;
+    let cleanup = Output { out, err };
     Ok(CaseOutputs { body, cleanup })
 }
 
@@ -234,9 +227,9 @@ pub(crate) fn find_outputs<S: Store>(
     ensures looks { Looks S.Store store.old store.new }
 {
     let number = key(run);
-    let place = entry_place(alloc, number, u64::from(position))?;
+    let place = entry_place(alloc, number, position)?;
     match row_behind(store, alloc, &entries_at(places), &place)? {
-        Some(row) if number == run => stored_outputs(alloc, &row),
+        Some(row) if u64::from(number) == run => stored_outputs(alloc, &row),
         _ => Err(StoreFault::NoRun),
     }
 }

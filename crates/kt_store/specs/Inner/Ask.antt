@@ -39,7 +39,7 @@ module _ {S : Type 0} (g : Ghosts S) (sql : List ℕ) (params : Row) (old : Held
     pub same : IsUnchanged (state g old) (state g mid)
     pub shown : Shown sql params (state g mid) (state g new) rows
 
-  pub record Told (new : Held S) : Type 0 where
+  pub record Executed (new : Held S) : Type 0 where
     pub mid : Held S
     pub same : IsUnchanged (state g old) (state g mid)
     pub count : ℕ
@@ -49,5 +49,5 @@ module _ {S : Type 0} (g : Ghosts S) (sql : List ℕ) (params : Row) (old : Held
   abbrev pub MayShow : Trees → Type 0
   MayShow db = (mid : Held S) × IsUnchanged (state g old) (state g mid) × CommitsShowing sql params (state g mid) db
 
-  abbrev pub MayTell : Trees → Type 0
-  MayTell db = (mid : Held S) × IsUnchanged (state g old) (state g mid) × CommitsBy sql params (state g mid) db
+  abbrev pub MayExecute : Trees → Type 0
+  MayExecute db = (mid : Held S) × IsUnchanged (state g old) (state g mid) × CommitsBy sql params (state g mid) db

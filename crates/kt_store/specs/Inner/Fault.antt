@@ -21,13 +21,13 @@ IsFailure (NoMemory shortage) = ⊥
 IsFailure (Failed statement) = ⊤
 
 -- an error is a lack of memory if that is what SQLite says, and else a failed statement
-abbrev pub Tells : Error → Trouble → Type 0
-Tells error trouble = (IsShort trouble × (error ≡ SqliteFailure code.OutOfMemory)) ⊎ (IsFailure trouble × (error ≢ SqliteFailure code.OutOfMemory))
+abbrev pub IsOfError : Error → Trouble → Type 0
+IsOfError error trouble = (IsShort trouble × (error ≡ SqliteFailure code.OutOfMemory)) ⊎ (IsFailure trouble × (error ≢ SqliteFailure code.OutOfMemory))
 
 -- the same of an error of a tree
-abbrev pub TellsOf : StoreError → Trouble → Type 0
-TellsOf error trouble = (IsShort trouble × (error ≡ OutOfMemory)) ⊎ (IsFailure trouble × (error ≢ OutOfMemory))
+abbrev pub IsOfTreeError : StoreError → Trouble → Type 0
+IsOfTreeError error trouble = (IsShort trouble × (error ≡ OutOfMemory)) ⊎ (IsFailure trouble × (error ≢ OutOfMemory))
 
--- an error of a write is told as a lack of memory only if that is what a tree says
-abbrev pub TellsOfWrite : WriteError → Trouble → Type 0
-TellsOfWrite error trouble = IsShort trouble → error ≡ write.Failed OutOfMemory
+-- an error of a write is a lack of memory only if that is what a tree says
+abbrev pub IsOfWriteError : WriteError → Trouble → Type 0
+IsOfWriteError error trouble = IsShort trouble → error ≡ write.Failed OutOfMemory

@@ -1,7 +1,8 @@
 ghost use Rattle.std.specs.Prelude.{◌≡◌, ◌⊎◌, OnOk};
-ghost use Rattle.kt_store.specs.Common.{TellsOfWrite, Obeys, HoldsCommit, PutsRows};
-ghost use Rattle.sqlite_trees.specs.View.{IsClean, IsQuiet, OnlyWrites};
+ghost use Rattle.kt_store.specs.Common.{IsOfWriteError, IsStoreFault, Obeys, HoldsCommit, PutsRows};
+ghost use Rattle.sqlite_trees.specs.View.{IsClean, IsQuiet};
 
+use crate::StoreFault;
 use crate::store_fault::{FAULTY, Trouble};
 use sqlite_exec::work::Workspace;
 use sqlite_items::Items;
@@ -14,13 +15,21 @@ use sqlite_value::row::Row;
 use std::alloc::Global;
 
 impl From<WriteError> for Trouble {
-    ghost from_gives = { TellsOfWrite };
+    ghost from_gives = { IsOfWriteError };
 
     fn from(error: WriteError) -> Trouble {
         match error {
             WriteError::Failed(error) => Trouble::from(error),
             WriteError::Refused(_) => FAULTY,
         }
+    }
+}
+
+impl From<WriteError> for StoreFault {
+    ghost from_gives = { λ _ fault. IsStoreFault fault };
+
+    fn from(error: WriteError) -> StoreFault {
+        StoreFault::from(Trouble::from(error))
     }
 }
 
@@ -43,8 +52,6 @@ pub(crate) fn put_rows<S: Alter>(
         (S.Store.view store.old).trees (S.Store.view store.new).trees) }
     ensures obeys { IsClean (S.Store.view store.new)
         → OnOk result (Obeys (S.Store.view store.new) schema.now) }
-    ensures frame { IsClean (S.Store.view store.new)
-        → OnOk result (OnlyWrites (S.Store.view store.old) (S.Store.view store.new)) }
     ensures held { IsClean (S.Store.view store.new)
         → HoldsCommit (S.Store.view store.old) (S.Store.view store.new) }
     ensures quiet { IsQuiet S.Store.view S.Store.faults S.Store.recovers S.Store.is_shielded

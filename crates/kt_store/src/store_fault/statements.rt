@@ -1,5 +1,5 @@
 ghost use Rattle.std.specs.Prelude.{◌≡◌, ◌<◌, Ok, IfOk, OnOk, OnErr, IsTrue, true, false, nat_lt, length, []};
-ghost use Rattle.kt_store.specs.Common.{OnRuns, bound, IsPlain, understood, HasCleanDisk, Survives, IsUnchanged, state, column, Tells, CommitsNothing, Looked, Asked, AreWide, HasColumns, MayShow, MayTell, ShowsOf, Told, Commits, CommitsLater, IsOurs, MayCommit, RunsOne, Undoes, Rests, IsNoMemory, IsShort, image_at, IsOver, IsUnderstood, schema_2};
+ghost use Rattle.kt_store.specs.Common.{OnRuns, bound, IsPlain, understood, HasCleanDisk, Survives, IsUnchanged, state, column, IsOfError, CommitsNothing, Looked, Asked, AreWide, HasColumns, MayShow, MayExecute, ShowsOf, Executed, Commits, CommitsLater, IsOurs, MayCommit, RunsOne, Undoes, Rests, IsNoMemory, IsShort, image_at, IsOver, IsUnderstood, schema_2};
 ghost use Rattle.sqlite_std_file.specs.File.{file_is_usable, IsFresh};
 
 use crate::batch::Batch;
@@ -32,13 +32,14 @@ impl From<NoMemory> for Trouble {
     }
 }
 
-/// What an error of SQLite is.
-fn trouble_of(error: SqlError) -> Trouble
-    ensures { Tells error result }
-{
-    match error {
-        SqlError::SqliteFailure(ErrorCode::OutOfMemory) => Trouble::NoMemory(Shortage(Refusal)),
-        _ => FAULTY,
+impl From<SqlError> for Trouble {
+    ghost from_gives = { IsOfError };
+
+    fn from(error: SqlError) -> Trouble {
+        match error {
+            SqlError::SqliteFailure(ErrorCode::OutOfMemory) => Trouble::NoMemory(Shortage(Refusal)),
+            _ => FAULTY,
+        }
     }
 }
 
@@ -47,10 +48,8 @@ pub(crate) fn value_in<T: FromSql>(row: &Row, at: usize) -> Result<T, Trouble>
     requires { at < length row.now }
     ensures value { IfOk result (T.FromSql.reads_as (column row.now at)) }
 {
-    match row.get::<T>(at) {
-        Ok(value) => Ok(value),
-        Err(error) => Err(trouble_of(error)),
-    }
+    let value = row.get::<T>(at)?;
+    Ok(value)
 }
 
 /// Asks whether the connection is open, and its tables those of a statement.
@@ -64,10 +63,8 @@ pub(crate) fn probe<S: Alter>(conn: &mut Connection<S>, sql: &str) -> Result<(),
         → OnOk result (IsUnderstood (state S.Store conn.old) sql.now) }
     ensures survives { CommitsNothing S.Store conn.old conn.new }
 {
-    match conn.prepare(sql) {
-        Ok(_statement) => Ok(()),
-        Err(error) => Err(trouble_of(error)),
-    }
+    conn.prepare(sql)?;
+    Ok(())
 }
 
 /// All rows of a query. It is prepared first, so that a connection which is shut is not asked.
@@ -85,14 +82,9 @@ pub(crate) fn ask<S: Alter>(
     ensures survives { Survives (state S.Store conn.old) (state S.Store conn.new)
         (MayShow S.Store sql.now (bound params.now) conn.old) }
 {
-    let statement = match conn.prepare(sql) {
-        Ok(statement) => statement,
-        Err(error) => return Err(trouble_of(error)),
-    };
-    match statement.query_all(conn, params) {
-        Ok(rows) => Ok(rows),
-        Err(error) => Err(trouble_of(error)),
-    }
+    let statement = conn.prepare(sql)?;
+    let rows = statement.query_all(conn, params)?;
+    Ok(rows)
 }
 
 /// Asks for the last of so many columns in each row.
@@ -102,9 +94,7 @@ fn have_columns(rows: &[Row], width: usize) -> Result<(), Trouble>
 {
     let mut rest = rows;
     while let Some((row, after)) = rest.split_first() {
-        if let Err(error) = row.get_ref(width - 1) {
-            return Err(trouble_of(error));
-        }
+        row.get_ref(width - 1)?;
         rest = after;
     }
     Ok(())
@@ -130,27 +120,22 @@ pub(crate) fn query<S: Alter>(
 }
 
 /// Runs a statement that is no query.
-pub(crate) fn tell<S: Alter>(
+pub(crate) fn execute<S: Alter>(
     conn: &mut Connection<S>,
     sql: &str,
     params: &[ValueRef<'_>],
 ) -> Result<(), Trouble>
     requires { IsPlain (understood schema_2 sql.now) }
-    ensures told { HasCleanDisk (state S.Store conn.new)
-        → OnOk result (Told S.Store sql.now (bound params.now) conn.old conn.new) }
+    ensures executed { HasCleanDisk (state S.Store conn.new)
+        → OnOk result (Executed S.Store sql.now (bound params.now) conn.old conn.new) }
     ensures rests { HasCleanDisk (state S.Store conn.new)
         → OnErr result (Rests (state S.Store conn.old) (state S.Store conn.new)) }
     ensures survives { Survives (state S.Store conn.old) (state S.Store conn.new)
-        (MayTell S.Store sql.now (bound params.now) conn.old) }
+        (MayExecute S.Store sql.now (bound params.now) conn.old) }
 {
-    let statement = match conn.prepare(sql) {
-        Ok(statement) => statement,
-        Err(error) => return Err(trouble_of(error)),
-    };
-    match statement.execute(conn, params) {
-        Ok(_count) => Ok(()),
-        Err(error) => Err(trouble_of(error)),
-    }
+    let statement = conn.prepare(sql)?;
+    statement.execute(conn, params)?;
+    Ok(())
 }
 
 /// Runs a statement of a transaction.
@@ -165,10 +150,8 @@ pub(crate) fn step<S: Alter>(
         tx.old.conn.now tx.new.conn.now) }
     ensures uncommitted { CommitsLater S.Store tx.old.conn.now tx.new.conn.now }
 {
-    match tx.execute(sql, params) {
-        Ok(_count) => Ok(()),
-        Err(error) => Err(trouble_of(error)),
-    }
+    tx.execute(sql, params)?;
+    Ok(())
 }
 
 /// Runs statements in one transaction, and commits them. A connection that is in a transaction is refused.
@@ -186,10 +169,8 @@ pub(crate) fn commit<S: Alter, B: Batch>(conn: &mut Connection<S>, batch: &B) ->
     }
     let mut tx = conn.transaction();
     batch.fill(&mut tx)?;
-    match tx.commit() {
-        Ok(()) => Ok(()),
-        Err(error) => Err(trouble_of(error)),
-    }
+    tx.commit()?;
+    Ok(())
 }
 
 /// The fault of files that can't be opened.
@@ -213,7 +194,7 @@ fn done<T, L: Drop>(returned: Result<T, (SqlError, L)>) -> Result<T, Trouble>
 {
     match returned {
         Ok(it) => Ok(it),
-        Err((error, _left)) => Err(trouble_of(error)),
+        Err((error, _left)) => Err(Trouble::from(error)),
     }
 }
 

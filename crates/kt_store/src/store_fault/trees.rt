@@ -1,5 +1,5 @@
 ghost use Rattle.std.specs.Prelude.{◌≡◌, ◌++◌, ◌<◌, ◌^◌, ℕ, ℤ, pos, List, [], ◌∷◌, map, length, true, false, Some, None, IsSome, IsTrue, IfOk, OnOk, OnErr};
-ghost use Rattle.kt_store.specs.Common.{Blob, column, Int, AreWide, IsStoreFault, TellsOf, FindsUnder, Goes, Looks, LooksThrough, ShowsUnder, CountsUnder, in_columns};
+ghost use Rattle.kt_store.specs.Common.{Blob, column, Int, AreWide, IsStoreFault, IsOfTreeError, FindsUnder, Goes, Looks, LooksThrough, ShowsUnder, CountsUnder, in_columns};
 ghost use Rattle.sqlite_exec.specs.Calls.{OnlyReads};
 ghost use Rattle.sqlite_exec.specs.Loops.{left_of};
 ghost use Rattle.sqlite_trees.specs.Tree.{rowid};
@@ -51,36 +51,8 @@ pub(crate) struct Table<'a> {
     pub(crate) blobs: &'a [usize],
 }
 
-/// A place of an index, and the row that it is of.
-pub(crate) struct Found {
-    pub(crate) place: row::Row,
-    row: row::Row,
-}
-
-impl Found {
-    pub(crate) fn new(alloc: Global) -> Found {
-        Found {
-            place: row::Row::new(alloc),
-            row: row::Row::new(alloc),
-        }
-    }
-
-    fn into_row(self) -> row::Row
-        ensures { result ≡ self.row }
-    {
-        let Found { place: _, row } = self;
-        row
-    }
-}
-
-impl Drop for Found {
-    fn drop(self) {
-        let Found { place: _, row: _ } = self;
-    }
-}
-
 impl From<StoreError> for Trouble {
-    ghost from_gives = { TellsOf };
+    ghost from_gives = { IsOfTreeError };
 
     fn from(error: StoreError) -> Trouble {
         match error {
@@ -122,17 +94,15 @@ pub(crate) fn number_of(row: &row::Row) -> Result<u64, Trouble>
 }
 
 /// Adds a number to a key.
-pub(crate) fn add_number(key: &mut row::Row, number: u64) -> Result<(), NoMemory>
-    requires { number < 2 ^ 63 }
+pub(crate) fn add_number(key: &mut row::Row, number: u32) -> Result<(), NoMemory>
     ensures { OnOk result (key.new ≡ key.old ++ Int (pos number) ∷ []) }
 {
-    key.push(int(number))?;
+    key.push(int(u64::from(number)))?;
     Ok(())
 }
 
 /// A key of one number.
-pub(crate) fn number_row(alloc: Global, number: u64) -> Result<row::Row, NoMemory>
-    requires { number < 2 ^ 63 }
+pub(crate) fn number_row(alloc: Global, number: u32) -> Result<row::Row, NoMemory>
     ensures { IfOk result (λ key. key ≡ Int (pos number) ∷ []) }
 {
     let mut key = row::Row::new(alloc);
@@ -210,27 +180,27 @@ fn has_blobs(row: &row::Row, columns: &[usize]) -> bool {
     true
 }
 
-/// Writes the next place of the cursor and its row over what was found, if one is left, and returns whether it
-/// begins with the key. A place of another row is damage, and so is a row of another form.
+/// Writes the next place of the cursor and its row over these two, if one is left, and returns whether it begins with the
+/// key. A place of another row is damage, and so is a row of another form.
 pub(crate) fn next_row<S: Store>(
     store: &mut S,
     alloc: Global,
     table: &Table,
     key: &row::Row,
-    found: &mut Found,
+    place: &mut row::Row,
+    row: &mut row::Row,
 ) -> Result<bool, Trouble>
     requires cursor { IsSome ((S.Store.view store.old).cursors 0) }
     requires table { (S.Store.view store.old).shape table.now.tree ≡ kind.Table }
     ensures goes { IfOk result (λ is_ours. IsClean (S.Store.view store.new)
         → Goes key.now ((S.Store.view store.old).trees table.now.tree)
-        (left_of (S.Store.view store.old) 0) found.new.place found.new.row
+        (left_of (S.Store.view store.old) 0) place.new row.new
         (left_of (S.Store.view store.new) 0) is_ours) }
     ensures live { OnOk result (IsSome ((S.Store.view store.new).cursors 0)) }
     ensures reads { OnOk result (IsClean (S.Store.view store.new)
         → OnlyReads (S.Store.view store.old) (S.Store.view store.new)) }
     ensures looks { Looks S.Store store.old store.new }
 {
-    let Found { place, row } = found;
     if !store.next(0, place)? {
         return Ok(false);
     }
@@ -259,11 +229,12 @@ pub(crate) fn row_behind<S: Store>(
 {
     sure(are_shaped(store, table))?;
     store.seek(0, table.index, key, Direction::Forward)?;
-    let mut found = Found::new(alloc);
-    if !next_row(store, alloc, table, key, &mut found)? {
+    let mut place = row::Row::new(alloc);
+    let mut row = row::Row::new(alloc);
+    if !next_row(store, alloc, table, key, &mut place, &mut row)? {
         return Ok(None);
     }
-    Ok(Some(found.into_row()))
+    Ok(Some(row))
 }
 
 /// These columns of the rows of a table that the index of its key has under a key, in its order. One row is held at a
@@ -285,15 +256,16 @@ fn rows_behind<S: Store>(
 {
     sure(are_shaped(store, table))?;
     store.seek(0, table.index, key, Direction::Forward)?;
-    let mut found = Found::new(alloc);
+    let mut place = row::Row::new(alloc);
+    let mut row = row::Row::new(alloc);
     let mut rows = Vec::new(alloc);
     // A disk that lies could keep a cursor going, so the loop counts.
     'places: for _ in 0..u64::MAX {
         // The place behind is read too: it may be one of these that was damaged.
-        if !next_row(store, alloc, table, key, &mut found)? {
+        if !next_row(store, alloc, table, key, &mut place, &mut row)? {
             return Ok(rows);
         }
-        add_shown(alloc, &found.row, columns, &mut rows)?;
+        add_shown(alloc, &row, columns, &mut rows)?;
     }
     Err(FAULTY)
 }
@@ -318,9 +290,9 @@ pub(crate) fn rows_after<S: Store>(
 {
     sure(are_shaped(store, table))?;
     store.seek(0, table.index, before, Direction::Backward)?;
-    let mut found = Found::new(alloc);
-    next_row(store, alloc, table, before, &mut found)?;
-    drop(found);
+    let mut place = row::Row::new(alloc);
+    let mut row = row::Row::new(alloc);
+    next_row(store, alloc, table, before, &mut place, &mut row)?;
     rows_behind(store, alloc, table, key, columns)
 }
 

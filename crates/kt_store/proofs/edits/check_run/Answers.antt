@@ -25,7 +25,7 @@ counted g c runs has clean =
     let es = entries_of (run_at runs n) in
     let trees = ap (λ (v : View). v.trees) through.1 in
     let is = c.requires was through.0 runs keeps in
-    let many = rw (c.entries_at.ensures.tree, c.entries_at.ensures.index, is, trees, c.in_ok-key.ensures) at (c.in_ok-count_under.ensures.counted clean)
+    let many = rw (c.entries_at.ensures.tree, c.entries_at.ensures.index, is, trees, c.in_ok-place.ensures, c.key.ensures.same c.in_ok-row.ensures.small) at (c.in_ok-count_under.ensures.counted clean)
     cs (map (entry_row n) es) (λ shaped up. places_of_run runs _ keeps shaped up n) in
     (it.0, it.1, it.2, c.in_ok-head.ensures.head it.0 it.2, it.3, many ∙ length-map es (entry_row n))
 

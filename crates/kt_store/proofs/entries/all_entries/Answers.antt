@@ -1,4 +1,4 @@
-use Rattle.kt_store.proofs.Common.{ap, entries_of, ◌∙◌}
+use Rattle.kt_store.proofs.Common.{ap, entries_of, run_at, ◌∙◌}
 use Rattle.kt_store.proofs.AskLemmas.{looked-then, was_clean}
 use Rattle.kt_store.proofs.entries.all_entries.Goals as goal
 
@@ -11,7 +11,7 @@ returns-clause-entries g c runs has clean =
     let stands = c.entry_rows.ensures.looked.stands runs stood in
     let late = was_clean c.entries_in.ensures.looked runs stands clean in
     let found = c.in_ok-look.ensures.found runs has (was_clean c.entry_rows.ensures.looked runs stood late) in
-    (found.0, found.1, c.in_ok-entries_in.ensures.entries runs stands clean (c.in_ok-rows.ensures.valid runs stood late) (c.deref.ensures.value ∙ c.in_ok-rows.ensures.all runs stood late) ∙ ap entries_of found.1)
+    (found.0, found.1, c.in_ok-entries_in.ensures.entries runs stands clean (c.in_ok-rows.ensures.valid runs stood late) (c.deref.ensures.value ∙ c.in_ok-rows.ensures.all runs stood late) ∙ ap (λ n. entries_of (run_at runs n)) (c.key-number.ensures.same c.in_ok-look.ensures.small) ∙ ap entries_of found.1)
 
 pub returns-in_err-entries_in-clause-looked : goal.returns-in_err-entries_in-clause-looked
 returns-in_err-entries_in-clause-looked g c = looked-then c.look.ensures.looked (looked-then c.entry_rows.ensures.looked c.entries_in.ensures.looked)

@@ -1,7 +1,7 @@
 use Rattle.kt_store.proofs.Common.{Entry, None, Option, Run, Some, [], ap, arith, entries_of, entry_at, find, get_or, length, length-map, map, map-id, refl, rules, run_at, subst, suc, sym, take, take_all, whole_columns, ℕ, ◌++◌, ◌+◌, ◌<◌, ◌∙◌, ◌∷◌, ◌≡◌}
 use Rattle.kt_store.proofs.AskLemmas.{looked-then, was_clean}
 use Rattle.kt_store.proofs.EntriesLemmas.{sound_of, up_of}
-use Rattle.kt_store.proofs.MergeLemmas.{IsOwn, are_own}
+use Rattle.kt_store.proofs.SoundEntries.{IsOwn, are_own}
 use Rattle.kt_store.proofs.OutputsLemmas.{has as is_at}
 use Rattle.kt_store.proofs.RunLemmas.{one_more}
 use Rattle.kt_store.proofs.entries.entries_in.Goals as goal

@@ -8,5 +8,5 @@ query-requires g c = record { plain = entries_select_is.2; width = entries_selec
 
 pub returns-clause-all : goal.returns-clause-all
 returns-clause-all g c runs has clean = IfOk-weaker c.query.result _ _ (λ rows are.
-    let it = rw c.int.ensures at are in
+    let it = rw (c.int.ensures, c.from.ensures) at are in
     tells_entries (state g.S.Store it.mid) (state g.S.Store c.query.new.conn) runs c.args.run rows.items it.stored it.shown) (c.query.ensures.shown runs has clean)

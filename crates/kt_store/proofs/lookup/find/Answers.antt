@@ -21,12 +21,12 @@ returns-clause-valid g c runs has clean = (c.in_ok-rows.ensures.shown runs has c
 pub returns-in_default-clause-found : goal.returns-in_default-clause-found
 returns-in_default-clause-found g c runs has clean =
     let items = c.in_ok-rows.rows.items in
-    let are = tells_run g.S.Store c.query.new.conn runs c.args.run items (rw c.int.ensures at (c.in_ok-rows.ensures.shown runs has clean)) in
+    let are = tells_run g.S.Store c.query.new.conn runs c.args.run items (rw (c.int.ensures, c.from.ensures) at (c.in_ok-rows.ensures.shown runs has clean)) in
     sym (ap (option_map head) (none_there head_row (run_at runs c.args.run) items are (ap (λ l. slice_get l 0) (sym c.deref.ensures.value) ∙ sym c.first.ensures.value ∙ ap option_copied c.in_default.is)))
 
 pub returns-clause-found : goal.returns-clause-found
 returns-clause-found g c runs has clean =
     let items = c.in_ok-rows.rows.items in
-    let are = tells_run g.S.Store c.query.new.conn runs c.args.run items (rw c.int.ensures at (c.in_ok-rows.ensures.shown runs has clean)) in
+    let are = tells_run g.S.Store c.query.new.conn runs c.args.run items (rw (c.int.ensures, c.from.ensures) at (c.in_ok-rows.ensures.shown runs has clean)) in
     let it = some_there head_row (run_at runs c.args.run) items c.in-Some.row.now are (ap (λ l. slice_get l 0) (sym c.deref.ensures.value) ∙ sym c.first.ensures.value ∙ ap option_copied c.in-Some.is) in
     both_read (run_at runs c.args.run) it.0 c.in-Some.row.now c.in_ok-total.total c.in_ok-finished.finished it.1 it.2 c.in_ok-total.ensures.number c.in_ok-finished.ensures.number

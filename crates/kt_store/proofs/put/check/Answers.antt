@@ -18,7 +18,7 @@ returns-clause-taken g c runs has clean passed =
     let stands = c.look.ensures.looked.stands runs has in
     let early = was_clean c.there.ensures.looked runs stands clean in
     let it = c.in_ok-total.ensures.found runs has early in
-    taken runs c.args.run c.args.entry.now it.0 it.1 (sym it.3 ∙ c.if-finished.false) (omega (arith, c.if-from-total.false, c.from.ensures, it.2)) passed it.4 (sym (c.in_ok-there.ensures.found runs stands clean) ∙ c.if-branch.false)
+    taken runs c.args.run c.args.entry.now it.0 it.1 (sym it.3 ∙ c.if-finished.false) (omega (arith, c.if-from-total.false, c.from.ensures, it.2)) passed it.4 (sym (rw (c.key.ensures.same c.in_ok-total.ensures.small) at (c.in_ok-there.ensures.found runs stands clean)) ∙ c.if-branch.false)
 
 pub returns-in_err-there-clause-looked : goal.returns-in_err-there-clause-looked
 returns-in_err-there-clause-looked g c = looked-then c.look.ensures.looked c.there.ensures.looked

@@ -1,12 +1,9 @@
-use Rattle.kt_store.proofs.Common.{Outline, ap, arith, entries_of, map, outlined, refl, ◌∙◌}
+use Rattle.kt_store.proofs.Common.{Outline, ap, entries_of, map, outlined, refl, run_at, ◌∙◌}
 use Rattle.kt_store.proofs.SeenLemmas.{still_at, still_has, looks_then, looked_serves}
 use Rattle.kt_store.proofs.seeks.outline.Goals as goal
 
-pub all_entries-requires-clause-run : goal.all_entries-requires-clause-run
-all_entries-requires-clause-run g c = omega (arith, c.in_ok-row.ensures.small)
-
-pub all_entries-requires-clause-placed : goal.all_entries-requires-clause-placed
-all_entries-requires-clause-placed g c = still_at g.S.Store _ _ c.args.places c.stored_run.ensures.looks c.requires
+pub all_entries-requires : goal.all_entries-requires
+all_entries-requires g c = still_at g.S.Store _ _ c.args.places c.stored_run.ensures.looks c.requires
 
 pub returns-clause-served : goal.returns-clause-served
 returns-clause-served g c =
@@ -16,5 +13,5 @@ returns-clause-served g c =
     let is = c.in_ok-row.ensures.found runs has (c.all_entries.ensures.looks.clean clean) in (
       is.0,
       is.1,
-      c.in_ok-found.ensures.all runs (still_has g.S.Store _ _ c.stored_run.ensures.looks runs has) clean ∙ ap (λ o. map outlined (entries_of o)) is.1,
+      c.in_ok-found.ensures.all runs (still_has g.S.Store _ _ c.stored_run.ensures.looks runs has) clean ∙ ap (λ o. map outlined (entries_of o)) (ap (run_at runs) (c.key.ensures.same c.in_ok-row.ensures.small) ∙ is.1),
     ))

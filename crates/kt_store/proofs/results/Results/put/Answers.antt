@@ -17,11 +17,11 @@ pub returns-in_err-add_entry : goal.returns-in_err-add_entry
 returns-in_err-add_entry g c =
     troubled_at g.S.Store (λ r. Put c.args.run c.args.entry.now r) c.self.inside.conn c.args.self.now c.add_entry.new.conn c.self.view_is c.from_residual-in_err-add_entry.result c.from_residual-in_err-add_entry.ensures.1 (λ e failed.
     write_called g.S.Store _ _ (put_writes _ c.args.run c.args.entry.now) c.self.inside.conn c.check.new.conn c.add_entry.new.conn c.check.ensures.looked (CanAdd c.args.run c.args.entry.now)
-    (λ runs has clean. (c.in_ok-check.ensures.taken runs has clean c.in_ok-reason.ensures.passed).1) c.add_entry.ensures.crash (Err e) tt (λ _ _ _ _. tt) failed c.in_err-add_entry.ensures.kept)
+    (λ runs has clean. (c.in_ok-check.ensures.taken runs has clean c.in_ok-reason.ensures.passed).1) (rw (c.key.ensures.same c.in_ok-check.ensures.small) at c.add_entry.ensures.crash) (Err e) tt (λ _ _ _ _. tt) failed c.in_err-add_entry.ensures.kept)
 
 pub returns : goal.returns
 returns g c =
     seen_at g.S.Store _ c.self.inside.conn c.args.self.now c.add_entry.new.conn c.self.view_is
     (write_called g.S.Store (λ r. Put c.args.run c.args.entry.now r) _ (put_writes _ c.args.run c.args.entry.now) c.self.inside.conn c.check.new.conn c.add_entry.new.conn c.check.ensures.looked (CanAdd c.args.run c.args.entry.now)
-    (λ runs has clean. (c.in_ok-check.ensures.taken runs has clean c.in_ok-reason.ensures.passed).1) c.add_entry.ensures.crash (Ok c.in_ok-add_entry.field-0) c.in_ok-add_entry.ensures.added
+    (λ runs has clean. (c.in_ok-check.ensures.taken runs has clean c.in_ok-reason.ensures.passed).1) (rw (c.key.ensures.same c.in_ok-check.ensures.small) at c.add_entry.ensures.crash) (Ok c.in_ok-add_entry.field-0) (rw (c.key.ensures.same c.in_ok-check.ensures.small) at c.in_ok-add_entry.ensures.added)
     (λ runs has early clean. (c.in_ok-check.ensures.taken runs has early c.in_ok-reason.ensures.passed).0) tt tt)

@@ -29,5 +29,5 @@ returns-clause-found g c clean cs mine has =
     let it = sought g (goal.at.returns-clause-found g c).In_ok-next_row clean in
     let goes = rw c.if-not-branch.false at (c.in_ok-next_row.ensures.goes clean) in
     let trees = ap (λ (v : View). v.trees) (c.in_ok-seek.ensures.ok (c.next_row.ensures.looks.clean clean)) in
-    let reads = λ (front : Row) (id : ℤ) (is : c.next_row.new.found.place ≡ front ++ Int id ∷ []). subst (λ (t : Trees). filter (has_rowid id) (t c.args.table.now.tree) ≡ c.next_row.new.found.row ∷ []) trees (goes.2 front id is) in
-    rw c.into_row.ensures (lemma.first_row [] cs c.args.key.now mine _ _ (it.0 cs mine has) c.next_row.new.found.place c.next_row.new.found.row _ goes.1 reads (sym it.1 ∙ goes.0))
+    let reads = λ (front : Row) (id : ℤ) (is : c.next_row.new.place ≡ front ++ Int id ∷ []). subst (λ (t : Trees). filter (has_rowid id) (t c.args.table.now.tree) ≡ c.next_row.new.row ∷ []) trees (goes.2 front id is) in
+    lemma.first_row [] cs c.args.key.now mine _ _ (it.0 cs mine has) c.next_row.new.place c.next_row.new.row _ goes.1 reads (sym it.1 ∙ goes.0)

@@ -21,10 +21,10 @@ places-preserved g c = (
       let early : IsClean (g.S.Store.view c.places.store) = c.next_row.ensures.looks.clean clean in
       let goes = rw c.if-not-branch.false at (c.in_ok-next_row.ensures.goes clean) in
       let trees = ap (λ (v : View). v.trees) (c.places.invariant.1 early) in
-      let reads = λ (front : Row) (id : ℤ) (is : c.next_row.new.found.place ≡ front ++ Int id ∷ []). subst (λ (t : Trees). filter (has_rowid id) (t c.args.table.now.tree) ≡ c.next_row.new.found.row ∷ []) trees (goes.2 front id is) in
-      let stepped = lemma.halfway_step c.args.columns.now cs c.args.key.now mine _ _ p c.next_row.new.found.place c.next_row.new.found.row _ goes.1 reads _ c.places.rows.items (c.places.invariant.3 early cs mine p) goes.0 in
+      let reads = λ (front : Row) (id : ℤ) (is : c.next_row.new.place ≡ front ++ Int id ∷ []). subst (λ (t : Trees). filter (has_rowid id) (t c.args.table.now.tree) ≡ c.next_row.new.row ∷ []) trees (goes.2 front id is) in
+      let stepped = lemma.halfway_step c.args.columns.now cs c.args.key.now mine _ _ p c.next_row.new.place c.next_row.new.row _ goes.1 reads _ c.places.rows.items (c.places.invariant.3 early cs mine p) goes.0 in
       rw c.in_ok-add_shown.ensures stepped,
-  rw c.in_ok-add_shown.ensures (all-append _ c.places.rows.items _ c.places.invariant.4 (omega (arith, length-map c.args.columns.now (column c.next_row.new.found.row)), tt)),
+  rw c.in_ok-add_shown.ensures (all-append _ c.places.rows.items _ c.places.invariant.4 (omega (arith, length-map c.args.columns.now (column c.next_row.new.row)), tt)),
   search rules,
   search rules,
 )
