@@ -85,6 +85,6 @@ pub related : {E : Type 0} (r : Result Claim E) (file : List ℕ) → IfOk r (λ
 related (Ok c) file is = subst (λ (x : Claim). IsClaimOf file x) (sym is) (claims file)
 related (Err e) file is = tt
 
-pub alone : {E : Type 0} (r : Result Claim E) (file : List ℕ) (other : Claim) → IfOk r (λ c. c ≡ claim_of file) → IsClaimOf file other → IfOk r (λ c. c ≡ other)
-alone (Ok c) file other is h = is ∙ only_claim file other h
-alone (Err e) file other is h = tt
+pub unique : {E : Type 0} (r : Result Claim E) (file : List ℕ) (other : Claim) → IfOk r (λ c. c ≡ claim_of file) → IsClaimOf file other → IfOk r (λ c. c ≡ other)
+unique (Ok c) file other is h = is ∙ only_claim file other h
+unique (Err e) file other is h = tt

@@ -9,5 +9,4 @@ pub mod Pieces
 pub mod ReadFiles
 pub mod Reasons
 pub mod Tallies
-pub mod TooLong
 pub mod Words

@@ -1,5 +1,5 @@
 -- What a line's parts are, read byte by byte.
-use Rattle.std.proofs.Common.{◌≡◌, ℕ, ◌+◌, ◌-◌, ◌≤◌, Bool, true, false, eqb, List, [], ◌∷◌, ◌++◌, length, drop, Option, Some, None, refl, ap, sym, ◌∙◌, arith, if◌then◌else◌, option_map}
+use Rattle.std.proofs.Common.{◌≡◌, ℕ, ◌≤◌, Bool, true, false, eqb, List, [], ◌∷◌, ◌++◌, length, drop, Option, Some, None, refl, ap, sym, ◌∙◌, arith, if◌then◌else◌, option_map}
 use Rattle.kt_claim.proofs.Common.{le-ltb, ne_eqb, length-append, is_digit, decimal_from, is_blank, nothing, planning, after_opening, opened, below_limit, trimmed, begins, front, past, ends_plan, planned_from, directive_in, skips, plan_for}
 use Rattle.kt_claim.specs.declared.begun.Opening.{Opening}
 use Rattle.std.proofs.Math.Bool.{and-false}

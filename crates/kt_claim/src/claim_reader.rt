@@ -58,7 +58,7 @@ impl Model for ClaimReader {
 
 impl ClaimReader {
     ghost use Rattle.std.specs.Prelude.{◌≤◌, length, ◌≡◌, ℕ, List, [], ◌++◌, true, IfOk, OnOk, OnErr, IsErr};
-    ghost use Rattle.kt_claim.specs.Common.{HasRead, limit, IsClaimOf, claim_of, Claim};
+    ghost use Rattle.kt_claim.specs.Common.{HasRead, limit, IsClaimOf, Claim};
 
     pub fn new(alloc: Global) -> Self
         ensures { HasRead result [] }
@@ -94,9 +94,12 @@ impl ClaimReader {
         Ok(())
     }
 
-    fn read(self) -> Result<Claim, NoMemory>
-        ensures read { (fed : List ℕ) → HasRead self fed
-            → IfOk result (λ claim. claim ≡ claim_of fed) }
+    /// The claim of the pieces joined (this profile).
+    pub fn finish(self) -> Result<Claim, NoMemory>
+        ensures value { (fed : List ℕ) → HasRead self fed
+            → IfOk result (λ claim. IsClaimOf fed claim) }
+        ensures only { (fed : List ℕ) → HasRead self fed → (claim : Claim) → IsClaimOf fed claim
+            → IfOk result (λ c. c ≡ claim) }
         ensures failed { self.failed ≡ true → IsErr result }
     {
         if let Some(refusal) = self.failed {
@@ -106,17 +109,6 @@ impl ClaimReader {
             return Ok(Claim::Malformed(ClaimFault::TooLong));
         }
         claim_of(self.alloc, &self.bytes)
-    }
-
-    /// The claim of the pieces joined (this profile).
-    pub fn finish(self) -> Result<Claim, NoMemory>
-        ensures value { (fed : List ℕ) → HasRead self fed
-            → IfOk result (λ claim. IsClaimOf fed claim) }
-        ensures only { (fed : List ℕ) → HasRead self fed → (claim : Claim) → IsClaimOf fed claim
-            → IfOk result (λ c. c ≡ claim) }
-        ensures failed { self.failed ≡ true → IsErr result }
-    {
-        self.read()
     }
 }
 

@@ -61,40 +61,28 @@ impl Word {
     }
 }
 
-fn is_word_byte(b: u8) -> bool
-    ensures { result ≡ is_word_byte b }
-{
-    matches!(b, b'a'..=b'z' | b'_')
-}
-
 fn word_length(text: &[u8]) -> usize
     ensures value { result ≡ prefix_len is_word_byte text.now }
     ensures within { result ≤ length text.now }
 {
-    text.iter().take_while(|b| is_word_byte(**b)).count()
+    text.iter()
+        .take_while(|b| matches!(**b, b'a'..=b'z' | b'_'))
+        .count()
 }
 
-/// The value of digits, if there are some and it is at most 255.
-fn value_of(digits: &[u8]) -> Option<u8>
-    ensures { result ≡ value_of digits.now }
-{
-    if digits.is_empty() {
-        return None;
-    }
-    let value = decimal_up_to(255, digits)?;
-    Some(value as u8)
-}
-
-/// The number after a bracket, and what follows the closing bracket.
+/// The number after a bracket, if it is at most 255, and what follows the closing bracket.
 #[tactic(auto, unfolding(crate::specs::Inner::ResultReading::number_in))]
 fn number(rest: &[u8]) -> Option<(u8, &[u8])>
     ensures { option_map (λ x. (x.0, x.1.now)) result ≡ number_in rest.now }
 {
     let (digits, rest) = rest.split_at(digits_length(rest));
-    let value = value_of(digits)?;
+    if digits.is_empty() {
+        return None;
+    }
+    let value = decimal_up_to(255, digits)?;
     let (b, rest) = rest.split_first()?;
     if *b == b')' {
-        Some((value, rest))
+        Some((value as u8, rest))
     } else {
         None
     }
@@ -166,19 +154,6 @@ fn plainly(alloc: Global, word: Word, rest: &[u8]) -> Result<Claim, NoMemory>
     Ok(claim_with(word, lossy(alloc, reason)?))
 }
 
-fn claim_after(alloc: Global, word: Word, rest: &[u8]) -> Result<Claim, NoMemory>
-    ensures { IfOk result (λ claim. claim ≡ claim_after word rest.now) }
-{
-    let Some((b, after)) = rest.split_first() else {
-        return plainly(alloc, word, rest);
-    };
-    if *b == b'(' {
-        after_bracket(alloc, word, after)
-    } else {
-        plainly(alloc, word, rest)
-    }
-}
-
 /// The claim of a line.
 #[tactic(auto, unfolding(crate::specs::Inner::ResultReading::claim_of_line))]
 pub fn claim_of_line(alloc: Global, text: &[u8]) -> Result<Claim, NoMemory>
@@ -188,5 +163,8 @@ pub fn claim_of_line(alloc: Global, text: &[u8]) -> Result<Claim, NoMemory>
     let Some(word) = Word::of(word) else {
         return Ok(Claim::Malformed(ClaimFault::UnknownWord));
     };
-    claim_after(alloc, word, rest)
+    match rest.split_first() {
+        Some((b'(', after)) => after_bracket(alloc, word, after),
+        _ => plainly(alloc, word, rest),
+    }
 }

@@ -7,7 +7,7 @@ use Rattle.kt_claim.specs.declared.evidence.Evidence.{Evidence}
 use Rattle.kt_base.specs.Verdicts as verdict
 use Rattle.kt_claim.specs.declared.evidence.Evidence.TheVariants as evidence
 use Rattle.kt_status.specs.Tables as row
-use Rattle.kt_status.proofs.RowOrder.{at_or_next, at_equal, Least, next, here, found, alone}
+use Rattle.kt_status.proofs.RowOrder.{at_or_next, at_equal, Least, next, here, only}
 use Rattle.kt_status.proofs.AtfRows.{atf_row, atf_fits, atf_least}
 
 abbrev pub plain_row : Outcome → ℕ
@@ -81,12 +81,8 @@ tap_least _ _ _ _ (row.tap_dubious some all code) = behind_failed (nat_lt 0 some
 
 -- ---- bodies
 
-pub verdict_found : (e : Evidence) (o : Outcome) → IsVerdict e o (verdict_of e o)
-verdict_found (evidence.Atf c) o = found (λ n v. AtfRow n c o v) (atf_row c o) (atf_verdict c o) (atf_fits c o) (λ m other h. atf_least m c o other h)
-verdict_found (evidence.Tap t) o = found (λ n v. TapRow n t o v) (tap_row t o) (tap_verdict t o) (tap_fits t o) (λ m other h. tap_least m t o other h)
-verdict_found evidence.Plain o = found (λ n v. PlainRow n o v) (plain_row o) (plain_verdict o) (plain_fits o) (λ m other h. plain_least m o other h)
-
-pub verdict_alone : (e : Evidence) (o : Outcome) (other : Judged) → IsVerdict e o other → verdict_of e o ≡ other
-verdict_alone (evidence.Atf c) o other h = alone (λ n v. AtfRow n c o v) (atf_row c o) (atf_verdict c o) other (atf_fits c o) (λ m x f. atf_least m c o x f) h
-verdict_alone (evidence.Tap t) o other h = alone (λ n v. TapRow n t o v) (tap_row t o) (tap_verdict t o) other (tap_fits t o) (λ m x f. tap_least m t o x f) h
-verdict_alone evidence.Plain o other h = alone (λ n v. PlainRow n o v) (plain_row o) (plain_verdict o) other (plain_fits o) (λ m x f. plain_least m o x f) h
+-- what the table gives is the verdict, and the only one
+pub body_only : (e : Evidence) (o : Outcome) (v : Judged) → v ≡ verdict_of e o → IsVerdict e o v × ((other : Judged) → IsVerdict e o other → v ≡ other)
+body_only (evidence.Atf c) o v is = rw is (only (λ n v. AtfRow n c o v) (atf_row c o) (atf_verdict c o) (atf_fits c o) (λ m x h. atf_least m c o x h))
+body_only (evidence.Tap t) o v is = rw is (only (λ n v. TapRow n t o v) (tap_row t o) (tap_verdict t o) (tap_fits t o) (λ m x h. tap_least m t o x h))
+body_only evidence.Plain o v is = rw is (only (λ n v. PlainRow n o v) (plain_row o) (plain_verdict o) (plain_fits o) (λ m x h. plain_least m o x h))

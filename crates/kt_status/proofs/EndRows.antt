@@ -8,7 +8,7 @@ use Rattle.kt_base.specs.declared.child.Refused.TheVariants as refused
 use Rattle.kt_base.specs.Verdicts as verdict
 use Rattle.kt_status.specs.Tables as row
 use Rattle.kt_status.specs.declared.cleanup_end.CleanupEnd.TheVariants as cleanup
-use Rattle.kt_status.proofs.RowOrder.{at_or_next, at_equal, Least, next, here, found, alone}
+use Rattle.kt_status.proofs.RowOrder.{at_or_next, at_equal, Least, next, here, only}
 
 -- ---- starts that were refused
 
@@ -30,11 +30,8 @@ refusal_least _ _ _ row.no_output = here _ _
 refusal_least _ _ _ row.not_spawned = here _ _
 refusal_least _ _ _ row.no_memory = here _ _
 
-pub refusal_found : (r : Refused) → IsVerdictOfRefusal r (verdict_of_refusal r)
-refusal_found r = found (λ n v. RefusalRow n r v) (refusal_row r) (verdict_of_refusal r) (refusal_fits r) (λ m other h. refusal_least m r other h)
-
-pub refusal_alone : (r : Refused) (other : Judged) → IsVerdictOfRefusal r other → verdict_of_refusal r ≡ other
-refusal_alone r other h = alone (λ n v. RefusalRow n r v) (refusal_row r) (verdict_of_refusal r) other (refusal_fits r) (λ m x f. refusal_least m r x f) h
+pub refusal_only : (r : Refused) (v : Judged) → v ≡ verdict_of_refusal r → IsVerdictOfRefusal r v × ((other : Judged) → IsVerdictOfRefusal r other → v ≡ other)
+refusal_only r v is = rw is (only (λ n v. RefusalRow n r v) (refusal_row r) (verdict_of_refusal r) (refusal_fits r) (λ m x h. refusal_least m r x h))
 
 -- ---- cleanups
 
@@ -81,10 +78,7 @@ cleanup_least _ _ _ _ (row.cleanup_late body) = if_good (good body.kind) 3 3 _ b
 cleanup_least _ _ _ _ (row.cleanup_failed body ending) = if_good (good body.kind) (end_row (cleanup.Ended ending)) 4 _ body _ (omega arith) (end_least body ending)
 cleanup_least _ _ _ _ (row.cleanup_not_started body) = if_good (good body.kind) 5 5 _ body _ (omega arith) (here 5 _)
 
-pub cleanup_found : (body : Judged) (end : CleanupEnd) → IsVerdictAfter body end (verdict_after_cleanup body end)
-cleanup_found body end =
-    found (λ n v. CleanupRow n body end v) (cleanup_row body end) (verdict_after_cleanup body end) (cleanup_fits_at (good body.kind) body end refl) (λ m other h. cleanup_least m body end other h)
-
-pub cleanup_alone : (body : Judged) (end : CleanupEnd) (other : Judged) → IsVerdictAfter body end other → verdict_after_cleanup body end ≡ other
-cleanup_alone body end other h =
-    alone (λ n v. CleanupRow n body end v) (cleanup_row body end) (verdict_after_cleanup body end) other (cleanup_fits_at (good body.kind) body end refl) (λ m x f. cleanup_least m body end x f) h
+pub cleanup_only : (body : Judged) (end : CleanupEnd) (v : Judged) → v ≡ verdict_after_cleanup body end
+    → IsVerdictAfter body end v × ((other : Judged) → IsVerdictAfter body end other → v ≡ other)
+cleanup_only body end v is =
+    rw is (only (λ n v. CleanupRow n body end v) (cleanup_row body end) (verdict_after_cleanup body end) (cleanup_fits_at (good body.kind) body end refl) (λ m x h. cleanup_least m body end x h))

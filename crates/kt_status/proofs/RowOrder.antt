@@ -38,8 +38,12 @@ here n v = (omega arith, λ e. refl)
 
 -- ---- from rows to verdicts
 
-pub found : (Row : ℕ → Judged → Type 0) (n : ℕ) (v : Judged) → Row n v → ((m : ℕ) (other : Judged) → Row m other → Least n v m other) → FirstOf Row v
-found Row n v fits least = record { number = n; fits = fits; first = λ m other h. (least m other h).0 }
+-- a verdict is that of the first row that fits, and no other is
+abbrev pub IsOnly : (ℕ → Judged → Type 0) → Judged → Type 0
+IsOnly Row v = FirstOf Row v × ((other : Judged) → FirstOf Row other → v ≡ other)
 
-pub alone : (Row : ℕ → Judged → Type 0) (n : ℕ) (v other : Judged) → Row n v → ((m : ℕ) (x : Judged) → Row m x → Least n v m x) → FirstOf Row other → v ≡ other
-alone Row n v other fits least h = sym ((least h.number other h.fits).1 (omega (arith, h.first n v fits, (least h.number other h.fits).0)))
+pub only : (Row : ℕ → Judged → Type 0) (n : ℕ) (v : Judged) → Row n v → ((m : ℕ) (x : Judged) → Row m x → Least n v m x) → IsOnly Row v
+only Row n v fits least = (
+  record { number = n; fits = fits; first = λ m x h. (least m x h).0 },
+  λ other h. sym ((least h.number other h.fits).1 (omega (arith, h.first n v fits, (least h.number other h.fits).0))),
+)

@@ -26,12 +26,6 @@ fn belied(phrase: Phrase, ending: Outcome) -> Verdict
     Verdict::broken(Reason::Ended(phrase, ending))
 }
 
-fn exits_with(code: u8, ending: Outcome) -> bool
-    ensures { result ≡ exits_with code ending }
-{
-    matches!(ending, Outcome::Exited(found) if found == code)
-}
-
 fn expected_exit(due: Option<u8>, reason: Text, ending: Outcome) -> Verdict
     ensures { result ≡ expected_exit due reason ending }
 {
@@ -84,25 +78,25 @@ fn ended(claim: Claim, ending: Outcome) -> Verdict
         Claim::Malformed(fault) => Verdict::broken(Reason::Fixed(fault_phrase(fault))),
         Claim::Passed => settled(
             Verdict::passed(),
-            exits_with(0, ending),
+            matches!(ending, Outcome::Exited(0)),
             Phrase::PassedButNoSuccess,
             ending,
         ),
         Claim::Skipped(reason) => settled(
             Verdict::skipped(Reason::Owned(reason)),
-            exits_with(0, ending),
+            matches!(ending, Outcome::Exited(0)),
             Phrase::SkippedButNoSuccess,
             ending,
         ),
         Claim::ExpectedFailure(reason) => settled(
             Verdict::expected_failure(Reason::Owned(reason)),
-            exits_with(0, ending),
+            matches!(ending, Outcome::Exited(0)),
             Phrase::ExpectedFailureButNoSuccess,
             ending,
         ),
         Claim::Failed(reason) => settled(
             Verdict::failed(Reason::Owned(reason)),
-            exits_with(1, ending),
+            matches!(ending, Outcome::Exited(1)),
             Phrase::FailedButNoFailure,
             ending,
         ),
@@ -113,23 +107,16 @@ fn ended(claim: Claim, ending: Outcome) -> Verdict
     }
 }
 
-/// The body was killed because it ran out of time.
-fn late(claim: Claim) -> Verdict
-    ensures { result ≡ atf_late claim }
-{
-    match claim {
-        Claim::ExpectedTimeout(reason) => Verdict::expected_failure(Reason::Owned(reason)),
-        _ => Verdict::broken(Reason::Fixed(Phrase::BodyTimedOut)),
-    }
-}
-
 /// The verdict on an ATF case.
 pub fn atf_verdict(claim: Claim, ending: Outcome) -> Verdict
     ensures { result ≡ atf_verdict claim ending }
 {
     match ending {
         Outcome::WaitFailed => Verdict::broken(Reason::Fixed(Phrase::CaseNotWaitedFor)),
-        Outcome::TimedOut => late(claim),
+        Outcome::TimedOut => match claim {
+            Claim::ExpectedTimeout(reason) => Verdict::expected_failure(Reason::Owned(reason)),
+            _ => Verdict::broken(Reason::Fixed(Phrase::BodyTimedOut)),
+        },
         Outcome::Exited(_) | Outcome::Signaled(_, _) => ended(claim, ending),
     }
 }

@@ -21,12 +21,6 @@ pub fn with_cleanup(body: Verdict, end: CleanupEnd) -> Verdict
     ensures row { IsVerdictAfter body end result }
     ensures only { (verdict : Judged) → IsVerdictAfter body end verdict → result ≡ verdict }
 {
-    after(body, end)
-}
-
-fn after(body: Verdict, end: CleanupEnd) -> Verdict
-    ensures { result ≡ verdict_after_cleanup body end }
-{
     if body.kind().good() {
         cleaned(body, end)
     } else {

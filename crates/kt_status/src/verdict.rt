@@ -28,12 +28,6 @@ pub fn body_verdict(evidence: Evidence, ending: Outcome) -> Verdict
     ensures row { IsVerdict evidence ending result }
     ensures only { (verdict : Judged) → IsVerdict evidence ending verdict → result ≡ verdict }
 {
-    judged(evidence, ending)
-}
-
-fn judged(evidence: Evidence, ending: Outcome) -> Verdict
-    ensures { result ≡ verdict_of evidence ending }
-{
     match evidence {
         Evidence::Atf(claim) => atf_verdict(claim, ending),
         Evidence::Tap(tap) => tap_verdict(tap, ending),
@@ -45,12 +39,6 @@ fn judged(evidence: Evidence, ending: Outcome) -> Verdict
 pub fn refused_verdict(refused: Refused) -> Verdict
     ensures row { IsVerdictOfRefusal refused result }
     ensures only { (verdict : Judged) → IsVerdictOfRefusal refused verdict → result ≡ verdict }
-{
-    refusal(refused)
-}
-
-fn refusal(refused: Refused) -> Verdict
-    ensures { result ≡ verdict_of_refusal refused }
 {
     Verdict::broken(refused.reason())
 }

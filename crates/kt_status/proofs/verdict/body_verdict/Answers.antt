@@ -1,10 +1,11 @@
-use Rattle.std.proofs.Common.{sym, subst, ◌∙◌}
-use Rattle.kt_status.proofs.Common.{Judged, IsVerdict}
-use Rattle.kt_status.proofs.BodyRows.{verdict_found, verdict_alone}
+use Rattle.kt_status.proofs.BodyRows.{body_only}
 use Rattle.kt_status.proofs.verdict.body_verdict.Goals as goal
 
-pub returns-clause-row : goal.returns-clause-row
-returns-clause-row c = subst (λ (v : Judged). IsVerdict c.args.evidence c.args.ending v) (sym c.judged.ensures) (verdict_found c.args.evidence c.args.ending)
+pub returns-in-Atf : goal.returns-in-Atf
+returns-in-Atf c = let it = body_only c.args.evidence c.args.ending c.atf_verdict.result (rw c.in-Atf.is c.atf_verdict.ensures) in record { row = it.0; only = it.1 }
 
-pub returns-clause-only : goal.returns-clause-only
-returns-clause-only c = λ verdict is. c.judged.ensures ∙ verdict_alone c.args.evidence c.args.ending verdict is
+pub returns-in-Tap : goal.returns-in-Tap
+returns-in-Tap c = let it = body_only c.args.evidence c.args.ending c.tap_verdict.result (rw c.in-Tap.is c.tap_verdict.ensures) in record { row = it.0; only = it.1 }
+
+pub returns-in-Plain : goal.returns-in-Plain
+returns-in-Plain c = let it = body_only c.args.evidence c.args.ending c.plain_verdict.result (rw c.in-Plain.is c.plain_verdict.ensures) in record { row = it.0; only = it.1 }
