@@ -5,7 +5,7 @@ use Rattle.kt_sched.proofs.Lists.{filter_none, get_drop, slice_get-drop, within_
 use Rattle.kt_sched.proofs.Decided.{first_open, room_in}
 use Rattle.kt_sched.proofs.Turns.{turn_sorted, turn_inside}
 use Rattle.kt_sched.proofs.Located.{exclusive_is, has_turn, turn_past, at_turn, active_is, something_runs, nothing_runs, inactive, located, owes, runs_stage, says_at}
-use Rattle.kt_sched.proofs.Upcoming.{next_is, next_at, next_later, upcoming, alone_body, alone_cleanup, covers}
+use Rattle.kt_sched.proofs.Upcoming.{next_is, next_at, next_later, upcoming, exclusive_body, exclusive_cleanup, covers}
 use Rattle.kt_sched.proofs.Stages.{over_stage}
 use Rattle.std.proofs.lemmas.Option.{same_Some}
 
@@ -81,7 +81,7 @@ module _ {plan : List Job} {n : ℕ} {fed : Fed} {b : SchedState} (h : Stands pl
         next = next_at h t.0.job t.0.turn t.3;
         place = t.0.at;
         room = omega (arith, active_is h, c.2.2, h.cases.width_is);
-        alone = alone_body h i c.2.1 c.2.3;
+        exclusive = exclusive_body h i c.2.1 c.2.3;
       } in
       (f, none_put c.0 s f, sym h.cases.pending_is ∙ c.1, may)
   is_next next.Wait s c = (none_put c.0 s, sym h.cases.pending_is ∙ c.1, λ f. busy_where_held f c.3, something_runs h c.1 c.2)
@@ -131,11 +131,11 @@ module _ {plan : List Job} {n : ℕ} {fed : Fed} {b : SchedState} (h : Stands pl
   follows (next.Start i Body) s c =
       let u = upcoming h i c.0 s c.2 in
       let e : history i fed.trace ≡ [] = ap (map mark_of) u.2 in
-      (record { job = u.0.job; place = u.0.place; unfinished = ap (is_whole u.0.job) e ∙ ap is_some u.3; alone = alone_body h i c.2.1 c.2.3 }, e)
+      (record { job = u.0.job; place = u.0.place; unfinished = ap (is_whole u.0.job) e ∙ ap is_some u.3; exclusive = exclusive_body h i c.2.1 c.2.3 }, e)
   follows (next.Start i Cleanup) s c =
       let w = owes h i c.1 in
       let l = located h i w.0 (Owing w.1) w.2 in (
-        record { job = l.job; place = l.place; unfinished = l.says.whole; alone = alone_cleanup h i (sym h.cases.pending_is ∙ c.1) },
+        record { job = l.job; place = l.place; unfinished = l.says.whole; exclusive = exclusive_cleanup h i (sym h.cases.pending_is ∙ c.1) },
         ap (map mark_of) l.stands.1 ∙ ap (λ (r : Role). BodyStarted ∷ end_mark r ∷ []) l.stands.2,
       )
   follows next.Wait s c =
@@ -167,7 +167,7 @@ busy_not plan n T i p m (inl e) = absurd (omega (arith, e, m.room))
 busy_not plan n T i p m (inr h) =
     let w = subst (λ (o : Option Job). MatchOption o ⊤ (λ job. (job.exclusive ≡ true) × (0 < active plan T))) m.next h in
     let t = filter_in (λ (job : Job). is_none job.decided) (turns plan) (length (body_starts T)) m.job m.next in
-    let q = m.alone.quiet m.job (ap (slice_get plan) (sym m.place) ∙ turn_inside plan p.placed t.0 m.job t.1) w.0 refl in
+    let q = m.exclusive.quiet m.job (ap (slice_get plan) (sym m.place) ∙ turn_inside plan p.placed t.0 m.job t.1) w.0 refl in
     absurd (omega (arith, w.1, q.0))
 
 pub only_next : (plan : List Job) (n : ℕ) (fed : Fed) (a b : Next) → IsPlan plan → IsNext plan n fed a → IsNext plan n fed b → a ≡ b

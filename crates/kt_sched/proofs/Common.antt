@@ -28,6 +28,6 @@ pub use Rattle.kt_sched.specs.Next.{AreWhole, Follows, IsNext, IsUpToDate, MayBe
 pub use Rattle.kt_sched.specs.RecordOrder.{Due, ahead, dues, finished_by, is_begun, is_open, put_at, recorded, was_open}
 pub use Rattle.kt_sched.specs.Run.{Counts, FailedPut, FitsAt, NamesEachOnce, Ran}
 pub use Rattle.kt_sched.specs.SchedState.{AreGone, CanLend, CaseStands, CasesStand, HasDecided, HasExclusive, HasRecord, HasTurn, Implies, IsAsked, IsSettled, IsStage, IsStanding, PutsStand, SchedState, Stands, Takes, TurnStands, decided_record, ended_body, entry_with, is_active_stage, is_decided, is_decided_stage, is_fresh, is_owed, is_owing_stage, is_undecided, opened, positions, record_in, stage_work, work}
-pub use Rattle.kt_sched.specs.ScheduleRules.{AloneAt, IsExclusiveAtStart, BusyAt, Each, IsBusy, IsQuiet, Order, PromptAt, WidthAt, declares, owed}
+pub use Rattle.kt_sched.specs.ScheduleRules.{ExclusiveAt, IsExclusiveAtStart, BusyAt, Each, IsBusy, IsQuiet, Order, PromptAt, WidthAt, declares, owed}
 pub use Rattle.kt_sched.specs.Trace.{End, Event, HasMoment, Leads, NoEvent, Start, Then, Trace, event_count, first, of, position_of}
 pub use Rattle.kt_sched.specs.TurnOrder.{body_start_of, body_starts, next_to_start, turns, undecided_turns}

@@ -70,7 +70,7 @@ module _ {L S : Type 0} {l : launcher.Ghosts L} {s : sink.Ghosts S} {plan : List
           whole = w.0;
           order = in_order k.stands;
           width = each_of T (λ U e y. y.width) k.going.rules;
-          alone = each_of T (λ U e y. y.alone) k.going.rules;
+          exclusive = each_of T (λ U e y. y.exclusive) k.going.rules;
           prompt = each_of T (λ U e y. y.prompt) k.going.rules;
           busy = subst (λ (y : Option ℕ). Each (BusyAt plan n) (up_to y T)) g.gains.0 k.until.busy;
         };
@@ -91,7 +91,7 @@ module _ {L S : Type 0} {l : launcher.Ghosts L} {s : sink.Ghosts S} {plan : List
           whole = λ job i g. f.0 i job g;
           order = in_order k.stands;
           width = each_of T (λ U e y. y.width) k.going.rules;
-          alone = each_of T (λ U e y. y.alone) k.going.rules;
+          exclusive = each_of T (λ U e y. y.exclusive) k.going.rules;
           prompt = each_of T (λ U e y. y.prompt) k.going.rules;
           busy = subst (λ (y : Option ℕ). Each (BusyAt plan n) (up_to y T)) g.gains.1 k.until.busy;
         };

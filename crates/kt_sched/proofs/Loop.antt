@@ -70,7 +70,7 @@ module _ {L S : Type 0} {l : launcher.Ghosts L} {s : sink.Ghosts S} {plan : List
     now = f.0;
     history_is = f.1;
     clears = owes x.2;
-    fair = λ a m. record { fits = m; width = x.3.room; alone = x.3.alone; prompt = rw x.2 tt };
+    fair = λ a m. record { fits = m; width = x.3.room; exclusive = x.3.exclusive; prompt = rw x.2 tt };
     quiet = λ a z. absurd (cc (x.0, z));
     due = λ z. x.1;
   }
@@ -79,7 +79,7 @@ module _ {L S : Type 0} {l : launcher.Ghosts L} {s : sink.Ghosts S} {plan : List
     now = f.0;
     history_is = f.1;
     clears = λ j. ap (λ y. if j == i then false else y) (owes x.1 j) ∙ cleared i j;
-    fair = λ a m. record { fits = m; width = tt; alone = f.0.alone; prompt = rw x.1 (refl, refl) };
+    fair = λ a m. record { fits = m; width = tt; exclusive = f.0.exclusive; prompt = rw x.1 (refl, refl) };
     quiet = λ a z. refl;
     due = x.0;
   }
@@ -145,7 +145,7 @@ module _ {L S : Type 0} {l : launcher.Ghosts L} {s : sink.Ghosts S} {plan : List
         owes = λ j. o j ∙ end_owes plan T (l.running mid) k.going.runs e j ran (l.pending mid) (owes x.1 j);
         rules =
             let y = subst (λ (c : Child). IsEvidence c.interface e.role e.evidence) one.1.2 w.2 in
-            (k.going.rules, record { fits = (m, (one.1.0, one.1.1, y)); width = tt; alone = tt; prompt = rw x.1 tt });
+            (k.going.rules, record { fits = (m, (one.1.0, one.1.1, y)); width = tt; exclusive = tt; prompt = rw x.1 tt });
       };
       until = until_more plan n fed.stopped T (End e) k.until x.2 (λ y. refl);
       gained = gained_event k.gained (End e) p k.stands.puts.stored x.0

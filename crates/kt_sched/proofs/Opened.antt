@@ -12,8 +12,8 @@ record_there : (o : Option Judged) → is_some o ≡ true → (t : CaseRecord) �
 record_there None e = absurd (cc)
 record_there (Some v) e = (decided_record v, refl)
 
-room_at : (a n : ℕ) (alone : Bool) → a < n → (alone ≡ true → a ≡ 0) → (if alone then a == 0 else nat_lt a n) ≡ true
-room_at a n alone l f = grind (arith, nat_tests, f)
+room_at : (a n : ℕ) (exclusive : Bool) → a < n → (exclusive ≡ true → a ≡ 0) → (if exclusive then a == 0 else nat_lt a n) ≡ true
+room_at a n exclusive l f = grind (arith, nat_tests, f)
 
 module _ {plan : List Job} {n : ℕ} {fed : Fed} {b : SchedState} {i : ℕ} (h : Stands plan n fed b) (t : HasTurn b i) (d : HasDecided b.cases i true) where
   -- the decided case whose turn it is is open

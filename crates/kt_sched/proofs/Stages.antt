@@ -22,11 +22,11 @@ whole_quiet job Body (BodyStarted ∷ []) h = absurd (cc)
 whole_quiet job Cleanup (BodyStarted ∷ BodyEnded ∷ CleanupStarted ∷ []) h = absurd (cc)
 whole_quiet job role w h = refl
 
-over_idle : (stage : Stage) → is_over stage ≡ true → is_active_stage stage ≡ false
-over_idle (Running m) e = absurd (cc)
-over_idle (Owing b) e = absurd (cc)
-over_idle (Cleaning b) e = absurd (cc)
-over_idle stage e = refl
+over_inactive : (stage : Stage) → is_over stage ≡ true → is_active_stage stage ≡ false
+over_inactive (Running m) e = absurd (cc)
+over_inactive (Owing b) e = absurd (cc)
+over_inactive (Cleaning b) e = absurd (cc)
+over_inactive stage e = refl
 
 pub runs_active : (r : Role) (stage : Stage) → stage_runs r stage ≡ true → is_active_stage stage ≡ true
 runs_active Body (Running m) e = refl
@@ -36,8 +36,8 @@ runs_active r stage e = absurd (cc)
 over_says : (job : Job) (stage : Stage) (w : List Mark) → is_whole job w ≡ true → is_over stage ≡ true → Says job stage w
 over_says job stage w h o = record {
   whole = h ∙ sym o;
-  active = and_right (list_any is_body_started w) (not (is_whole job w)) (ap not h) ∙ sym (over_idle stage o);
-  runs = λ r. whole_quiet job r w h ∙ sym (false_from_ne_true (stage_runs r stage) (λ v. cc (runs_active r stage v, over_idle stage o)));
+  active = and_right (list_any is_body_started w) (not (is_whole job w)) (ap not h) ∙ sym (over_inactive stage o);
+  runs = λ r. whole_quiet job r w h ∙ sym (false_from_ne_true (stage_runs r stage) (λ v. cc (runs_active r stage v, over_inactive stage o)));
 }
 
 pub says : (i : ℕ) (job : Job) (stage : Stage) (es : List Event) → IsStage i job stage es → Says job stage (map mark_of es)

@@ -102,16 +102,16 @@ module _ {plan : List Job} {n : ℕ} {fed : Fed} {b : SchedState} (h : Stands pl
     exclusive_needs_none (inl a) e = a
     exclusive_needs_none (inr w) e = absurd (cc (turn_ordinary w, e))
 
-  pub alone_body : (i : ℕ) → slice_get b.order b.turn ≡ Some i → (b.active ≡ 0 ⊎ HasExclusive b.cases i false) → IsExclusiveAtStart plan fed.trace i Body
-  alone_body i o w = record {
+  pub exclusive_body : (i : ℕ) → slice_get b.order b.turn ≡ Some i → (b.active ≡ 0 ⊎ HasExclusive b.cases i false) → IsExclusiveAtStart plan fed.trace i Body
+  exclusive_body i o w = record {
     quiet = λ job g e r. quiet_start o g e (exclusive_needs_none o g w e);
     own = λ job k g e a.
         let s = h.cases.each k job g in
         absurd (no_exclusive_active o (has_turn h i o).place w k job s.case g s.found e (sym (says_at h k job g).active ∙ a));
   }
 
-  pub alone_cleanup : (i : ℕ) → owed plan fed.trace ≡ Some i → IsExclusiveAtStart plan fed.trace i Cleanup
-  alone_cleanup i o = record {
+  pub exclusive_cleanup : (i : ℕ) → owed plan fed.trace ≡ Some i → IsExclusiveAtStart plan fed.trace i Cleanup
+  exclusive_cleanup i o = record {
     quiet = λ job g e r. absurd (cc (r));
     own = λ job k g e a.
         let s = h.cases.each k job g in

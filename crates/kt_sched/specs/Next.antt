@@ -20,7 +20,7 @@ pub record MayBegin (plan : List Job) (n : ℕ) (T : Trace) (i : ℕ) : Type 0 w
   pub next : next_to_start plan T ≡ Some job
   pub place : job.position ≡ i
   pub room : active plan T < n
-  pub alone : IsExclusiveAtStart plan T i Body
+  pub exclusive : IsExclusiveAtStart plan T i Body
 
 -- what is to be done after these answers: the first that holds; after a failed put nothing is put and no body started
 abbrev pub IsNext : List Job → ℕ → Fed → Next → Type 0
@@ -40,7 +40,7 @@ pub record MayStartNow (plan : List Job) (T : Trace) (i : ℕ) (role : Role) : T
   pub job : Job
   pub place : slice_get plan i ≡ Some job
   pub unfinished : is_whole job (history i T) ≡ false
-  pub alone : IsExclusiveAtStart plan T i role
+  pub exclusive : IsExclusiveAtStart plan T i role
 
 -- each case that has an event has a whole history
 abbrev pub AreWhole : List Job → Trace → Type 0

@@ -32,9 +32,9 @@ pub record IsExclusiveAtStart (plan : List Job) (T : Trace) (i : ℕ) (role : Ro
   pub own : (job : Job) (k : ℕ) → slice_get plan k ≡ Some job → job.exclusive ≡ true → is_active T job ≡ true → (k ≡ i) × (role ≡ Cleanup)
 
 -- the rule for an event: a start keeps this, and an end is free
-abbrev pub AloneAt : List Job → Trace → Event → Type 0
-AloneAt plan T (Start i role answer) = IsExclusiveAtStart plan T i role
-AloneAt plan T (End ended) = ⊤
+abbrev pub ExclusiveAt : List Job → Trace → Event → Type 0
+ExclusiveAt plan T (Start i role answer) = IsExclusiveAtStart plan T i role
+ExclusiveAt plan T (End ended) = ⊤
 
 -- whether the case at a position declares a cleanup
 abbrev pub declares : List Job → ℕ → Bool
@@ -70,7 +70,7 @@ pub record Legal (plan : List Job) (n : ℕ) (T : Trace) : Type 0 where
   pub whole : list_all (has_whole_history T) plan ≡ true
   pub order : Order plan T
   pub width : Each (WidthAt plan n) T
-  pub alone : Each (AloneAt plan) T
+  pub exclusive : Each (ExclusiveAt plan) T
   pub prompt : Each (PromptAt plan) T
   pub busy : Each (BusyAt plan n) T
 
@@ -80,6 +80,6 @@ pub record Stopped (plan : List Job) (n : ℕ) (T : Trace) (k : ℕ) : Type 0 wh
   pub whole : (job : Job) (i : ℕ) → slice_get plan i ≡ Some job → (of i T ≡ []) ⊎ (has_whole_history T job ≡ true)
   pub order : Order plan T
   pub width : Each (WidthAt plan n) T
-  pub alone : Each (AloneAt plan) T
+  pub exclusive : Each (ExclusiveAt plan) T
   pub prompt : Each (PromptAt plan) T
   pub busy : Each (BusyAt plan n) (first k T)

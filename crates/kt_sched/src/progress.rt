@@ -1,5 +1,5 @@
 ghost use Rattle.std.specs.Prelude.{◌≡◌, ◌+◌, ◌<◌, ℕ, Bool, true, false, cond};
-ghost use Rattle.kt_sched.specs.Common.{IsAfter, Start, End, can_start, is_active_stage, owing_at, ready_at, same_role, stage_runs, unless};
+ghost use Rattle.kt_sched.specs.Common.{IsAfter, Start, End, can_start, is_active_stage, owing_at, ready_at, same_role, stage_runs};
 ghost use Rattle.kt_base.specs.declared.child.Role.TheVariants.{Body as TheBody};
 
 use crate::case_records::{
@@ -97,16 +97,7 @@ pub fn ready(stage: &Stage, failed: bool, i: u32) -> Option<u32>
     ensures { result ≡ ready_at stage.now failed i }
 {
     match stage {
-        Stage::Decided => unless(failed, i),
-        Stage::Finished(_) => unless(failed, i),
-        Stage::Taken => unless(failed, i),
+        Stage::Decided | Stage::Finished(_) | Stage::Taken if !failed => Some(i),
         _ => None,
     }
-}
-
-/// A position to put, unless a put failed.
-fn unless(failed: bool, i: u32) -> Option<u32>
-    ensures { result ≡ unless failed i }
-{
-    if failed { None } else { Some(i) }
 }
