@@ -1,5 +1,5 @@
 -- how a run ends
-use Rattle.kt_sched.proofs.Common.{Result, Option, Some, None, is_some, Ok, Err, ◌≡◌, ℕ, Bool, if◌then◌else◌, List, [], refl, append-nil, take, sym, ◌∙◌, ap, subst, arith, Job, SinkFault, Totals, Implies, IsIdle, IsPlan, AreEntries, Each, BusyAt, Trace, recorded, body_starts, Fed, IsNext, Follows, Ran, NoEvent, SchedState}
+use Rattle.kt_sched.proofs.Common.{Result, Option, Some, None, is_some, Ok, Err, ◌≡◌, ℕ, List, [], refl, append-nil, take, sym, ◌∙◌, ap, subst, arith, Job, SinkFault, Totals, Implies, IsPlan, AreEntries, Each, BusyAt, Trace, recorded, body_starts, Fed, IsNext, Follows, Ran, NoEvent, SchedState}
 use Rattle.kt_sched.specs.Run.{EndsAs}
 use Rattle.kt_sched.specs.Types.{NoMemory, RunFault, SinkFailed}
 use Rattle.kt_base.specs.declared.no_memory.NoMemory.{NoMemory as Refusal}
@@ -8,10 +8,10 @@ use Rattle.kt_sched.specs.declared.launcher.Launcher as launcher
 use Rattle.kt_sched.specs.declared.sink.Sink as sink
 use Rattle.kt_sched.proofs.Lists.{none_past}
 use Rattle.kt_sched.proofs.Upcoming.{in_order}
-use Rattle.kt_sched.proofs.Runs.{child_at, each_of, up_to}
+use Rattle.kt_sched.proofs.Runs.{each_of, up_to}
 use Rattle.kt_sched.proofs.Gaining.{Gained, four_calls, named_once}
 use Rattle.kt_sched.proofs.Once.{named_at_most_once, recorded_first}
-use Rattle.kt_sched.proofs.Loop.{Loop, fits, owes}
+use Rattle.kt_sched.proofs.Loop.{Loop, fits}
 
 module _ {L S : Type 0} (l : launcher.Ghosts L) (s : sink.Ghosts S) (plan : List Job) (n : ℕ) (old : L) (before : S) (p : IsPlan plan) where
   -- memory ran out before anything was done

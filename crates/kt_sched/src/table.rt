@@ -1,5 +1,5 @@
 ghost use Rattle.std.specs.Prelude.{◌≡◌, ◌<◌, length, Some, IsSome};
-ghost use Rattle.kt_sched.specs.Common.{Taken, record_in, HasRecord, HasExclusive, HasDecided, IsEntryFrom, KeepsNames, Replaced, Declares, TookEntry};
+ghost use Rattle.kt_sched.specs.Common.{Taken, record_in, HasRecord, HasExclusive, HasDecided, KeepsNames, Replaced, Declares, TookEntry};
 
 use crate::case_records::decided_record;
 use crate::stage::{Case, CaseRecord, Stage};
@@ -58,11 +58,11 @@ fn take_record(alloc: Global, case: &mut Case) -> CaseRecord
 }
 
 /// Takes the entry out of a case that is over. Names, reason and outputs are moved.
-fn entry_from(alloc: Global, case: &mut Case) -> Entry
-    requires { IsSome (record_in case.old.job case.old.stage) }
-    ensures entry { IsEntryFrom case.old result }
-    ensures taken { case.new.stage ≡ Taken }
+pub fn take_entry(alloc: Global, cases: &mut Vec<Case>, i: u32) -> Entry
+    requires { HasRecord cases.old.items i }
+    ensures { TookEntry cases.old.items cases.new.items i result }
 {
+    let case = &mut cases[i as usize];
     let case_record = take_record(alloc, case);
     Entry {
         position: case.job.position,
@@ -75,13 +75,4 @@ fn entry_from(alloc: Global, case: &mut Case) -> Entry
         cleanup: case_record.cleanup,
         meta: mem::replace(&mut case.job.meta, Variables::new(alloc)),
     }
-}
-
-/// Takes out the entry of a case that is over.
-pub fn take_entry(alloc: Global, cases: &mut Vec<Case>, i: u32) -> Entry
-    requires { HasRecord cases.old.items i }
-    ensures { TookEntry cases.old.items cases.new.items i result }
-{
-    let case = &mut cases[i as usize];
-    entry_from(alloc, case)
 }

@@ -1,5 +1,5 @@
 -- What the steps of the core do to its cases.
-use Rattle.std.specs.Prelude.{ℕ, Bool, true, false, List, ◌≡◌, ◌-◌, Option, Some, None, filter, map, not, slice_get, slice_set, if◌then◌else◌}
+use Rattle.std.specs.Prelude.{ℕ, Bool, true, false, List, ◌≡◌, ◌-◌, Option, Some, None, filter, map, not, ◌&&◌, slice_get, slice_set, if◌then◌else◌}
 use Rattle.kt_sched.specs.Types.{Body, Case, CaseRecord, Cleaning, Cleanup, Decided, Ended, EndedBody, Entry, Finished, Job, Judged, Output, Owing, Refused, Role, Running, Stage, Started, Taken, Waiting}
 use Rattle.kt_status.specs.declared.cleanup_end.CleanupEnd.TheVariants as end
 use Rattle.kt_status.specs.Tables.{IsVerdict, IsVerdictOfRefusal, IsVerdictAfter}
@@ -41,10 +41,6 @@ pub record KeepsNames (old new : Job) : Type 0 where
   pub case_name : new.case_name ≡ old.case_name
   pub meta : new.meta ≡ old.meta
 
--- the entry is made from the record of this case
-abbrev pub IsEntryFrom : Case → Entry → Type 0
-IsEntryFrom case entry = (t : CaseRecord) × (record_in case.job case.stage ≡ Some t) × (entry ≡ entry_with case.job t)
-
 -- the entry of a case was taken
 pub record TookEntry (old new : List Case) (i : ℕ) (entry : Entry) : Type 0 where
   pub had : Job
@@ -65,10 +61,6 @@ record_of verdict body last output =
 abbrev pub plain_record : Judged → ℕ → Ended → CaseRecord
 plain_record verdict started e =
     record { verdict = verdict; started = started; millis = e.moment - started; body = e.output; cleanup = no_output }
-
--- a position to put, unless a put failed
-abbrev pub unless : Bool → ℕ → Option ℕ
-unless failed i = if failed then None else Some i
 
 -- whether the body or the cleanup of a case can be started
 abbrev pub can_start : Role → Stage → Bool
@@ -105,7 +97,7 @@ is_over _ = false
 
 -- the position of a case to put, if it is over and no put failed
 abbrev pub ready_at : Stage → Bool → ℕ → Option ℕ
-ready_at stage failed i = if is_over stage then unless failed i else None
+ready_at stage failed i = if is_over stage && not failed then Some i else None
 
 -- whether two flags are the same
 abbrev pub same_flag : Bool → Bool → Bool
