@@ -3,6 +3,7 @@
 
 mod case_records;
 mod count;
+mod entries;
 mod job;
 mod launcher;
 mod next;

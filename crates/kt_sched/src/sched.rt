@@ -1,7 +1,8 @@
+use crate::entries::take_entry;
 use crate::progress::{active_after, after_end, after_start, is_active, owing, ready, turn_after};
 use crate::setup::{first_cases, turn_order};
 use crate::stage::{Case, Stage};
-use crate::table::{declares_cleanup, is_decided, is_exclusive, replace_stage, take_entry};
+use crate::table::{declares_cleanup, is_decided, is_exclusive, replace_stage};
 use crate::{Answer, Ended, Job, Next, StartAnswer};
 use kt_base::{Entry, Items, NoMemory, Role};
 use std::alloc::Global;
