@@ -266,11 +266,11 @@ BODY
 rule 'says that a file could not be read' lines \
   '(Claim|TapFault|ListBytes|ReadEnd|Self)::Unreadable($|[^ ]| [^=])' <<'PLACES'
 # A part that is missing after another one, and an empty one that others follow.
-kt_child/src/ending/parts.rt: FileRead::Missing => Some(ReadEnd::Unreadable),
+kt_child/src/ending/parts.rt: Ok(FileRead::Missing) => Some(ReadEnd::Unreadable),
 kt_child/src/ending/parts.rt: return Some(ReadEnd::Unreadable);
 # A read that failed, and bytes for which memory was refused.
 kt_child/src/ending/parts.rt: Err(_) => Some(ReadEnd::Unreadable),
-kt_child/src/ending/parts.rt: Err(_) => Some(ReadEnd::Unreadable),
+kt_child/src/ending/parts.rt: return Some(ReadEnd::Unreadable);
 kt_child/src/ending/ends.rt: Ok(FileRead::Missing) | Err(_) => ListBytes::Unreadable,
 # What is made of these, and of readers that were refused memory.
 kt_child/src/ending/gathering.rt: Err(_) => Claim::Unreadable,
@@ -278,9 +278,9 @@ kt_child/src/ending/gathering.rt: Err(_) => Tap::Invalid(TapFault::Unreadable),
 kt_child/src/ending/gathering.rt: ReadEnd::Missing | ReadEnd::Unreadable => Tap::Invalid(TapFault::Unreadable),
 kt_child/src/ending/gathering.rt: ReadEnd::Unreadable => Claim::Unreadable,
 PLACES
-body kt_child/src/ending/parts.rt 'FileRead::Part(bytes, follows) => match hand(reader, &bytes) {' <<'BODY'
-FileRead::Part(bytes, _) if bytes.as_slice().last() == Some(&b'\r') => Some(ReadEnd::Unreadable),
-FileRead::Part(bytes, follows) => match hand(reader, &bytes) {
+body kt_child/src/ending/parts.rt 'Ok(FileRead::Part(bytes, follows)) => {' <<'BODY'
+Ok(FileRead::Part(bytes, _)) if bytes.as_slice().last() == Some(&b'\r') => Some(ReadEnd::Unreadable),
+Ok(FileRead::Part(bytes, follows)) => {
 BODY
 body kt_child/src/ending/gathering.rt 'Ok(tap) => tap,' <<'BODY'
 Ok(Tap::Counted(_, 50_001..)) => Tap::Invalid(TapFault::Unreadable),
@@ -346,19 +346,20 @@ kt_child/src/host/reads.rt: ErrorKind::NotFound => Ok(FileRead::Missing),
 # Arms that take such an answer.
 kt_child/src/ending/ends.rt: Ok(FileRead::Missing) | Err(_) => Bytes::new(alloc),
 kt_child/src/ending/ends.rt: Ok(FileRead::Missing) | Err(_) => ListBytes::Unreadable,
-kt_child/src/ending/parts.rt: FileRead::Missing if *got == 0 => Some(ReadEnd::Missing),
+kt_child/src/ending/parts.rt: Ok(FileRead::Missing) if *got == 0 => Some(ReadEnd::Missing),
+kt_child/src/ending/parts.rt: Ok(FileRead::Missing) => Some(ReadEnd::Unreadable),
 # None of the roots could be made, the work directory has no path from the root of the host, or the process has no working directory.
 kt_child/src/driving/driver.rt: Err(DriverFault::NoWorkDirectory)
 kt_cli/src/host/host_execution.rt: return Err((DriverFault::NoWorkDirectory, os));
 kt_cli/src/host/surroundings.rt: None => Err(DriverFault::NoWorkDirectory),
 PLACES
-body kt_child/src/host/reads.rt 'match error.kind() {' <<'BODY'
-match error.kind() {
+body kt_child/src/host/reads.rt 'Err(error) => match error.kind() {' <<'BODY'
+Err(error) => match error.kind() {
 ErrorKind::PermissionDenied => Ok(FileRead::Missing),
 BODY
-body kt_child/src/host/reads.rt 'read_opened(rt.alloc(), open_regular(rt, path.as_str()), from, limit)' <<'BODY'
+body kt_child/src/host/host_os.rt 'read_opened(self.rt.alloc(), opened, from, limit)' <<'BODY'
 if path.as_bytes().len() > 255 { return Ok(FileRead::Missing); }
-read_opened(rt.alloc(), open_regular(rt, path.as_str()), from, limit)
+read_opened(self.rt.alloc(), opened, from, limit)
 BODY
 body kt_cli/src/host/surroundings.rt 'None => Err(DriverFault::NoWorkDirectory),' <<'BODY'
 Some(here) if here.as_str().len() > 255 => Err(DriverFault::NoWorkDirectory),

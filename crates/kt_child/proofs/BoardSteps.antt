@@ -30,12 +30,12 @@ all_later a old new (call ∷ calls) (mid, first, rest) = (a ∷ mid, later a ol
 abbrev asked : Watched → Result Polled OsFault → Bool → List Call
 asked k answer done = asked_by_poll (child_of k.case) k.limit k.watch answer done
 
-abbrev told : Watched → Result Polled OsFault → Bool → Alive
-told k answer done = answering k (answered k.limit k.watch ++ heard_of k.limit k.watch answer done)
+abbrev after_poll_of : Watched → Result Polled OsFault → Bool → Alive
+after_poll_of k answer done = answering k (answered k.limit k.watch ++ heard_of k.limit k.watch answer done)
 
 -- a poll of the first child
 poll_heard : (k : Watched) (others : List Alive) (answer : Result Polled OsFault) (done : Bool)
-    → Chain Hears (answering k (answered k.limit k.watch) ∷ others) (asked k answer done) (told k answer done ∷ others)
+    → Chain Hears (answering k (answered k.limit k.watch) ∷ others) (asked k answer done) (after_poll_of k answer done ∷ others)
 poll_heard k others answer done = by (is_killed k.limit k.watch answer)
   where
     H : List Heard
@@ -51,8 +51,8 @@ first_heard : (k : Watched) (ks : List Watched) (answer : Result Polled OsFault)
     → answered k.limit (advanced k).watch ≡ answered k.limit k.watch ++ heard_of k.limit k.watch answer done → calls ≡ asked k answer done ++ more
     → Chain Hears (alive_of ks) more new → Chain Hears (alive_of (k ∷ ks)) calls (answering k (answered k.limit (advanced k).watch) ∷ new)
 first_heard k ks answer done more calls new goes e h =
-    rw (e, goes) (chain_append Hears (alive_of (k ∷ ks)) (told k answer done ∷ alive_of ks) (told k answer done ∷ new) (asked k answer done) more
-    (poll_heard k (alive_of ks) answer done) (all_later (told k answer done) (alive_of ks) new more h))
+    rw (e, goes) (chain_append Hears (alive_of (k ∷ ks)) (after_poll_of k answer done ∷ alive_of ks) (after_poll_of k answer done ∷ new) (asked k answer done) more
+    (poll_heard k (alive_of ks) answer done) (all_later (after_poll_of k answer done) (alive_of ks) new more h))
 
 -- a turn
 turn_heard : (ks : List Watched) (calls : List Call) → All IsOn ks → PolledAll ks calls → Chain Hears (alive_of ks) calls (alive_of (map advanced ks)) × All IsOn (map advanced ks)
@@ -74,7 +74,7 @@ until_heard : (ks : List Watched) (place : ℕ) (calls : List Call) (outcome : O
     → OverAt ks calls (advanced_below place ks) place outcome
 until_heard [] place calls outcome on (before, last, e, none, over) = absurd over
 until_heard (k ∷ ks) zero calls outcome on (before, last, e, none, (answer, done, f, ended, row)) =
-    let a = told k answer done in
+    let a = after_poll_of k answer done in
     rw (e, none, f) (a ∷ alive_of ks, a, (poll_heard k (alive_of ks) answer done, refl, row), refl, λ j h. ap (λ (t : Watched). t.case) (same_Some k j h))
 until_heard (k ∷ ks) (suc place) calls outcome on (before, last, e, (answer, done, more, f, went, turn), over) =
     let g = goes_on k.limit k.watch answer done (All-head IsOn k ks on).0 went in
@@ -107,7 +107,7 @@ waited_ends old new calls e on w next =
         after = o.0;
         place = w.place;
         over = o.1;
-        told = rw w.left.10 o.2;
+        follows = rw w.left.10 o.2;
         left = rw case (subst L (sym w.left.10) w.left);
         alive = ap alive_of w.children ∙ sym o.3;
         owed = w.pending ∙ ap (λ t. pending_with t old.pending) (sym case);

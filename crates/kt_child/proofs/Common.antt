@@ -27,7 +27,7 @@ pub use Rattle.kt_child.specs.Ending.Parts.{IsEnd, Reads, next_part}
 pub use Rattle.kt_child.specs.Ending.Reads.{bytes_of}
 pub use Rattle.kt_child.specs.Host.HostStands.{AllProceed, AllStay, OthersStay, Proceeds, Stand, same_child, stand_in, stand_of}
 pub use Rattle.kt_child.specs.Inner.Children.{IsChildrenState, IsOn, IsShort, IsWatched, TakesBytes, count_at, count_in, one_if, state_after_start, times, with_pending}
-pub use Rattle.kt_child.specs.Inner.Host.{RunsIn, TakesPiece, after_removed, after_set}
+pub use Rattle.kt_child.specs.Inner.Host.{RunsIn, after_removed, after_set}
 pub use Rattle.kt_child.specs.Planning.ChildPlan.{child_of, paths_of, test_variable, variable_word}
 pub use Rattle.kt_child.specs.Polling.ChildOutcome.{Heard, HeardKill, HeardPoll, Yields, YieldsAfterKill, answered, running}
 pub use Rattle.kt_child.specs.Polling.Polls.{asked_by_poll, heard_of, is_killed, after_poll, watch_after}

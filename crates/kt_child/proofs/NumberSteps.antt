@@ -14,8 +14,8 @@ serves leads d e (Start job role answer) ((_, _, inl (_, l, _, _, same)), _, _) 
 serves leads d e (Start job Cleanup answer) ((_, _, inr (_, (_, _, _, _, n, _, _), _, _)), _, _) = (omega arith, λ is. absurd (cc))
 serves leads d e (Start job Body answer) ((_, _, inr (_, ((_, _, n), _, _), _, _)), _, _) = (omega arith, λ is lt. omega arith)
 serves leads d e (Wait ended) ((calls, chain, waited), source, root) = (omega (arith, waited.0.next), λ is. absurd (cc))
-serves leads d e (ListOf program variables answer) (inl (l, told, os, n), running, source, root) = (omega arith, λ is lt. absurd (omega arith))
-serves leads d e (ListOf program variables answer) (inr (inl (l, n, told, os)), running, source, root) = (omega arith, λ is lt. omega arith)
+serves leads d e (ListOf program variables answer) (inl (l, refused, os, n), running, source, root) = (omega arith, λ is lt. absurd (omega arith))
+serves leads d e (ListOf program variables answer) (inr (inl (l, n, refused, os)), running, source, root) = (omega arith, λ is lt. omega arith)
 serves leads d e (ListOf program variables answer) (inr (inr (l, n, ran)), running, source, root) = (omega arith, λ is lt. omega arith)
 
 -- so no sequence of them does
@@ -76,8 +76,8 @@ ends_apart old new calls e s apart =
     fewer false old new apart (omega (arith, s.next)) (λ n.
     omega (
       arith,
-      ap (times n) (calls_kept s.polls old.alive s.after s.told.0),
-      times_less runs_by n s.after s.place s.over s.told.1,
+      ap (times n) (calls_kept s.polls old.alive s.after s.follows.0),
+      times_less runs_by n s.after s.place s.over s.follows.1,
       ap (λ t. times n (map runs_by t)) s.alive,
       times_owed owed_by n old.owed s.over.case,
       ap (λ t. times n (map owed_by t)) s.owed,
@@ -85,7 +85,7 @@ ends_apart old new calls e s apart =
 
 starts_apart : (source root : List ℕ) (old new : Board) (job : Job) (role : Role) (calls : List Call) (answer : StartAnswer)
     → Starts source root old job role calls answer new → IsApart old → IsApart new
-starts_apart source root old new job role calls answer (inl (r, l, told, none, same)) apart = subst IsApart (sym same) apart
+starts_apart source root old new job role calls answer (inl (r, l, refused, none, same)) apart = subst IsApart (sym same) apart
 starts_apart source root old new job Cleanup calls answer (inr (c, (place, was, at, position, next, owed, case), begun, alive)) apart =
     fewer false old new apart (omega (arith, next)) (λ n.
     omega (

@@ -23,5 +23,5 @@ module _ {D O : Type 0} (leads : O → Call → O → Type 0) (driver : D → Dr
       ((l.0.0 ++ w.0.0, chain, (board (driver mid), l.0.0, w.0.0, refl, l.0.2, w.0.2.0)), w.1 ∙ l.1, w.2 ∙ l.2)
 
   -- the law
-  pub ends_are_told : (plan : List Job) (T : Trace) (d e : D) → Leads starts waits plan T d e → RunsFrom leads plan T (board (driver d)) (driver d) (driver e)
-  ends_are_told plan T d e led = (runs plan T d e led).0
+  pub ends_follow : (plan : List Job) (T : Trace) (d e : D) → Leads starts waits plan T d e → RunsFrom leads plan T (board (driver d)) (driver d) (driver e)
+  ends_follow plan T d e led = (runs plan T d e led).0

@@ -64,9 +64,9 @@ module _ (init children : List Watched) (i : ℕ) (d : Watched) (lt : i < length
       let k = get_or init i d in
       let o = rw (n, e, watched_at i init d) at one in
       let ys = asked_by_poll (child_of k.case) k.limit k.watch o.0 o.1 in
-      let told = ends_so k.limit k.watch o.0 o.1 outcome (All-get_or IsOn init i d lt on).0 (sym o.3) in
+      let yields = ends_so k.limit k.watch o.0 o.1 outcome (All-get_or IsOn init i d lt on).0 (sym o.3) in
       let both = chain_append leads start now new calls ys chain o.2 in
-      (calls ++ ys, both, (calls, ys, refl, polled, rw (slice_get-get_or init i d lt) (o.0, o.1, refl, sym o.3, told)))
+      (calls ++ ys, both, (calls, ys, refl, polled, rw (slice_get-get_or init i d lt) (o.0, o.1, refl, sym o.3, yields)))
 
   -- whatever is read beyond the list
   pub same_at : (f : Watched) → get_or children i d ≡ get_or children i f

@@ -18,7 +18,7 @@ pub use Rattle.kt_child.specs.Driving.JobPlan.{case_of, limit_of, list_case, lis
 pub use Rattle.kt_child.specs.Driving.Lists.{ListsBy, RanList, WatchedList}
 pub use Rattle.kt_child.specs.Driving.Numbers.{AttemptsDiffer, NumbersDiffer}
 pub use Rattle.kt_child.specs.Driving.Roots.{FindsRoot, driver_words, root_of}
-pub use Rattle.kt_child.specs.Driving.Runs.{EndsAreTold, RunsFrom}
+pub use Rattle.kt_child.specs.Driving.Runs.{EndsFollow, RunsFrom}
 pub use Rattle.kt_child.specs.Driving.Starting.{Begun, SetUp, SetUpIn, SetUpNew, Started, Tried, cause_of, child_asks, furnish_asks, spawn_ask, spawned}
 pub use Rattle.kt_child.specs.Ending.Ends.{Leaves, Removes, err_of, is_over, out_of}
 pub use Rattle.kt_child.specs.Ending.Gathering.{Gathers, IsClaim, IsTap, ReadsClaim, ReadsTap}
@@ -28,7 +28,7 @@ pub use Rattle.kt_child.specs.Host.HostAnswers.{HostLeads, IsFront, IsHostRead, 
 pub use Rattle.kt_child.specs.Host.HostStands.{AllProceed, AllStay, IsLastEnd, OthersStay, Proceeds, stand_in, stand_of}
 pub use Rattle.kt_child.specs.Host.Lateness.{IsAnyLate, IsLate, IsLateAt, Looks, Sees}
 pub use Rattle.kt_child.specs.Inner.Children.{IsOn, IsOnBy, IsWatched, TakesBytes, count_in, state_after_start, with_pending}
-pub use Rattle.kt_child.specs.Inner.Host.{IsAt, IsCommandOf, IsFaultOf, IsFree, IsUnopened, RunsIn, TakesPiece, after_removed, after_set}
+pub use Rattle.kt_child.specs.Inner.Host.{IsAt, IsCommandOf, IsFaultOf, IsFree, IsUnopened, RunsIn, after_removed, after_set}
 pub use Rattle.kt_child.specs.Inner.Started.{IsStart}
 pub use Rattle.kt_child.specs.Planning.ChildPlan.{child_of, common_variables, env_of, own_variables, paths_of, removed_names, test_variable, variable, variable_word, words_of}
 pub use Rattle.kt_child.specs.Polling.ChildOutcome.{fresh}

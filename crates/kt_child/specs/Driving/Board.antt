@@ -24,7 +24,7 @@ pub record Board : Type 0 where
   pub owed : List Case
   pub next : ℕ
 
--- these children, with what each has answered, as its counters tell it; `EndsAreTold` says that it is all that was heard
+-- these children, with what each has answered, by its counters; `EndsFollow` says that it is all that was heard
 abbrev pub alive_of : List Watched → List Alive
 alive_of children = map (λ k. record { case = k.case; limit = k.limit; heard = answered k.limit k.watch }) children
 
@@ -89,7 +89,7 @@ pub record Ends (old : Board) (calls : List Call) (e : Ended) (new : Board) : Ty
   pub after : List Alive
   pub place : ℕ
   pub over : Alive
-  pub told : IsOver old.alive polls after place over e.outcome
+  pub follows : IsOver old.alive polls after place over e.outcome
   pub left : Leaves over.case leaving e.outcome e
   pub alive : new.alive ≡ remove after place
   pub owed : new.owed ≡ pending_with over.case old.owed

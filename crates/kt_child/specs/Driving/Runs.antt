@@ -26,7 +26,7 @@ module _ {O : Type 0} (leads : O → Call → O → Type 0) where
   abbrev pub RunsFrom : List Job → Trace → Board → Driver O → Driver O → Type 0
   RunsFrom plan T b old new = (calls : List Call) × Chain leads old.os calls new.os × Runs plan old.source old.root b T calls (board new)
 
-  -- whatever is started and waited for: the calls that are asked of the system are those of the answers, and tell each end
-  abbrev pub EndsAreTold : Type 0
-  EndsAreTold =
+  -- whatever is started and waited for: the calls that are asked of the system are those of the answers, from which each end follows
+  abbrev pub EndsFollow : Type 0
+  EndsFollow =
       (plan : List Job) (T : Trace) (d e : Driver O) → Leads (DriverStarts leads) (DriverWaits leads) plan T d e → RunsFrom plan T (board d) d e

@@ -27,7 +27,7 @@ Removes true dir calls = (done : Bool) × (calls ≡ RemoveTree dir done ∷ [])
 Removes false dir calls = calls ≡ []
 
 -- The moment is asked, then the evidence is read, then the output and the errors, and then comes the removal; the end
--- is told by their answers, with no more than 1,048,576 bytes of each output.
+-- follows from their answers, with no more than 1,048,576 bytes of each output.
 abbrev pub Leaves : Case → List Call → Outcome → Ended → Type 0
 Leaves c calls outcome e =
     (now : Result ℕ OsFault) × (reads : List Call) × (out : Result FileRead OsFault) × (err : Result FileRead OsFault) × (last : List Call)

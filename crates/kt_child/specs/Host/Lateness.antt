@@ -10,13 +10,13 @@ use Rattle.kt_child.specs.declared.host.host_child.HostChild.{HostChild}
 -- A child is heard late after this many milliseconds: more than two of its answers are missing, 100 of which stand for a
 -- second, and it isn't past its limit.
 abbrev pub IsLate : ℕ → ℕ → ℕ → Type 0
-IsLate limit told millis = (told < 100 * limit) × (10 * (told + 2) < millis)
+IsLate limit answers millis = (answers < 100 * limit) × (10 * (answers + 2) < millis)
 
 -- a child is heard late at this time: it has a process, of which no end was seen
 abbrev pub IsLateAt : {P I O E : Type 0} → Instant → HostChild P I O E → Type 0
 IsLateAt now h =
     (h.seen ≡ false) × IsSome h.process
-    × IsSomeAnd h.pace.started (λ start. IsLate h.pace.limit h.pace.told ((instant_nanos now - instant_nanos start) / 1000000))
+    × IsSomeAnd h.pace.started (λ start. IsLate h.pace.limit h.pace.answers ((instant_nanos now - instant_nanos start) / 1000000))
 
 module _ {P I O E : Type 0} (held : List (Child × HostChild P I O E)) where
   -- one of these children is heard late

@@ -1,5 +1,5 @@
 -- The system of the host, as private functions keep it.
-use Rattle.std.specs.Prelude.{◌≡◌, ◌≢◌, Result, Ok, Err, ℕ, List, [], ◌∷◌, false, Option, Some, None, IsSome, map, if◌then◌else◌, ◌++◌, ◌+◌, ◌≤◌, ◌<◌, length, IfSome, Bool, ◌*◌, ◌-◌, ◌/◌, max, min}
+use Rattle.std.specs.Prelude.{◌≡◌, ◌≢◌, Result, Ok, Err, ℕ, List, [], ◌∷◌, false, Option, Some, None, IsSome, map, if◌then◌else◌, ◌+◌, ◌≤◌, ◌<◌, IfSome, Bool, ◌*◌, ◌-◌, ◌/◌, max, min}
 use Rattle.std.specs.declared.io.ErrorKind.{ErrorKind}
 use Rattle.std.specs.declared.io.ErrorKind.TheVariants.{NotFound, OutOfMemory}
 use Rattle.kt_child.specs.Types.{EnvPlan, FileRead, Missing, OsFault, Part, Variable}
@@ -8,7 +8,6 @@ use Rattle.std.specs.Str.{bytes_eq}
 use Rattle.std.specs.Process.{clears_env, command_args, command_dir, command_program, command_var}
 use Rattle.std.specs.declared.process.command.Command.{Command}
 use Rattle.kt_base.specs.Utf8.{utf8}
-use Rattle.std.specs.Io.KnownBytes.{Consumes, IsAtEnd}
 use Rattle.kt_child.specs.Host.HostStands.{Stand}
 
 -- a file that can't be opened is missing exactly if the system said so
@@ -40,16 +39,6 @@ pub record IsCommandOf {A : Type 0} (path : List ℕ) (words : List (List ℕ)) 
   pub variables : (name : List ℕ) → command_var command name ≡ after_set env.set name (after_removed env.removed name None)
   pub dir : command_dir command ≡ Some (utf8 work)
 
--- one read took this many bytes of what was left of a file, as far as the buffer reaches, and appended them; it took none only
--- at the end
-pub record TakesPiece (left rest : Option (List ℕ)) (room : ℕ) (old new : List ℕ) (count : ℕ) : Type 0 where
-  pub piece : List ℕ
-  pub long : length piece ≡ count
-  pub fits : count ≤ room
-  pub taken : Consumes left rest piece
-  pub behind : new ≡ old ++ piece
-  pub last : count ≡ 0 → IsAtEnd rest
-
 -- a file whose position was known stands at this byte, unless that is the first
 abbrev pub IsAt : ℕ → Option ℕ → Option ℕ → Type 0
 IsAt from old new = 0 < from → IfSome old (λ position. new ≡ Some from)
@@ -57,11 +46,11 @@ IsAt from old new = 0 < from → IfSome old (λ position. new ≡ Some from)
 -- One more answer comes early after this many milliseconds. Of the 100 answers for each second of the limit, the first
 -- half may come at any speed, and the others are spread over the limit.
 abbrev pub IsEarly : ℕ → ℕ → ℕ → Type 0
-IsEarly limit told millis = 1000 * limit + millis < 20 * (told + 1)
+IsEarly limit answers millis = 1000 * limit + millis < 20 * (answers + 1)
 
 -- one more answer is of the first half of those for the limit
 abbrev pub IsFree : ℕ → ℕ → Type 0
-IsFree limit told = told + 1 ≤ 50 * limit
+IsFree limit answers = answers + 1 ≤ 50 * limit
 
 -- The microseconds of a slice, with so many children and so many microseconds after an end: 50 and a sixteenth of these, up to
 -- 350; but not less than 14 for each child past the eighth, nor than a 384th of these microseconds for each child and 4 more.

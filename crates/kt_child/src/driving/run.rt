@@ -1,4 +1,4 @@
-ghost use Rattle.kt_child.specs.Common.{IsIdle, IsPlan, IsWidth, Ran, Trace, Leads, is_among, shown_in, DriverStarts, DriverWaits, AttemptsDiffer, NumbersDiffer, EndsAreTold, RunsFrom, board};
+ghost use Rattle.kt_child.specs.Common.{IsIdle, IsPlan, IsWidth, Ran, Trace, Leads, is_among, shown_in, DriverStarts, DriverWaits, AttemptsDiffer, NumbersDiffer, EndsFollow, RunsFrom, board};
 
 use crate::{Driver, Os};
 use kt_base::Items;
@@ -20,7 +20,7 @@ pub fn run_driver<O: Os + Drop, S: Sink>(
         (is_among driver.old.running.pending) }
     ensures ran { Ran ⟦<Driver<O> as Launcher>⟧ S.Sink plan width driver.old driver.new
         sink.old sink.new result }
-    ensures told { (T : Trace)
+    ensures by_trace { (T : Trace)
         → Leads (DriverStarts O.leads) (DriverWaits O.leads) plan T driver.old driver.new
         → RunsFrom O.leads plan T (board driver.old) driver.old driver.new }
 {
@@ -41,5 +41,5 @@ pub fn law_of_names()
 /// and the outcome of a child is the row of the outcome table that all its answers are. Its start, the reads after its
 /// last poll and its removal are in its directory.
 pub fn law_of_traces<O: Os + Drop>()
-    ensures { EndsAreTold O.leads }
+    ensures { EndsFollow O.leads }
 {}

@@ -20,15 +20,6 @@ const STREAM_PART: u64 = 65_536;
 /// How many bytes a TAP stream has at the most (this profile).
 const STREAM_LIMIT: u64 = 16_777_216;
 
-fn claim_read(reader: ClaimReader) -> Claim
-    ensures { (bytes : List ℕ) → HasRead reader bytes → IsClaim ReadEnd.Complete bytes result }
-{
-    match reader.finish() {
-        Ok(claim) => claim,
-        Err(_) => Claim::Unreadable,
-    }
-}
-
 /// Reads a result file, and returns its claim.
 fn read_claim<O: Os>(alloc: Global, os: &mut O, path: &Text) -> Claim
     ensures { (calls : List Call) × Chain O.leads os.old calls os.new
@@ -39,16 +30,10 @@ fn read_claim<O: Os>(alloc: Global, os: &mut O, path: &Text) -> Claim
         ReadEnd::Missing => Claim::Missing,
         ReadEnd::Unreadable => Claim::Unreadable,
         ReadEnd::TooLong => Claim::Malformed(ClaimFault::TooLong),
-        ReadEnd::Complete => claim_read(reader),
-    }
-}
-
-fn tap_read(reader: TapReader) -> Tap
-    ensures { (bytes : List ℕ) → HasStream reader bytes → IsTap ReadEnd.Complete bytes result }
-{
-    match reader.finish() {
-        Ok(tap) => tap,
-        Err(_) => Tap::Invalid(TapFault::Unreadable),
+        ReadEnd::Complete => match reader.finish() {
+            Ok(claim) => claim,
+            Err(_) => Claim::Unreadable,
+        },
     }
 }
 
@@ -61,7 +46,10 @@ fn read_tap<O: Os>(alloc: Global, os: &mut O, path: &Text) -> Tap
     match read_in_parts(os, path, STREAM_PART, STREAM_LIMIT, &mut reader) {
         ReadEnd::Missing | ReadEnd::Unreadable => Tap::Invalid(TapFault::Unreadable),
         ReadEnd::TooLong => Tap::Invalid(TapFault::TooLong),
-        ReadEnd::Complete => tap_read(reader),
+        ReadEnd::Complete => match reader.finish() {
+            Ok(tap) => tap,
+            Err(_) => Tap::Invalid(TapFault::Unreadable),
+        },
     }
 }
 

@@ -60,38 +60,7 @@ fn count_part(got: &mut u64, bytes: &Bytes, follows: bool, limit: u64) -> Option
     None
 }
 
-/// Passes bytes to the reader. No bytes leave it as it is, and take no memory.
-fn hand<R: PartReader>(reader: &mut R, bytes: &Bytes) -> Result<(), NoMemory>
-    ensures ok { OnOk result (TakesBytes R.has_taken reader.old reader.new bytes.now) }
-    ensures err { OnErr result (0 < length bytes.now) }
-{
-    if bytes.is_empty() {
-        return Ok(());
-    }
-    reader.take(bytes.as_slice())
-}
-
-/// Passes the bytes of a part to the reader.
-fn take<R: PartReader>(reader: &mut R, got: &mut u64, read: FileRead, limit: u64) -> Option<ReadEnd>
-    requires { got.old < limit }
-    ensures end { IsEnd limit got.old (Ok read) result }
-    ensures whole { result ≡ Some ReadEnd.Complete
-        → TakesBytes R.has_taken reader.old reader.new (bytes_of (Ok read)) }
-    ensures taken { IfNone result (TakesBytes R.has_taken reader.old reader.new (bytes_of (Ok read))) }
-    ensures more { IfNone result ((got.new ≡ got.old + length (bytes_of (Ok read)))
-        × (got.old < got.new) × (got.new < limit)) }
-{
-    match read {
-        FileRead::Missing if *got == 0 => Some(ReadEnd::Missing),
-        FileRead::Missing => Some(ReadEnd::Unreadable),
-        FileRead::Part(bytes, follows) => match hand(reader, &bytes) {
-            Err(_) => Some(ReadEnd::Unreadable),
-            Ok(()) => count_part(got, &bytes, follows, limit),
-        },
-    }
-}
-
-/// Asks for the next part, and returns how the reading ends with it, if it does.
+/// Asks for the next part and passes its bytes to the reader. Returns how the reading ends with it, if it does.
 fn read_next<O: Os, R: PartReader>(
     os: &mut O,
     path: &Text,
@@ -112,8 +81,16 @@ fn read_next<O: Os, R: PartReader>(
 {
     let room = limit - *got;
     match os.read_part(path, *got, part.min(room)) {
-        Ok(read) => take(reader, got, read, limit),
         Err(_) => Some(ReadEnd::Unreadable),
+        Ok(FileRead::Missing) if *got == 0 => Some(ReadEnd::Missing),
+        Ok(FileRead::Missing) => Some(ReadEnd::Unreadable),
+        Ok(FileRead::Part(bytes, follows)) => {
+            // No bytes take no memory.
+            if !bytes.is_empty() && reader.take(bytes.as_slice()).is_err() {
+                return Some(ReadEnd::Unreadable);
+            }
+            count_part(got, &bytes, follows, limit)
+        }
     }
 }
 

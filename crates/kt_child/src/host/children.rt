@@ -1,7 +1,7 @@
 ghost use Rattle.std.specs.Prelude.{◌≡◌, ◌↔◌, None, Some, Result, Ok, IsSome, IsTrue, IfNone, IfOk, IfSome, OnOk};
 ghost use Rattle.std.specs.declared.io.Error.{Error};
 ghost use Rattle.std.specs.declared.time.Instant.{Instant as Time};
-ghost use Rattle.kt_child.specs.Common.{AllProceed, AllStay, IsAnyLate, OthersStay, Proceeds, RunsIn, Sees, stand_in, stand_of};
+ghost use Rattle.kt_child.specs.Common.{AllProceed, AllStay, OthersStay, Proceeds, RunsIn, Sees, stand_in, stand_of};
 
 use crate::host::command::Asked;
 use crate::host::host_child::HostChild;
@@ -52,7 +52,7 @@ pub(crate) fn keep_output<P: OpenProcess + Drop, C: Clock>(
     file: File,
     clock: &C,
 ) -> Result<(), NoMemory>
-    ensures idle { stand_in children.new.entries child ≡ None }
+    ensures unstarted { stand_in children.new.entries child ≡ None }
     ensures others { OthersStay child (stand_in children.old.entries)
         (stand_in children.new.entries) }
 {
@@ -81,10 +81,13 @@ pub(crate) fn launch<P: OpenProcess + Drop, R: Processes<Started = P> + Clock + 
     }
 }
 
-/// Whether some child is heard late, at this time.
-fn is_any_late_at<P: OpenProcess + Drop>(children: &Children<P>, now: Instant) -> bool
-    ensures { IsTrue result ↔ IsAnyLate children.now.entries now }
+/// Whether some child is heard late. None is where the clock fails.
+pub(crate) fn is_any_late<P: OpenProcess + Drop, C: Clock>(children: &Children<P>, rt: &C) -> bool
+    ensures { (time : Result Time Error) × Sees children.now.entries time result }
 {
+    let Ok(now) = Instant::now(rt) else {
+        return false;
+    };
     for place in 0..children.len() {
         if children[place].is_late_at(now) {
             return true;
@@ -93,17 +96,7 @@ fn is_any_late_at<P: OpenProcess + Drop>(children: &Children<P>, now: Instant) -
     false
 }
 
-/// Whether some child is heard late. None is where the clock fails.
-pub(crate) fn is_any_late<P: OpenProcess + Drop, C: Clock>(children: &Children<P>, rt: &C) -> bool
-    ensures { (time : Result Time Error) × Sees children.now.entries time result }
-{
-    match Instant::now(rt) {
-        Ok(now) => is_any_late_at(children, now),
-        Err(_error) => false,
-    }
-}
-
-/// How a child ended, if it has. While some child is heard late, another may be told as running without a look.
+/// How a child ended, if it has. While some child is heard late, another may be reported as running without a look.
 pub(crate) fn poll<P: OpenProcess + Drop, C: Clock>(
     children: &mut Children<P>,
     child: Child,
@@ -112,7 +105,7 @@ pub(crate) fn poll<P: OpenProcess + Drop, C: Clock>(
 ) -> Result<Option<ExitStatus>, OsFault>
     ensures proceeds { Proceeds (stand_in children.old.entries child)
         (stand_in children.new.entries child) }
-    ensures told { IfOk result (λ status. IsSome status
+    ensures ended { IfOk result (λ status. IsSome status
         → stand_in children.new.entries child ≡ Some status) }
     ensures running { result ≡ Ok None → RunsIn late (stand_in children.old.entries child)
         × AllStay (stand_in children.old.entries) (stand_in children.new.entries) }

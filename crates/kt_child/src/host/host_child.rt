@@ -91,7 +91,7 @@ impl<P: OpenProcess + Drop> HostChild<P> {
         asked: Asked<'_>,
     ) -> Result<(), OsFault>
         ensures started { OnOk result (IsSome (stand_of self.new)) }
-        ensures told { OnOk result (self.new.pace.told ≡ 0) }
+        ensures reset { OnOk result (self.new.pace.answers ≡ 0) }
     {
         let Some((out, err)) = self.out.take().zip(self.err.take()) else {
             return Err(OsFault::Failed);
@@ -106,7 +106,7 @@ impl<P: OpenProcess + Drop> HostChild<P> {
     /// How it ended, if it has. An end that was seen is reported again.
     fn status(&mut self) -> Result<Option<ExitStatus>, OsFault>
         ensures proceeds { Proceeds (stand_of self.old) (stand_of self.new) }
-        ensures told { IfOk result (λ status. stand_of self.new ≡ Some status) }
+        ensures stands { IfOk result (λ status. stand_of self.new ≡ Some status) }
         ensures pace { self.new.pace ≡ self.old.pace }
         ensures seen { IfOk result (λ status. IsSome status → self.new.seen ≡ true) }
     {
@@ -145,7 +145,7 @@ impl<P: OpenProcess + Drop> HostChild<P> {
     fn is_unheard(&self, late: bool) -> bool
         ensures runs { IsTrue result → IsSome (stand_of self.now) }
         ensures late { IsTrue result → IsTrue late }
-        ensures free { IsTrue result → IsFree self.now.pace.limit self.now.pace.told }
+        ensures free { IsTrue result → IsFree self.now.pace.limit self.now.pace.answers }
     {
         late && !self.seen && self.process.is_some() && self.pace.is_free()
     }
@@ -158,20 +158,20 @@ impl<P: OpenProcess + Drop> HostChild<P> {
         clock: &C,
     ) -> Result<Option<ExitStatus>, OsFault>
         ensures proceeds { Proceeds (stand_of self.old) (stand_of self.new) }
-        ensures told { IfOk result (λ status. IsSome status → stand_of self.new ≡ Some status) }
+        ensures ended { IfOk result (λ status. IsSome status → stand_of self.new ≡ Some status) }
         ensures running { result ≡ Ok None
             → RunsIn late (stand_of self.old) × (stand_of self.new ≡ stand_of self.old) }
-        ensures counted { result ≡ Ok None → self.new.pace.told
-            ≡ min (self.old.pace.told + 1) (2 ^ 64 - 1) }
+        ensures counted { result ≡ Ok None → self.new.pace.answers
+            ≡ min (self.old.pace.answers + 1) (2 ^ 64 - 1) }
     {
         if self.is_unheard(late) {
-            self.pace.tell();
+            self.pace.count_answer();
             return Ok(None);
         }
         self.keep_pace(clock)?;
         let status = self.status()?;
         if status.is_none() {
-            self.pace.tell();
+            self.pace.count_answer();
         }
         Ok(status)
     }
@@ -182,7 +182,7 @@ impl<P: OpenProcess + Drop> HostChild<P> {
         ensures had { OnOk result (IsSome (stand_of self.old)) }
         ensures ended { (status : Status) → stand_of self.old ≡ Some (Some status) → IsOk result }
         ensures limit { OnOk result (self.new.pace.limit ≡ 5) }
-        ensures told { OnOk result (self.new.pace.told ≡ 0) }
+        ensures reset { OnOk result (self.new.pace.answers ≡ 0) }
     {
         match &mut self.process {
             Some(process) => or_fault(process.kill())?,

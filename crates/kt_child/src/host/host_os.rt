@@ -5,7 +5,7 @@ use crate::host::children::Children;
 use crate::host::command::Asked;
 use crate::host::host_child::HostChild;
 use crate::host::outputs::{create_directory, create_output, create_root};
-use crate::host::reads::read_regular;
+use crate::host::reads::{open_regular, read_opened};
 use crate::host::{children, fault_of, or_fault};
 use crate::{Child, EnvPlan, FileRead, Os, OsFault, Polled};
 use kt_base::{Items, Text};
@@ -211,11 +211,13 @@ impl<R: Processes + Files<File = File> + Clock + AllocGlobal + Clone + Drop> Os 
     }
 
     fn read_file(&mut self, path: &Text, limit: u64) -> Result<FileRead, OsFault> {
-        read_regular(&self.rt, path, 0, limit)
+        let opened = open_regular(&self.rt, path.as_str());
+        read_opened(self.rt.alloc(), opened, 0, limit)
     }
 
     fn read_part(&mut self, path: &Text, from: u64, limit: u64) -> Result<FileRead, OsFault> {
-        read_regular(&self.rt, path, from, limit)
+        let opened = open_regular(&self.rt, path.as_str());
+        read_opened(self.rt.alloc(), opened, from, limit)
     }
 
     fn now(&mut self) -> Result<u64, OsFault> {

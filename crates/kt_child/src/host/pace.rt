@@ -59,77 +59,65 @@ pub(crate) struct Pace {
     started: Option<Instant>,
     /// In seconds; 100 answers stand for each.
     pub(crate) limit: u64,
-    told: u64,
-}
-
-/// Whether one more answer `running` would come too early after these milliseconds.
-fn is_too_early(limit: u64, told: u64, millis: u128) -> bool
-    ensures { IsTrue result ↔ IsEarly limit told millis }
-{
-    let free = u128::from(limit) * 1_000;
-    let due = (u128::from(told) + 1) * PERIOD;
-    due > free && due - free > millis
+    answers: u64,
 }
 
 /// How many polls a child may be late before others are reported as running without a look.
 const SLACK: u128 = 2;
 
-/// Whether a child is heard late that was reported as running so often in these milliseconds, and may be again.
-fn is_late(limit: u64, told: u64, millis: u128) -> bool
-    ensures { IsTrue result ↔ IsLate limit told millis }
-{
-    let due = (u128::from(told) + SLACK) * 10;
-    u128::from(told) < u128::from(limit) * 100 && due < millis
-}
-
 impl Pace {
     /// The pace of a child that begins to run.
     pub(crate) fn begun<C: Clock>(limit: u64, clock: &C) -> Pace
         ensures limit { result.limit ≡ limit }
-        ensures told { result.told ≡ 0 }
+        ensures answers { result.answers ≡ 0 }
     {
         Pace {
             started: Instant::now(clock).ok(),
             limit,
-            told: 0,
+            answers: 0,
         }
     }
 
     /// Whether it is heard late, at this time.
     pub(crate) fn is_late_at(&self, now: Instant) -> bool
         ensures { IsTrue result ↔ IsSomeAnd self.now.started (λ start.
-            IsLate self.now.limit self.now.told
+            IsLate self.now.limit self.now.answers
             ((instant_nanos now - instant_nanos start) / 1000000)) }
     {
-        match self.started {
-            Some(from) => is_late(self.limit, self.told, now.duration_since(from).as_millis()),
-            None => false,
-        }
+        let Some(from) = self.started else {
+            return false;
+        };
+        let millis = now.duration_since(from).as_millis();
+        let due = (u128::from(self.answers) + SLACK) * 10;
+        u128::from(self.answers) < u128::from(self.limit) * 100 && due < millis
     }
 
     /// Whether one more answer `running` is of the first half.
     pub(crate) fn is_free(&self) -> bool
-        ensures { IsTrue result ↔ IsFree self.now.limit self.now.told }
+        ensures { IsTrue result ↔ IsFree self.now.limit self.now.answers }
     {
-        u128::from(self.told) + 1 <= u128::from(self.limit) * 50
+        u128::from(self.answers) + 1 <= u128::from(self.limit) * 50
     }
 
     /// Whether one more answer `running` would come too early at this time.
     fn is_early_at(&self, now: Instant) -> bool
         ensures { IsTrue result ↔ IsSomeAnd self.now.started (λ start.
-            IsEarly self.now.limit self.now.told
+            IsEarly self.now.limit self.now.answers
             ((instant_nanos now - instant_nanos start) / 1000000)) }
     {
-        match self.started {
-            Some(from) => is_too_early(self.limit, self.told, now.duration_since(from).as_millis()),
-            None => false,
-        }
+        let Some(from) = self.started else {
+            return false;
+        };
+        let millis = now.duration_since(from).as_millis();
+        let free = u128::from(self.limit) * 1_000;
+        let due = (u128::from(self.answers) + 1) * PERIOD;
+        due > free && due - free > millis
     }
 
     /// Whether one more answer `running` would come too early. One of the first half never does, and needs no clock.
     pub(crate) fn is_early<C: Clock>(&self, clock: &C) -> bool
         ensures { IsTrue result → (now : Moment) × IsSomeAnd self.now.started (λ start.
-            IsEarly self.now.limit self.now.told
+            IsEarly self.now.limit self.now.answers
             ((instant_nanos now - instant_nanos start) / 1000000)) }
     {
         if self.is_free() {
@@ -142,11 +130,11 @@ impl Pace {
     }
 
     /// Counts an answer `running`.
-    pub(crate) fn tell(&mut self)
-        ensures told { self.new.told ≡ min (self.old.told + 1) (2 ^ 64 - 1) }
+    pub(crate) fn count_answer(&mut self)
+        ensures counted { self.new.answers ≡ min (self.old.answers + 1) (2 ^ 64 - 1) }
         ensures limit { self.new.limit ≡ self.old.limit }
         ensures started { self.new.started ≡ self.old.started }
     {
-        self.told = self.told.saturating_add(1);
+        self.answers = self.answers.saturating_add(1);
     }
 }

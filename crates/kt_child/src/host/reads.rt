@@ -1,9 +1,9 @@
 ghost use Rattle.std.specs.Prelude.{◌≡◌, ◌≢◌, ◌+◌, ◌≤◌, ◌<◌, length, take, drop, Some, MatchResult, IfOk, OnOk, IfSome, IsSomeAnd};
-ghost use Rattle.kt_child.specs.Common.{error_kind, IsAt, IsUnopened, TakesPiece, IsFront, IsHostRead, IsOpened, TakesAtMost};
+ghost use Rattle.kt_child.specs.Common.{error_kind, IsAt, IsUnopened, IsFront, IsHostRead, IsOpened, TakesAtMost};
 
 use crate::host::or_fault;
 use crate::{FileRead, OsFault};
-use kt_base::{Bytes, Text};
+use kt_base::Bytes;
 use kt_suite::ReadFault;
 use std::alloc::Global;
 use std::fs::{File, OpenFile, OpenOptions};
@@ -14,23 +14,6 @@ use std::{fs, io};
 
 /// The size of the pieces in which a file is read, in bytes.
 const PIECE: usize = 8_192;
-
-/// Appends what one read gives, and returns the number of its bytes: 0 at the end. An interrupted read is a fault, too.
-fn read_piece<F: Read>(file: &mut F, room: &mut [u8], bytes: &mut Bytes) -> Result<usize, ReadFault>
-    requires { 0 < length room.old }
-    ensures taken { IfOk result (λ count. TakesPiece (F.remaining file.old) (F.remaining file.new)
-        (length room.old) bytes.old bytes.new count) }
-    ensures past { TakesAtMost (length room.old) (F.remaining file.old) (F.remaining file.new) }
-{
-    let count = match file.read(room) {
-        Ok(count) => count,
-        Err(_) => return Err(ReadFault::Failed),
-    };
-    match bytes.append(&room[..count]) {
-        Ok(()) => Ok(count),
-        Err(refusal) => Err(ReadFault::Memory(refusal)),
-    }
-}
 
 /// Reads to the end of a file, to the limit, or to the first fault. An interrupted read is a fault, too.
 pub fn read_start<F: Read>(alloc: Global, file: &mut F, limit: usize) -> Result<Bytes, ReadFault>
@@ -47,9 +30,15 @@ pub fn read_start<F: Read>(alloc: Global, file: &mut F, limit: usize) -> Result<
     let mut buffer = [0u8; PIECE];
     while bytes.len() < limit {
         let want = PIECE.min(limit - bytes.len());
-        let count = read_piece(file, &mut buffer[..want], &mut bytes)?;
+        let count = match file.read(&mut buffer[..want]) {
+            Ok(count) => count,
+            Err(_) => return Err(ReadFault::Failed),
+        };
         if count == 0 {
             return Ok(bytes);
+        }
+        if let Err(refusal) = bytes.append(&buffer[..count]) {
+            return Err(ReadFault::Memory(refusal));
         }
     }
     Ok(bytes)
@@ -73,21 +62,17 @@ pub fn read_front<F: Read>(alloc: Global, file: &mut F, limit: u64) -> Result<Fi
     Ok(FileRead::Part(bytes, count > 0))
 }
 
-/// Opens a file to read it, for writing too where its rights allow that: then not even a pipe makes the call wait.
-fn open_at_once<R: Files>(rt: &R, path: &str) -> io::Result<R::File> {
-    match OpenOptions::new().read(true).write(true).open(rt, path) {
-        Ok(file) => Ok(file),
-        Err(_) => File::open(rt, path),
-    }
-}
-
-/// Opens a regular file. Anything else is a fault, such as a link, or what was put there after the look.
-fn open_regular<R: Files>(rt: &R, path: &str) -> io::Result<R::File> {
+/// Opens a regular file to read it. Anything else is a fault, such as a link, or what was put there after the look.
+pub(crate) fn open_regular<R: Files>(rt: &R, path: &str) -> io::Result<R::File> {
     let seen = fs::symlink_metadata(rt, path)?;
     if !seen.is_file() {
         return Err(io::Error::from(ErrorKind::InvalidInput));
     }
-    let file = open_at_once(rt, path)?;
+    // For writing too where its rights allow that: then not even a pipe makes the call wait.
+    let file = match OpenOptions::new().read(true).write(true).open(rt, path) {
+        Ok(file) => file,
+        Err(_) => File::open(rt, path)?,
+    };
     let opened = file.metadata()?;
     if opened.ino() == seen.ino() && opened.dev() == seen.dev() {
         Ok(file)
@@ -96,39 +81,9 @@ fn open_regular<R: Files>(rt: &R, path: &str) -> io::Result<R::File> {
     }
 }
 
-/// The result for a file that can't be opened.
-fn unopened(error: &io::Error) -> Result<FileRead, OsFault>
-    ensures { IsUnopened (error_kind error.now) result }
-{
-    match error.kind() {
-        ErrorKind::NotFound => Ok(FileRead::Missing),
-        _ => Err(OsFault::Failed),
-    }
-}
-
-/// Reads a file from the byte `from` on. Only one read goes on from there, and it stops as `read_front` does.
-fn read_from<F: Read + Seek>(
-    alloc: Global,
-    file: &mut F,
-    from: u64,
-    limit: u64,
-) -> Result<FileRead, OsFault>
-    ensures within { IsHostRead limit result }
-    ensures opened { IsOpened result }
-    ensures front { (at : F) × (from ≡ 0 → at ≡ file.old)
-        × OnOk result (IsAt from (F.stream_position file.old) (F.stream_position at))
-        × IfSome (F.remaining at) (λ xs. IsFront limit xs result)
-        × TakesAtMost (limit + 1) (F.remaining at) (F.remaining file.new) }
-{
-    if from == 0 {
-        return read_front(alloc, file, limit);
-    }
-    or_fault(file.seek(SeekFrom::Start(from)))?;
-    read_front(alloc, file, limit)
-}
-
-/// Reads a file from the byte `from` on, if it could be opened.
-fn read_opened<F: Read + Seek + Drop>(
+/// Reads a file from the byte `from` on, if it could be opened. Only one read goes on from there, and it stops as `read_front`
+/// does.
+pub(crate) fn read_opened<F: Read + Seek + Drop>(
     alloc: Global,
     opened: io::Result<F>,
     from: u64,
@@ -137,23 +92,20 @@ fn read_opened<F: Read + Seek + Drop>(
     ensures within { IsHostRead limit result }
     ensures opened { MatchResult opened (λ _. IsOpened result)
         (λ error. IsUnopened (error_kind error) result) }
-    ensures front { from ≡ 0 → IfOk opened (λ file.
-        IfSome (F.remaining file) (λ xs. IsFront limit xs result)) }
+    ensures front { IfOk opened (λ file. (at : F) × (from ≡ 0 → at ≡ file)
+        × OnOk result (IsAt from (F.stream_position file) (F.stream_position at))
+        × IfSome (F.remaining at) (λ xs. IsFront limit xs result)) }
 {
     match opened {
-        Ok(mut file) => read_from(alloc, &mut file, from, limit),
-        Err(error) => unopened(&error),
+        Ok(mut file) => {
+            if from > 0 {
+                or_fault(file.seek(SeekFrom::Start(from)))?;
+            }
+            read_front(alloc, &mut file, limit)
+        }
+        Err(error) => match error.kind() {
+            ErrorKind::NotFound => Ok(FileRead::Missing),
+            _ => Err(OsFault::Failed),
+        },
     }
-}
-
-/// Reads a regular file from the byte `from` on.
-pub(crate) fn read_regular<R: Files + AllocGlobal>(
-    rt: &R,
-    path: &Text,
-    from: u64,
-    limit: u64,
-) -> Result<FileRead, OsFault>
-    ensures { IsHostRead limit result }
-{
-    read_opened(rt.alloc(), open_regular(rt, path.as_str()), from, limit)
 }

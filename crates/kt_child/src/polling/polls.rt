@@ -11,17 +11,6 @@ const POLLS_A_SECOND: u64 = 100;
 /// How often a killed child may still be running (this profile).
 const REAPING_POLLS: u64 = 500;
 
-/// The end by an outcome; after a kill it is `TimedOut`, whatever the status.
-fn ended(watch: &Watch, outcome: Outcome) -> AfterPoll
-    ensures { result ≡ AfterPoll.Ended (if watch.now.killed then Outcome.TimedOut else outcome) }
-{
-    if watch.killed {
-        AfterPoll::Ended(Outcome::TimedOut)
-    } else {
-        AfterPoll::Ended(outcome)
-    }
-}
-
 /// Polls a child once. Kills it if the poll failed or the limit (in seconds) is used up.
 pub(crate) fn poll_once<O: Os>(os: &mut O, child: Child, limit: u64, watch: &mut Watch) -> AfterPoll
     requires in_range { limit ≤ 1000000 }
@@ -37,9 +26,11 @@ pub(crate) fn poll_once<O: Os>(os: &mut O, child: Child, limit: u64, watch: &mut
             let _ = os.kill(child);
             AfterPoll::Ended(Outcome::WaitFailed)
         }
-        Ok(Polled::Exited(code)) => ended(watch, Outcome::Exited(code)),
-        Ok(Polled::Signaled(signal, core)) => ended(watch, Outcome::Signaled(signal, core)),
         Ok(Polled::Running) => still_running(os, child, limit, watch),
+        // A kill counts as a timeout, whatever the status.
+        Ok(_) if watch.killed => AfterPoll::Ended(Outcome::TimedOut),
+        Ok(Polled::Exited(code)) => AfterPoll::Ended(Outcome::Exited(code)),
+        Ok(Polled::Signaled(signal, core)) => AfterPoll::Ended(Outcome::Signaled(signal, core)),
     }
 }
 

@@ -3,7 +3,7 @@ use Rattle.kt_cli.proofs.Common.{Chain, ChildrenState, idle_state, Question, OfT
 use Rattle.kt_cli.proofs.Refusing.{none_asked}
 use Rattle.kt_child.specs.Driving.Board.{board_of}
 use Rattle.kt_child.specs.Driving.Runs.{RunsFrom}
-use Rattle.kt_child.proofs.TraceRuns.{ends_are_told}
+use Rattle.kt_child.proofs.TraceRuns.{ends_follow}
 use Rattle.kt_child.specs.declared.system.os.Os as system
 use Rattle.kt_cli.specs.declared.host.machine.Machine as machine
 use Rattle.kt_cli.proofs.host.host_execution.execute_over_cases.Goals as goal
@@ -22,7 +22,7 @@ module _ {M O : Type 0} (m : machine.Ghosts M) (o : system.Ghosts O) where
       let d = course.begun.driver in
       let P : ChildrenState → Type 0 = λ b. RunsFrom o.leads seen.plan seen.trace (board_of b d.next) d new.driver in
       subst P (all_running_kept seen.questions old course.begun course.asked ∙ none)
-      (ends_are_told o.leads (λ (w : HostWorld M O). w.driver) _ _ (λ d e job role answer h. h.0) (λ d e ended h. h.0) seen.plan seen.trace course.begun new course.ran)
+      (ends_follow o.leads (λ (w : HostWorld M O). w.driver) _ _ (λ d e job role answer h. h.0) (λ d e ended h. h.0) seen.plan seen.trace course.begun new course.ran)
 
 pub returns-in-Err-clause-refused : goal.returns-in-Err-clause-refused
 returns-in-Err-clause-refused g c = (none_asked g.O.Os c.args.outside.os _ _, refl)
