@@ -313,7 +313,7 @@ kt_store/src/new_file.rt: Err(error) if error.kind() == ErrorKind::AlreadyExists
 # A child that was not made, or not started.
 kt_child/src/host/children.rt: None => Err(OsFault::Failed),
 kt_child/src/host/children.rt: None => Err(OsFault::Failed),
-kt_child/src/host/children.rt: None => Err(OsFault::Failed),
+kt_child/src/host/host_os.rt: return Err(OsFault::Failed);
 kt_child/src/host/host_child.rt: None => return Err(OsFault::Failed),
 kt_child/src/host/host_child.rt: None => return Err(OsFault::Failed),
 kt_child/src/host/host_child.rt: return Err(OsFault::Failed);

@@ -5,8 +5,6 @@ pub use Rattle.std.specs.Str.{chars}
 pub use Rattle.kt_base.specs.Chains.{Chain}
 pub use Rattle.kt_base.specs.Moments.{IsMoment}
 pub use Rattle.kt_base.specs.Utf8.{utf8}
-pub use Rattle.kt_claim.specs.ClaimReading.{HasRead}
-pub use Rattle.kt_claim.specs.StreamReading.{HasStream}
 pub use Rattle.kt_sched.specs.Children.{IsEvidence, IsIdle, MayStart, pending_after_end, pending_after_start, running_after_end, running_after_start}
 pub use Rattle.kt_sched.specs.Plan.{IsFit, IsPlan, IsWidth}
 pub use Rattle.kt_sched.specs.Run.{Ran}
@@ -21,12 +19,12 @@ pub use Rattle.kt_child.specs.Driving.Roots.{FindsRoot, driver_words, root_of}
 pub use Rattle.kt_child.specs.Driving.Runs.{EndsFollow, RunsFrom}
 pub use Rattle.kt_child.specs.Driving.Starting.{Begun, SetUp, SetUpIn, SetUpNew, Started, Tried, cause_of, child_asks, furnish_asks, spawn_ask, spawned}
 pub use Rattle.kt_child.specs.Ending.Ends.{Leaves, Removes, err_of, is_over, out_of}
-pub use Rattle.kt_child.specs.Ending.Gathering.{Gathers, IsClaim, IsTap, ReadsClaim, ReadsTap}
+pub use Rattle.kt_child.specs.Ending.Gathering.{Gathers, ReadsClaim, ReadsTap}
 pub use Rattle.kt_child.specs.Ending.Parts.{IsEnd, Reads, end_of, next_part}
 pub use Rattle.kt_child.specs.Ending.Reads.{IsListWithin, IsReadWithin, bytes_of, list_of}
 pub use Rattle.kt_child.specs.Host.HostAnswers.{HostLeads, IsFront, IsHostRead, IsOpened, IsPolledOf, TakesAtMost, limit_after}
 pub use Rattle.kt_child.specs.Host.HostStands.{AllProceed, AllStay, IsLastEnd, OthersStay, Proceeds, stand_in, stand_of}
-pub use Rattle.kt_child.specs.Host.Lateness.{IsAnyLate, IsLate, IsLateAt, Looks, Sees}
+pub use Rattle.kt_child.specs.Host.Lateness.{IsLate, IsLateAt, Looks, Sees}
 pub use Rattle.kt_child.specs.Inner.Children.{IsOn, IsOnBy, IsWatched, TakesBytes, count_in, state_after_start, with_pending}
 pub use Rattle.kt_child.specs.Inner.Host.{IsAt, IsCommandOf, IsFaultOf, IsFree, IsUnopened, RunsIn, after_removed, after_set}
 pub use Rattle.kt_child.specs.Inner.Started.{IsStart}
@@ -35,7 +33,7 @@ pub use Rattle.kt_child.specs.Polling.ChildOutcome.{fresh}
 pub use Rattle.kt_child.specs.Polling.Polls.{asked_by_poll, is_due, after_poll, watch_after}
 pub use Rattle.kt_child.specs.Polling.Turns.{PolledAll, PolledUntil, WaitedOn, advanced_below}
 pub use Rattle.kt_child.specs.System.Calls.{Call, Kill, MakeDir, Now, OpenOutput, Pause, Poll, ReadFile, ReadPart, RemoveTree, SetLimit, Spawn}
-pub use Rattle.kt_child.specs.System.Moments.{moment_of, recordable_moment}
+pub use Rattle.kt_child.specs.System.Moments.{moment_of}
 pub use Rattle.kt_child.specs.declared.system.FileRead.{FileRead}
 pub use Rattle.kt_child.specs.declared.system.OsFault.{OsFault}
 pub use Rattle.kt_child.specs.declared.system.Polled.TheVariants.{Running}

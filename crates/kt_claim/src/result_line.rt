@@ -1,9 +1,9 @@
 //! The one line of a result file.
 
-ghost use Rattle.std.specs.Prelude.{◌≡◌, ◌≤◌, ◌<◌, length, IfOk, IfSome, MatchOption, option_map};
+ghost use Rattle.std.specs.Prelude.{◌≡◌, ◌≤◌, ◌<◌, length, IfOk, option_map};
 ghost use Rattle.std.specs.List.{prefix_len};
 ghost use Rattle.kt_claim.specs.Bytes.{is_word_byte};
-ghost use Rattle.kt_claim.specs.Inner.ResultReading.{value_of, number_in, reason_in, with_reason_in, with_number_in, numbered, claim_with, after_bracket, plainly, claim_after, claim_of_line, word_of, may_have_number};
+ghost use Rattle.kt_claim.specs.Inner.ResultReading.{number_in, reason_in, numbered, claim_with, after_bracket, plainly, claim_of_line, word_of, may_have_number};
 
 use crate::{Claim, ClaimFault};
 use kt_base::{NoMemory, Text, decimal_up_to, digits_length, lossy};

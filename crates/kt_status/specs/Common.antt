@@ -3,5 +3,5 @@ pub use Rattle.kt_base.specs.Phrases.{phrase_text}
 pub use Rattle.kt_base.specs.Reasons.{ending_text}
 pub use Rattle.kt_base.specs.Verdicts.{Judged, broken}
 pub use Rattle.kt_claim.specs.declared.evidence.Tap.TheVariants.{Counted}
-pub use Rattle.kt_status.specs.Inner.Verdicts.{atf_ended, atf_late, atf_verdict, cleaned, exits_with, expected_exit, expected_signal, plain_verdict, tap_exited, tap_verdict, verdict_after_cleanup, verdict_of, verdict_of_refusal}
+pub use Rattle.kt_status.specs.Inner.Verdicts.{atf_ended, atf_verdict, cleaned, expected_exit, expected_signal, plain_verdict, tap_exited, tap_verdict}
 pub use Rattle.kt_status.specs.Tables.{IsVerdict, IsVerdictAfter, IsVerdictOfRefusal, claim_fault_text, tap_fault_text}

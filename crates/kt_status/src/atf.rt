@@ -1,5 +1,5 @@
 ghost use Rattle.std.specs.Prelude.{◌≡◌, ◌++◌, codes, if◌then◌else◌};
-ghost use Rattle.kt_status.specs.Common.{ending_text, phrase_text, broken, claim_fault_text, exits_with, expected_exit, expected_signal, atf_ended, atf_late, atf_verdict};
+ghost use Rattle.kt_status.specs.Common.{ending_text, phrase_text, broken, claim_fault_text, expected_exit, expected_signal, atf_ended, atf_verdict};
 
 use kt_base::{Outcome, Phrase, Reason, Text, Verdict};
 use kt_claim::{Claim, ClaimFault};

@@ -1,5 +1,5 @@
 ghost use Rattle.std.specs.Prelude.{◌≡◌};
-ghost use Rattle.kt_status.specs.Common.{Judged, IsVerdictAfter, cleaned, verdict_after_cleanup};
+ghost use Rattle.kt_status.specs.Common.{Judged, IsVerdictAfter, cleaned};
 
 use crate::CleanupEnd;
 use kt_base::{Outcome, Phrase, Reason, Verdict};

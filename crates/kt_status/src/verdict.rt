@@ -1,5 +1,5 @@
 ghost use Rattle.std.specs.Prelude.{◌≡◌};
-ghost use Rattle.kt_status.specs.Common.{Judged, IsVerdict, IsVerdictOfRefusal, verdict_of, verdict_of_refusal, plain_verdict};
+ghost use Rattle.kt_status.specs.Common.{Judged, IsVerdict, IsVerdictOfRefusal, plain_verdict};
 
 use crate::atf::atf_verdict;
 use crate::tap::tap_verdict;

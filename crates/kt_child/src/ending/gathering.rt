@@ -1,5 +1,5 @@
-ghost use Rattle.std.specs.Prelude.{ℕ, List};
-ghost use Rattle.kt_child.specs.Common.{HasRead, HasStream, Chain, Call, Gathers, IsClaim, IsTap, ReadsClaim, ReadsTap, IsEvidence};
+ghost use Rattle.std.specs.Prelude.{List};
+ghost use Rattle.kt_child.specs.Common.{Chain, Call, Gathers, ReadsClaim, ReadsTap, IsEvidence};
 
 use crate::ending::ReadEnd;
 use crate::ending::parts::read_in_parts;

@@ -1,4 +1,4 @@
-ghost use Rattle.std.specs.Prelude.{◌≡◌, ℕ, ◌+◌, ◌<◌, List, [], Result, Some, length, Ok, IfNone, OnOk, OnErr};
+ghost use Rattle.std.specs.Prelude.{◌≡◌, ℕ, ◌+◌, ◌<◌, List, [], Result, Some, length, Ok, IfNone, OnOk};
 ghost use Rattle.kt_child.specs.Common.{FileRead, OsFault, Chain, Call, bytes_of, TakesBytes, IsEnd, Reads, end_of, next_part};
 
 use crate::ending::ReadEnd;

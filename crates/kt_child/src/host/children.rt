@@ -1,7 +1,7 @@
-ghost use Rattle.std.specs.Prelude.{◌≡◌, ◌↔◌, None, Some, Result, Ok, IsSome, IsTrue, IfNone, IfOk, IfSome, OnOk};
+ghost use Rattle.std.specs.Prelude.{◌≡◌, None, Some, Result, Ok, IsSome, IsTrue, IfNone, IfSome, OnOk};
 ghost use Rattle.std.specs.declared.io.Error.{Error};
 ghost use Rattle.std.specs.declared.time.Instant.{Instant as Time};
-ghost use Rattle.kt_child.specs.Common.{AllProceed, AllStay, OthersStay, Proceeds, RunsIn, Sees, stand_in, stand_of};
+ghost use Rattle.kt_child.specs.Common.{AllProceed, AllStay, OthersStay, Sees, stand_in, stand_of};
 
 use crate::host::command::Asked;
 use crate::host::host_child::HostChild;
@@ -11,7 +11,7 @@ use indexmap::IndexMap;
 use kt_base::NoMemory;
 use kt_removal::{Removals, rest};
 use std::fs::File;
-use std::process::{ExitStatus, OpenProcess, Processes};
+use std::process::{OpenProcess, Processes};
 use std::rt::{Clock, Files};
 use std::time::Instant;
 
@@ -94,28 +94,6 @@ pub(crate) fn is_any_late<P: OpenProcess + Drop, C: Clock>(children: &Children<P
         }
     }
     false
-}
-
-/// How a child ended, if it has. While some child is heard late, another may be reported as running without a look.
-pub(crate) fn poll<P: OpenProcess + Drop, C: Clock>(
-    children: &mut Children<P>,
-    child: Child,
-    late: bool,
-    clock: &C,
-) -> Result<Option<ExitStatus>, OsFault>
-    ensures proceeds { Proceeds (stand_in children.old.entries child)
-        (stand_in children.new.entries child) }
-    ensures ended { IfOk result (λ status. IsSome status
-        → stand_in children.new.entries child ≡ Some status) }
-    ensures running { result ≡ Ok None → RunsIn late (stand_in children.old.entries child)
-        × AllStay (stand_in children.old.entries) (stand_in children.new.entries) }
-    ensures others { OthersStay child (stand_in children.old.entries)
-        (stand_in children.new.entries) }
-{
-    match children.get_mut(&child) {
-        Some(held) => held.poll(late, clock),
-        None => Err(OsFault::Failed),
-    }
 }
 
 /// Kills a child.

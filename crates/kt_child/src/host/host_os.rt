@@ -178,7 +178,10 @@ impl<R: Processes + Files<File = File> + Clock + AllocGlobal + Clone + Drop> Os 
 
     fn poll(&mut self, child: Child) -> Result<Polled, OsFault> {
         let late = self.is_late();
-        match children::poll(&mut self.children, child, late, &self.rt) {
+        let Some(held) = self.children.get_mut(&child) else {
+            return Err(OsFault::Failed);
+        };
+        match held.poll(late, &self.rt) {
             Err(fault) => Err(fault),
             Ok(None) => Ok(Polled::Running),
             Ok(Some(status)) => {
