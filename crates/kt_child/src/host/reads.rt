@@ -81,8 +81,7 @@ pub(crate) fn open_regular<R: Files>(rt: &R, path: &str) -> io::Result<R::File> 
     }
 }
 
-/// Reads a file from the byte `from` on, if it could be opened. Only one read goes on from there, and it stops as `read_front`
-/// does.
+/// Reads a file from the byte `from` on, if it could be opened. One read goes on from there, and stops as `read_front`.
 pub(crate) fn read_opened<F: Read + Seek + Drop>(
     alloc: Global,
     opened: io::Result<F>,
