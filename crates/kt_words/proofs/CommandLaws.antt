@@ -1,5 +1,5 @@
 -- Each command line that `clap` takes names a command.
-use Rattle.std.proofs.Common.{◌≡◌, ◌∙◌, ℕ, Bool, true, false, cond, ◌||◌, ◌&&◌, List, [], ◌∷◌, Option, Some, None, refl, ap, ap₂, sym, is_some, Result, Ok, Err, bytes_eq, codes, find, option_map}
+use Rattle.std.proofs.Common.{rules, tests, arith, IfOk, IfSome, ◌≤◌, subst, ◌≡◌, ◌∙◌, ℕ, Bool, true, false, cond, ◌||◌, ◌&&◌, List, [], ◌∷◌, Option, Some, None, refl, ap, ap₂, sym, is_some, Result, Ok, Err, bytes_eq, codes, find, option_map}
 use Rattle.kt_words.proofs.Common.{list_all, App, IsParsedFrom, Row, Shape, Text, app_of, built, fault_of, first_of, is_simple, is_simple_and_free, matches_of, subcommand_of, subcommand_rows_of, out-Command, out-ArgMatches, argument_words, entered, label_of, names_of, rows_at, Kind, kyua_app, Reads, RefusesWords, command_in, report_with, junit_with, report_in, junit_in, options_in, results_in, kinds_of, run_of}
 use Rattle.std.specs.Option.{option_map_or}
 use Rattle.clap.specs.declared.builder.command.Command.{Command as Line}
@@ -8,6 +8,9 @@ use Rattle.clap.proofs.TakesLemmas.{some_rows}
 use Rattle.clap.specs.Walk.{answers_to, stop_after}
 use Rattle.clap.proofs.OnLiterals.{clap_on_literals}
 use Rattle.kt_words.specs.declared.command.Command.{Command}
+use Rattle.kt_words.specs.declared.options.CaseOptions.{CaseOptions}
+use Rattle.kt_words.specs.Commands.{HasRunNumber}
+use Rattle.kt_base.specs.Limits.{last_run}
 use Rattle.kt_words.specs.declared.command_fault.CommandFault.{CommandFault}
 use Rattle.kt_words.specs.Inner.Reading.{Answers}
 use Rattle.kt_words.specs.declared.command.Command.TheVariants as command
@@ -48,41 +51,56 @@ by_stop (Some p) = go (find (λ s. answers_to p.0 (label_of s)) (built kyua_app)
 
 -- ---- what is read of it
 
-report_no_usage : (before own : List Row) (kinds : Option (List Kind)) (run' : Option (Option ℕ)) (message : List ℕ)
-    → report_with before own kinds run' ≡ Err (fault.Usage message) → ⊥
-report_no_usage before own None run' message e = cc
-report_no_usage before own (Some kinds) None message e = cc
-report_no_usage before own (Some kinds) (Some run') message e = cc
+-- a command has its run's number in range, and only a line that enters none of the five is refused for its words
+abbrev Fits : Bool → Result Command CommandFault → Type 0
+Fits entered (Ok c) = HasRunNumber c
+Fits entered (Err (fault.Usage message)) = entered ≡ false
+Fits entered (Err other) = Unit {0}
 
-junit_no_usage : (before own : List Row) (run' : Option (Option ℕ)) (message : List ℕ) → junit_with before own run' ≡ Err (fault.Usage message) → ⊥
-junit_no_usage before own None message e = cc
-junit_no_usage before own (Some run') message e = cc
+run_in_range : (o : Option Text) → IfSome (run_of o) (λ run'. IfSome run' (λ n. (1 ≤ n) × (n ≤ last_run)))
+run_in_range None = tt
+run_in_range (Some word) = search (rules, tests, arith)
+
+report_fits : (before own : List Row) (kinds : Option (List Kind)) (run' : Option (Option ℕ)) → IfSome run' (λ o. IfSome o (λ n. (1 ≤ n) × (n ≤ last_run))) → Fits true (report_with before own kinds run')
+report_fits before own None run' range = tt
+report_fits before own (Some kinds) None range = tt
+report_fits before own (Some kinds) (Some run') range = range
+
+junit_fits : (before own : List Row) (run' : Option (Option ℕ)) → IfSome run' (λ o. IfSome o (λ n. (1 ≤ n) × (n ≤ last_run))) → Fits true (junit_with before own run')
+junit_fits before own None range = tt
+junit_fits before own (Some run') range = range
 
 -- by the tests of the name
-named_no_usage : (a b c d e : Bool) (list test debug : Command) (report junit : Result Command CommandFault) (other : CommandFault) (message : List ℕ)
-    → (report ≡ Err (fault.Usage message) → ⊥) → (junit ≡ Err (fault.Usage message) → ⊥) → (a || (b || (c || (d || e)))) ≡ true
-    → cond a (Ok list) (cond b (Ok test) (cond c (Ok debug) (cond d report (cond e junit (Err other))))) ≡ Err (fault.Usage message) → ⊥
-named_no_usage true b c d e list test debug report junit other message not_report not_junit one is = cc
-named_no_usage false true c d e list test debug report junit other message not_report not_junit one is = cc
-named_no_usage false false true d e list test debug report junit other message not_report not_junit one is = cc
-named_no_usage false false false true e list test debug report junit other message not_report not_junit one is = not_report is
-named_no_usage false false false false true list test debug report junit other message not_report not_junit one is = not_junit is
-named_no_usage false false false false false list test debug report junit other message not_report not_junit one is = cc
+named_fits : (a b c d e : Bool) (options : CaseOptions) (file : List ℕ) (report junit : Result Command CommandFault) → Fits true report → Fits true junit
+    → Fits (a || (b || (c || (d || e)))) (cond a (Ok (command.List options)) (cond b (Ok (command.Test options file)) (cond c (Ok (command.Debug options)) (cond d report (cond e junit (Err (fault.Usage [])))))))
+named_fits true b c d e options file report junit r j = tt
+named_fits false true c d e options file report junit r j = tt
+named_fits false false true d e options file report junit r j = tt
+named_fits false false false true e options file report junit r j = r
+named_fits false false false false true options file report junit r j = j
+named_fits false false false false false options file report junit r j = refl
 
-in_no_usage : (before : List Row) (o : Option (Text × List Row)) (message : List ℕ) → is_some o ≡ true → option_map_or (λ (p : Text × List Row). is_command p.0) o true ≡ true
-    → command_in before o ≡ Err (fault.Usage message) → ⊥
-in_no_usage before None message some one is = cc
-in_no_usage before (Some p) message some one is =
-    named_no_usage (bytes_eq p.0 (codes "list")) (bytes_eq p.0 (codes "test")) (bytes_eq p.0 (codes "debug")) (bytes_eq p.0 (codes "report")) (bytes_eq p.0 (codes "report-junit"))
-    (command.List (options_in before p.1)) (command.Test (options_in before p.1) (results_in p.1)) (command.Debug (options_in before p.1))
-    (report_in before p.1) (junit_in before p.1) (fault.Usage []) message
-    (report_no_usage before p.1 (kinds_of (first_of (codes "kinds") p.1)) (run_of (first_of (codes "run") p.1)) message)
-    (junit_no_usage before p.1 (run_of (first_of (codes "run") p.1)) message) one is
+in_fits : (before : List Row) (o : Option (Text × List Row)) → Fits (is_some o && option_map_or (λ (p : Text × List Row). is_command p.0) o true) (command_in before o)
+in_fits before None = refl
+in_fits before (Some p) =
+    named_fits (bytes_eq p.0 (codes "list")) (bytes_eq p.0 (codes "test")) (bytes_eq p.0 (codes "debug")) (bytes_eq p.0 (codes "report")) (bytes_eq p.0 (codes "report-junit"))
+    (options_in before p.1) (results_in p.1) (report_in before p.1) (junit_in before p.1)
+    (report_fits before p.1 (kinds_of (first_of (codes "kinds") p.1)) _ (run_in_range (first_of (codes "run") p.1))) (junit_fits before p.1 _ (run_in_range (first_of (codes "run") p.1)))
+
+both_true : (a b : Bool) → a ≡ true → b ≡ true → (a && b) ≡ false → ⊥
+both_true a b p q r = cc
 
 -- where a command is entered, it is one of the five
 pub no_usage : (before : List Row) (words : List Text) (message : List ℕ) → is_some (subcommand_of kyua_app words) ≡ true
     → command_in before (subcommand_of kyua_app words) ≡ Err (fault.Usage message) → ⊥
-no_usage before words message some is = in_no_usage before (subcommand_of kyua_app words) message some (by_stop (stop_after (built kyua_app).top.rules (names_of (built kyua_app)) (argument_words kyua_app words))) is
+no_usage before words message some is =
+    both_true (is_some (subcommand_of kyua_app words)) _ some (by_stop (stop_after (built kyua_app).top.rules (names_of (built kyua_app)) (argument_words kyua_app words)))
+    (subst (Fits _) is (in_fits before (subcommand_of kyua_app words)))
+
+-- the number of a run is in its range, by the words
+pub number_in_range : (words : List Text) (r : Result Command CommandFault) → Reads words r → IfOk r HasRunNumber
+number_in_range words (Err f) s = tt
+number_in_range words (Ok c) s = subst (Fits _) (sym s.1) (in_fits (matches_of kyua_app words) (subcommand_of kyua_app words))
 
 -- ---- the words
 

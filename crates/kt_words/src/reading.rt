@@ -1,5 +1,5 @@
-ghost use Rattle.std.specs.Prelude.{◌≡◌, ◌≤◌, drop, map, chars, codes, option_map, IfOk, IfErr, IfSome, IsErrAnd};
-ghost use Rattle.kt_words.specs.Common.{string_bytes, into_iter_items, all_of, first_of, found_of, rows_of, subcommand_rows_of, error_kind, OutOfMemory, last_run, HasRunNumber, Reads, RefusesWords, command_in, command_named, is_true, junit_in, kinds_of, options_in, report_in, report_options, results_in, run_of, text_given, text_or, texts_given, Answers, ReadsRun, ReadsKinds};
+ghost use Rattle.std.specs.Prelude.{◌≡◌, drop, map, chars, codes, option_map, IfOk, IfErr, IsErrAnd};
+ghost use Rattle.kt_words.specs.Common.{string_bytes, into_iter_items, all_of, first_of, found_of, rows_of, subcommand_rows_of, error_kind, OutOfMemory, HasRunNumber, Reads, RefusesWords, command_in, command_named, is_true, junit_in, kinds_of, options_in, report_in, report_options, results_in, run_of, text_given, text_or, texts_given, Answers, ReadsRun, ReadsKinds};
 
 use crate::arguments::{KYUAFILE, RESULTS, WORK, all_words};
 use crate::filter::{default_kinds, kinds_in};
@@ -88,8 +88,7 @@ fn texts_given<'a>(
 
 /// The run that is asked for, if one is.
 fn run_of<'a>(matches: &ArgMatches<'a>) -> Result<Option<u64>, CommandFault>
-    ensures value { ReadsRun (run_of (first_of (codes "run") (rows_of (found_of matches.now)))) result }
-    ensures range { IfOk result (λ run. IfSome run (λ n. (1 ≤ n) × (n ≤ last_run))) }
+    ensures { ReadsRun (run_of (first_of (codes "run") (rows_of (found_of matches.now)))) result }
 {
     let Some(word) = word_of(matches, "run") else {
         return Ok(None);
@@ -179,9 +178,8 @@ fn read_report<'a>(
     before: &ArgMatches<'a>,
     own: &ArgMatches<'a>,
 ) -> Result<Command, CommandFault>
-    ensures value { Answers (report_in (rows_of (found_of before.now)) (rows_of (found_of own.now)))
+    ensures { Answers (report_in (rows_of (found_of before.now)) (rows_of (found_of own.now)))
         result }
-    ensures range { IfOk result HasRunNumber }
 {
     let kinds = kinds_of(alloc, own)?;
     let run = run_of(own)?;
@@ -198,9 +196,8 @@ fn read_junit<'a>(
     before: &ArgMatches<'a>,
     own: &ArgMatches<'a>,
 ) -> Result<Command, CommandFault>
-    ensures value { Answers (junit_in (rows_of (found_of before.now)) (rows_of (found_of own.now)))
+    ensures { Answers (junit_in (rows_of (found_of before.now)) (rows_of (found_of own.now)))
         result }
-    ensures range { IfOk result HasRunNumber }
 {
     let run = run_of(own)?;
     let options = report_options(alloc, before, own, run)?;
@@ -214,9 +211,8 @@ fn read_named<'a>(
     name: &str,
     own: &ArgMatches<'a>,
 ) -> Result<Command, CommandFault>
-    ensures value { Answers (command_named (rows_of (found_of before.now)) name.now
+    ensures { Answers (command_named (rows_of (found_of before.now)) name.now
         (rows_of (found_of own.now))) result }
-    ensures range { IfOk result HasRunNumber }
 {
     if name == "list" {
         let options = case_options(alloc, before, own)?;
@@ -249,9 +245,8 @@ fn entered_in<'b, 'a>(matches: &'b ArgMatches<'a>) -> Option<(&'a str, &'b ArgMa
 }
 
 fn read_matches<'a>(alloc: Global, matches: &ArgMatches<'a>) -> Result<Command, CommandFault>
-    ensures value { Answers (command_in (rows_of (found_of matches.now))
+    ensures { Answers (command_in (rows_of (found_of matches.now))
         (subcommand_rows_of matches.now)) result }
-    ensures range { IfOk result HasRunNumber }
 {
     match entered_in(matches) {
         None => Err(CommandFault::Usage(Text::new(alloc))),
