@@ -1,4 +1,4 @@
-ghost use Rattle.std.specs.Prelude.{◌≡◌, ◌<◌, ◌≤◌, [], ◌∷◌, ◌++◌, ◌==◌, ◌&&◌, not, false, true, bytes_eq, length, IfOk, OnOk, MatchOption};
+ghost use Rattle.std.specs.Prelude.{◌≡◌, ◌≤◌, [], ◌∷◌, ◌++◌, ◌==◌, ◌&&◌, not, false, true, bytes_eq, length, IfOk, OnOk, MatchOption};
 ghost use Rattle.std.specs.List.{list_all};
 ghost use Rattle.kt_report.specs.Common.{prefix_len, chars, lossy, case_texts, with_outputs, escaped, escapes};
 
@@ -85,31 +85,20 @@ fn run_length(attribute: bool, text: &[u8]) -> usize
     length + short_run_length(attribute, rest)
 }
 
-/// Appends the bytes that stand in XML as they are and the character that follows them, and returns the rest.
-fn push_run<'a>(escaped: &mut Text, attribute: bool, text: &'a str) -> Result<&'a str, NoMemory>
-    ensures text { IfOk result (λ rest. escaped.new ++ escapes attribute (chars rest.now)
-        ≡ escaped.old ++ escapes attribute (chars text.now)) }
-    ensures shorter { 0 < length text.now → IfOk result (λ rest. length rest.now < length text.now) }
-{
-    let (run, after) = text.split_at(run_length(attribute, text.as_bytes()));
-    escaped.push_str(run)?;
-    let mut characters = after.chars();
-    match characters.next() {
-        None => Ok(""),
-        Some(c) => {
-            push_escaped(escaped, attribute, c)?;
-            Ok(characters.as_str())
-        }
-    }
-}
-
-/// Appends a text as XML has it, in an attribute or in content.
+/// Appends a text as XML has it, in an attribute or in content. Bytes that stand as they are go at once.
 fn push_escapes(escaped: &mut Text, attribute: bool, text: &str) -> Result<(), NoMemory>
     ensures { OnOk result (escaped.new ≡ escaped.old ++ escapes attribute (chars text.now)) }
 {
     let mut rest = text;
     while !rest.is_empty() {
-        rest = push_run(escaped, attribute, rest)?;
+        let (run, after) = rest.split_at(run_length(attribute, rest.as_bytes()));
+        escaped.push_str(run)?;
+        let mut characters = after.chars();
+        let Some(c) = characters.next() else {
+            return Ok(());
+        };
+        push_escaped(escaped, attribute, c)?;
+        rest = characters.as_str();
     }
     Ok(())
 }
