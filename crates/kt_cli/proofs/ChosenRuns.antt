@@ -18,7 +18,7 @@ at_number None runs r h e = at_place runs (length runs - 1) r h e
 at_number (Some zero) runs r h e = absurd (cc)
 at_number (Some (suc k)) runs r h e = at_place runs k r h e
 
--- the chosen head is that of the chosen run, which its number tells
+-- the chosen head is that of the chosen run, by its number
 run_found : (number : Option ℕ) (runs : List Run) (heads : List RunHead) (head : RunHead) → AreNumbered 1 runs → heads ≡ map head_of runs → chosen number heads ≡ Some head
     → (r : Run) × (chosen number runs ≡ Some r) × (head_of r ≡ head) × (run_at runs r.number ≡ Some r)
 run_found number runs heads head h e f =

@@ -61,16 +61,16 @@ pub use Rattle.kt_cli.specs.Inner.MemoryRuns.{FindsPlace, ServesInMemory, closin
 pub use Rattle.kt_cli.specs.Inner.Pages.{Says, SaysMore}
 pub use Rattle.kt_cli.specs.Inner.Recording.{Recorded, Recording, recording, sink_fault_of}
 pub use Rattle.kt_cli.specs.Inner.Recordings.{RecordEnds, RecordedAll, RecordedNone, RecordedSome, Records}
-pub use Rattle.kt_cli.specs.Inner.Reports.{DidReport, EndsEntries, JunitOrUnread, TextOrUnread, WritesCase, WritesEntries, WritesFirst, WritesJunit, WritesText}
+pub use Rattle.kt_cli.specs.Inner.Reports.{DidReport, EndsEntries, JunitOrUnread, TextOrUnread, WritesEntries, WritesFirst, WritesJunit, WritesText}
 pub use Rattle.kt_cli.specs.Inner.Stores.{put_all}
 pub use Rattle.kt_cli.specs.Inner.Testing.{RanPlan}
 pub use Rattle.kt_cli.specs.Machines.{InDirectory, MachineAnswer, Searched, directories, further, here, nowhere}
-pub use Rattle.kt_cli.specs.Meaning.{AsksFirst, Course, CutShort, Did, IsAskedOnly, IsPrepared, IsUnasked, Means, Seen, cut, debugged, idle, junit_cut, listed, listing, listing_exit, no_memory, preparing, report_cut, reported, reported_junit, selecting, stopped, taken, tested, text_cut}
+pub use Rattle.kt_cli.specs.Meaning.{AsksFirst, Course, CutShort, Did, IsAskedOnly, IsPrepared, IsUnasked, Means, Seen, cut, debugged, nothing_to_debug, junit_cut, listed, listing, listing_exit, no_memory, preparing, report_cut, reported, reported_junit, selecting, stopped, taken, tested, text_cut}
 pub use Rattle.kt_cli.specs.MemoryRuns.{LeavesInMemory, memory_runs}
 pub use Rattle.kt_cli.specs.Pages.{Printed}
-pub use Rattle.kt_cli.specs.Performing.{DoneBy, DoneIn, DoneOver, NoRoot, Program, State, alone, closed, done, no_driver, no_surroundings, no_world, none_made, not_absolute, not_opened, program, state}
+pub use Rattle.kt_cli.specs.Performing.{DoneBy, DoneIn, DoneOver, NoRoot, Program, State, needs_nothing, closed, done, no_driver, no_surroundings, no_world, none_made, not_absolute, not_opened, program, state}
 pub use Rattle.kt_cli.specs.Recordings.{AllRecorded, IsStopped}
-pub use Rattle.kt_cli.specs.Reports.{DifferInOutputs, DifferInPairs, JunitCut, Reported, ReportedJunit, TextCut, Unread, asked_outputs, asked_pairs, chosen, ending_of, next_bytes, no_outputs, no_pairs, no_run, run_of, told, told_pairs, no_output}
+pub use Rattle.kt_cli.specs.Reports.{DifferInOutputs, DifferInPairs, JunitCut, Reported, ReportedJunit, TextCut, Unread, asked_outputs, asked_pairs, chosen, ending_of, next_bytes, no_outputs, no_pairs, no_run, run_of, run_shown, pairs_shown, no_output}
 pub use Rattle.kt_cli.specs.Scenes.{Scene, World, launcher_of, scene, with_store, world_of}
 pub use Rattle.kt_cli.specs.SoundStores.{Left, with_new}
 pub use Rattle.kt_cli.specs.Stores.{Agree, Stored, beside, beside_by, by_position, changed, put_among, puts}

@@ -1,13 +1,13 @@
--- Cases are run and told one after the other.
+-- Cases are run and printed one after the other.
 use Rattle.std.proofs.Common.{Option, Result, Ok, Err, take, ◌≡◌, ℕ, Bool, List, [], ◌∷◌, length, refl, sym, ◌∙◌, subst}
 use Rattle.kt_cli.proofs.Common.{Entry, Job, SinkFault, Totals, RunFault, NoMemory, SinkFailed, Gains, AreEntries, EndsAs, Trace, Prints, DebugEnds, debug_bytes, all_debug_bytes, Says}
 use Rattle.kt_sched.specs.RecordOrder.{recorded as record_order}
 use Rattle.kt_cli.proofs.Gainings.{all_entries}
-use Rattle.kt_cli.proofs.Saying.{tells_both, tells_nothing}
+use Rattle.kt_cli.proofs.Saying.{says_both, says_nothing}
 
 module _ {S : Type 0} (gives : S → Entry → Result (Unit {0}) SinkFault → S → Type 0) (failed : S → Bool) (held : S → Option (List ℕ)) (name : S → ℕ)
     (each : (s t : S) (e : Entry) (r : Result (Unit {0}) SinkFault) → gives s e r t → (name t ≡ name s) × Prints (failed s) (held s) e r (failed t) (held t)) where
-  -- what was told of some entries, to the same writer
+  -- what was printed of some entries, to the same writer
   pub record Printed (es : List Entry) (s t : S) : Type 0 where
     pub same_out : name t ≡ name s
     pub says : Says (held s) (failed s) (held t) (failed t) (all_debug_bytes es)
@@ -18,12 +18,12 @@ module _ {S : Type 0} (gives : S → Entry → Result (Unit {0}) SinkFault → S
     pub ends : DebugEnds plan T es answer
 
   printed_all : (es : List Entry) (s t : S) → Gains gives es s t → Printed es s t
-  printed_all [] s t g = subst (λ (u : S). Printed [] s u) (sym g) (record { same_out = refl; says = tells_nothing (held s) (failed s) })
+  printed_all [] s t g = subst (λ (u : S). Printed [] s u) (sym g) (record { same_out = refl; says = says_nothing (held s) (failed s) })
   printed_all (e ∷ es) s t g =
       let m = g.0 in
       let p = each s m e (Ok tt) g.1 in
       let r = printed_all es m t g.2 in
-      record { same_out = r.same_out ∙ p.0; says = tells_both (held s) (held m) (held t) (failed s) (failed m) (failed t) (debug_bytes e) (all_debug_bytes es) p.1.1 r.says }
+      record { same_out = r.same_out ∙ p.0; says = says_both (held s) (held m) (held t) (failed s) (failed m) (failed t) (debug_bytes e) (all_debug_bytes es) p.1.1 r.says }
 
   -- what came of a plan that was run for `debug`
   pub debug_ends : (plan : List Job) (T : Trace) (es : List Entry) (answer : Result Totals RunFault) (s t : S) → AreEntries plan T (take (length es) (record_order plan 1 T)) es

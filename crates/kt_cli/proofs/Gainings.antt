@@ -1,9 +1,9 @@
--- Entries are recorded and told one after the other.
+-- Entries are recorded and printed one after the other.
 use Rattle.std.proofs.Common.{Option, Result, Ok, Err, count_by, take, ◌==◌, ◌≤◌, ◌≡◌, ℕ, Bool, List, [], ◌∷◌, ◌++◌, length, refl, sym, ap, ◌∙◌, subst, append-nil}
 use Rattle.std.proofs.Math.Seq.{take-length}
 use Rattle.kt_cli.proofs.Common.{Entry, line_bytes, Job, SinkFault, Totals, RunFault, NoMemory, SinkFailed, Gains, AreEntries, recorded, EndsAs, Trace, StoreCall, Put, Says, Recorded, Recording, RecordEnds, Stored, puts, lines}
 use Rattle.kt_store.specs.declared.result_store.Keeping as keeping
-use Rattle.kt_cli.proofs.Saying.{tells_both, tells_nothing}
+use Rattle.kt_cli.proofs.Saying.{says_both, says_nothing}
 use Rattle.kt_cli.proofs.StoreChains.{stored_none, stored_both, stored_as}
 
 -- all of the first entries are there
@@ -22,7 +22,7 @@ module _ {S R : Type 0} (keep : keeping.Ghosts R) (gives : S → Entry → Resul
 
   pub gains_all : (es : List Entry) (s t : S) → Gains gives es s t → Gained es [] s t
   gains_all [] s t g =
-      subst (λ (u : S). Gained [] [] s u) (sym g) (record { same_store = refl; same_out = refl; same_number = refl; stored = stored_none keep (state s).store; says = tells_nothing (state s).held (state s).failed })
+      subst (λ (u : S). Gained [] [] s u) (sym g) (record { same_store = refl; same_out = refl; same_number = refl; stored = stored_none keep (state s).store; says = says_nothing (state s).held (state s).failed })
   gains_all (e ∷ es) s t g =
       let m = g.0 in
       let p = each s m e (Ok tt) g.1 in
@@ -33,7 +33,7 @@ module _ {S R : Type 0} (keep : keeping.Ghosts R) (gives : S → Entry → Resul
         same_number = r.same_number ∙ p.2.0;
         stored = stored_both keep (Put (state s).number e (Ok tt) ∷ []) (puts (state s).number es ++ []) (state s).store (state m).store (state t).store p.2.1
             (subst (λ (i : ℕ). Stored keep (puts i es ++ []) (state m).store (state t).store) p.2.0 r.stored);
-        says = tells_both (state s).held (state m).held (state t).held (state s).failed (state m).failed (state t).failed (line_bytes e) (lines es) p.2.2 r.says;
+        says = says_both (state s).held (state m).held (state t).held (state s).failed (state m).failed (state t).failed (line_bytes e) (lines es) p.2.2 r.says;
       }
 
   -- what a recorder did over a whole plan
@@ -70,5 +70,5 @@ module _ {S R : Type 0} (keep : keeping.Ghosts R) (gives : S → Entry → Resul
           says = subst (λ (b : Bool). Says (state s).held (state s).failed (state t).held b (lines es)) (sym p.2.2)
               (subst (λ (o : Option (List ℕ)). Says (state s).held (state s).failed o (state f.mid).failed (lines es)) (sym p.2.3) g.says);
         };
-        ends = record { entry = f.refused; refusal = why; told = p.2.1.1; one = refl; stopped = record { due = f.next; next = f.is_next; refused_is = f.refused_is; are = a; once = o; stopped = e.stopped } };
+        ends = record { entry = f.refused; refusal = why; fault_is = p.2.1.1; one = refl; stopped = record { due = f.next; next = f.is_next; refused_is = f.refused_is; are = a; once = o; stopped = e.stopped } };
       }

@@ -1,12 +1,9 @@
 -- A JUnit report is written, an entry at a time.
-use Rattle.std.proofs.Common.{Option, Result, Ok, Err, Bool, true, false, get_or, drop, flat_map, ◌≡◌, ◌<◌, ◌≤◌, ◌+◌, ℕ, List, [], ◌∷◌, ◌++◌, length, map, refl, ap, ◌∙◌, sym, subst, append-nil, append_assoc, drop_of_length-le}
-use Rattle.kt_cli.proofs.Common.{Entry, Run, Shows, shows_as, shows_both, shows_more, heading, case_bytes, ending, without_outputs, Outputs, CaseOutputs, outputs_of, Refused, Report, WritesCase, WritesFirst, WritesJunit, ending_of, DifferInOutputs, asked_outputs, Stored}
-use Rattle.std.specs.Result.{IsErrAnd}
-use Rattle.kt_base.proofs.Lists.{error_is}
+use Rattle.std.proofs.Common.{Option, Ok, Err, Bool, true, false, get_or, drop, flat_map, ◌≡◌, ◌<◌, ◌≤◌, ◌+◌, ℕ, List, [], ◌∷◌, ◌++◌, length, map, refl, ap, ◌∙◌, sym, subst, append-nil, append_assoc, drop_of_length-le}
+use Rattle.kt_cli.proofs.Common.{Entry, Run, Shows, StoreFault, shows_as, shows_both, shows_more, heading, case_bytes, ending, without_outputs, Outputs, CaseOutputs, outputs_of, Refused, Report, WritesFirst, WritesJunit, ending_of, DifferInOutputs, asked_outputs, Stored}
 use Rattle.kt_report.specs.Cases.{with_outputs}
 use Rattle.kt_report.specs.declared.report_fault.ReportFault.{ReportFault}
 use Rattle.kt_report.proofs.Outlines.{same_heading}
-use Rattle.kt_cli.specs.declared.commands.report_stop.JunitStop.{JunitStop}
 use Rattle.kt_store.specs.declared.result_store.Keeping as keeping
 use Rattle.kt_cli.proofs.StoreChains.{stored_none, stored_both, stored_as}
 use Rattle.std.proofs.lemmas.List.{drop_more, flat_map_more, map-append}
@@ -27,10 +24,6 @@ one_more shown rest whole e o same =
     ap (λ es. map without_outputs es) (append_assoc shown (one e o ∷ []) rest)
     ∙ (map-append without_outputs shown (one e o ∷ rest) ∙ sym (map-append without_outputs shown (e ∷ rest))) ∙ same
 
-pub junit_error : {R : Type 0} (keep : keeping.Ghosts R) {store after : R} {was now : Option (List ℕ)} {run : Run} {answer : Result (Unit {0}) JunitStop} {stop : JunitStop}
-    → IsErrAnd answer (λ x. x ≡ stop) → WritesJunit keep store after was now run (Err stop) → WritesJunit keep store after was now run answer
-junit_error keep {store} {after} {was} {now} {run} {answer} {stop} is w = error_is (WritesJunit keep store after was now run) answer stop is w
-
 module _ {R : Type 0} (keep : keeping.Ghosts R) (run : Run) (store : R) (was : Option (List ℕ)) where
   -- ---- the heading
 
@@ -42,7 +35,7 @@ module _ {R : Type 0} (keep : keeping.Ghosts R) (run : Run) (store : R) (was : O
 
   -- ---- a case
 
-  module _ (mid after : R) (held now : Option (List ℕ)) (xs : List Entry) (same : xs ≡ run.entries) (i : ℕ) (e d : Entry) (low : i < length xs) (is : e ≡ get_or xs i d)
+  module _ (mid after : R) (held : Option (List ℕ)) (xs : List Entry) (same : xs ≡ run.entries) (i : ℕ) (e d : Entry) (low : i < length xs) (is : e ≡ get_or xs i d)
       (w : WritesFirst keep store mid was held run i) where
     -- the entry is the next one
     stands : DifferInOutputs (w.0 ++ e ∷ drop (i + 1) run.entries) run.entries
@@ -55,26 +48,20 @@ module _ {R : Type 0} (keep : keeping.Ghosts R) (run : Run) (store : R) (was : O
         stored_as keep _ _ store after (sym (map-append (λ (x : Entry). Outputs run.number x.position (Ok (outputs_of x))) w.0 (one e o ∷ [])))
         (stored_both keep (asked_outputs run.number w.0) (Outputs run.number e.position (Ok o) ∷ []) store mid after w.2 p)
 
-    bytes : (f : Bool) (o : CaseOutputs) → Shows held now f (case_bytes (one e o)) → Shows was now f (heading run ++ flat_map case_bytes (w.0 ++ one e o ∷ []))
+    bytes : {now : Option (List ℕ)} (f : Bool) (o : CaseOutputs) → Shows held now f (case_bytes (one e o)) → Shows was now f (heading run ++ flat_map case_bytes (w.0 ++ one e o ∷ []))
     bytes f o s = shows_as (flat_map_more case_bytes (heading run) w.0 (one e o)) (shows_both w.3 s)
 
-    pub writes_next : WritesCase keep mid after held now run.number e (Ok tt) → WritesFirst keep store after was now run (i + 1)
-    writes_next c = (w.0 ++ one e c.0 ∷ [], one_more w.0 (drop (i + 1) run.entries) run.entries e c.0 stands, stored c.0 c.1, bytes false c.0 c.2)
+    pub outputs_refused : (fault : StoreFault) → Stored keep (Outputs run.number e.position (Err fault) ∷ []) mid after → WritesJunit keep store after was held run (Err (Refused fault))
+    outputs_refused fault p = record { ends = (w.0, drop (i + 1) run.entries, e, stands, stored_both keep (asked_outputs run.number w.0) (Outputs run.number e.position (Err fault) ∷ []) store mid after w.2 p, w.3) }
 
-    pub case_stops : (stop : JunitStop) → WritesCase keep mid after held now run.number e (Err stop) → WritesJunit keep store after was now run (Err stop)
-    case_stops (Refused fault) c = record {
-      ends = (
-        w.0,
-        drop (i + 1) run.entries,
-        e,
-        stands,
-        stored_both keep (asked_outputs run.number w.0) (Outputs run.number e.position (Err fault) ∷ []) store mid after w.2 c.0,
-        subst (λ o. Shows was o false (heading run ++ flat_map case_bytes w.0)) (sym c.1) w.3,
-      );
-    }
-    case_stops (Report fault) c = record {
-      ends = (w.0 ++ one e c.0 ∷ [], drop (i + 1) run.entries, one_more w.0 (drop (i + 1) run.entries) run.entries e c.0 stands, stored c.0 c.1, shows_more (ending_of (drop (i + 1) run.entries)) (bytes true c.0 c.2));
-    }
+    module _ {now : Option (List ℕ)} (o : CaseOutputs) (p : Stored keep (Outputs run.number e.position (Ok o) ∷ []) mid after) where
+      pub case_cut : (fault : ReportFault) → Shows held now true (case_bytes (one e o)) → WritesJunit keep store after was now run (Err (Report fault))
+      case_cut fault s = record {
+        ends = (w.0 ++ one e o ∷ [], drop (i + 1) run.entries, one_more w.0 (drop (i + 1) run.entries) run.entries e o stands, stored o p, shows_more (ending_of (drop (i + 1) run.entries)) (bytes true o s));
+      }
+
+      pub writes_next : Shows held now false (case_bytes (one e o)) → WritesFirst keep store after was now run (i + 1)
+      writes_next s = (w.0 ++ one e o ∷ [], one_more w.0 (drop (i + 1) run.entries) run.entries e o stands, stored o p, bytes false o s)
 
   -- ---- the end
 

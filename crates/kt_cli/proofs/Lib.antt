@@ -3,13 +3,10 @@ pub mod ChosenRuns
 pub mod DebugRuns
 pub mod FaultWords
 pub mod Gainings
-pub mod JoinedPaths
 pub mod JunitSteps
-pub mod LineBytes
 pub mod MemoryLaws
 pub mod NewRuns
 pub mod Numbered
-pub mod Performances
 pub mod PlanRuns
 pub mod ProgramSearch
 pub mod Refusing

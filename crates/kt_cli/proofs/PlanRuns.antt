@@ -5,16 +5,16 @@ use Rattle.kt_cli.specs.Testing.{Tested, TestCut, ending, recorded as all_record
 use Rattle.kt_sched.specs.declared.launcher.Launcher as launcher
 use Rattle.kt_store.specs.declared.result_store.Keeping as keeping
 use Rattle.kt_store.specs.declared.store_fault.StoreFault.TheVariants as store
-use Rattle.kt_cli.proofs.Saying.{tells_both}
+use Rattle.kt_cli.proofs.Saying.{says_both}
 use Rattle.kt_cli.proofs.StoreChains.{stored_both, stored_as}
 
--- a refused put is told by the line of the store's own refusal
+-- a refused put is printed by the line of the store's own refusal
 put_refusal_line : (fault : StoreFault) → run_line (SinkFailed (sink_fault_of fault)) ≡ refusal_line fault
 put_refusal_line (store.NoMemory shortage) = refl
 put_refusal_line _ = refl
 
-refused_line : (told : SinkFault) (fault : StoreFault) → told ≡ sink_fault_of fault → run_line (SinkFailed told) ≡ refusal_line fault
-refused_line told fault is = ap (λ (f : SinkFault). run_line (SinkFailed f)) is ∙ put_refusal_line fault
+refused_line : (why : SinkFault) (fault : StoreFault) → why ≡ sink_fault_of fault → run_line (SinkFailed why) ≡ refusal_line fault
+refused_line why fault is = ap (λ (f : SinkFault). run_line (SinkFailed f)) is ∙ put_refusal_line fault
 
 module _ {L R : Type 0} (l : launcher.Ghosts L) (keep : keeping.Ghosts R) (planned : PlannedRun) (old : Scene L R) where
   -- no run was begun
@@ -51,7 +51,7 @@ module _ {L R : Type 0} (l : launcher.Ghosts L) (keep : keeping.Ghosts R) (plann
 
       -- bytes behind the lines of the entries
       after_lines : (bytes : List ℕ) → Says mid f now g bytes → Says old.held false now g (lines r.entries ++ bytes)
-      after_lines bytes s = tells_both old.held mid now false f g (lines r.entries) bytes r.says s
+      after_lines bytes s = says_both old.held mid now false f g (lines r.entries) bytes r.says s
 
       ends_as : (other : Result Totals RunFault) → answer ≡ other → RecordEnds planned.plan planned.width number r.trace r.entries r.last other
       ends_as other a = subst (λ (x : Result Totals RunFault). RecordEnds planned.plan planned.width number r.trace r.entries r.last x) a r.ends
@@ -69,7 +69,7 @@ module _ {L R : Type 0} (l : launcher.Ghosts L) (keep : keeping.Ghosts R) (plann
           ran after calls (lines r.entries ++ utf8 (refusal_line some.refusal)) 2
           (stored_as keep (puts number r.entries ++ r.last) calls begun after (ap (λ (cs : List StoreCall). puts number r.entries ++ cs) some.one) r.stored)
           (inr (not_put number r.entries some.entry some.refusal some.stopped))
-          (after_lines (utf8 (refusal_line some.refusal)) (subst (λ (xs : List ℕ). Says mid f now g (utf8 xs)) (refused_line why some.refusal some.told) s)) e
+          (after_lines (utf8 (refusal_line some.refusal)) (subst (λ (xs : List ℕ). Says mid f now g (utf8 xs)) (refused_line why some.refusal some.fault_is) s)) e
 
       module _ (last : R) (totals : Totals) (a : answer ≡ Ok totals) where
         every : RecordedAll planned.plan planned.width r.trace r.entries r.last totals

@@ -1,5 +1,5 @@
 -- A program is looked for in the directories of `PATH`.
-use Rattle.std.proofs.Common.{◌≡◌, ◌∙◌, ℕ, ◌==◌, ◌<◌, ◌≤◌, ◌+◌, Bool, true, false, List, [], ◌∷◌, length, ap, sym, subst, arith, drop, length-drop, IsUtf8, Some, suc}
+use Rattle.std.proofs.Common.{◌≡◌, ◌∙◌, ℕ, ◌==◌, ◌<◌, ◌+◌, Bool, true, false, List, [], ◌∷◌, length, ap, sym, subst, arith, drop, IsUtf8, Some}
 use Rattle.std.proofs.lemmas.List.Elements.{All-from_get_or}
 use Rattle.std.proofs.lemmas.List.Sums.{fails_before_first}
 use Rattle.std.proofs.lemmas.List.Splits.{slice_split_first, slice_split_none}
@@ -22,12 +22,6 @@ pub behind_text : (s behind : List ℕ) (i j : ℕ) → IsUtf8 s → FindsChar 5
 behind_text s behind i j u f b =
     let at = f.1 in
     subst IsUtf8 (sym b) (subst (λ (k : ℕ). IsUtf8 (drop k s)) (sym at.ends) (IsUtf8-drop s (i + len_utf8 58) u at.after))
-
--- and shorter
-pub shorter : (rest behind : List ℕ) → behind ≡ after_first colon rest → position_or_len colon rest < length rest → suc (length behind) ≤ length rest
-shorter rest behind b within =
-    let e : length behind ≡ length (drop (position_or_len colon rest + 1) rest) = ap length b in
-    omega (arith, e, length-drop (position_or_len colon rest + 1) rest, within)
 
 module _ {M : Type 0} (answers : M → MachineAnswer → M → Type 0) (name : List ℕ) where
   -- the search goes on behind a colon

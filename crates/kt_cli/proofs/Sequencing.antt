@@ -9,9 +9,6 @@ module _ {W R : Type 0} (w : World W) (keep : keeping.Ghosts R) where
   pub record GoesOn (commands rest : List Command) (old mid : Scene W R) (done : List Exit) : Type 0 where
     pub then_all : (new : Scene W R) (exits : List Exit) → DidAll w keep rest mid new exits → DidAll w keep commands old new (done ++ exits)
 
-  pub goes_first : (commands : List Command) (old : Scene W R) → GoesOn commands commands old old []
-  goes_first commands old = record { then_all = λ new exits d. d }
-
   pub goes_more : (commands later : List Command) (c : Command) (old mid next : Scene W R) (done : List Exit) (exit : Exit) → GoesOn commands (c ∷ later) old mid done
       → Did w keep c mid next exit.status → GoesOn commands later old next (done ++ exit ∷ [])
   goes_more commands later c old mid next done exit g d = record {

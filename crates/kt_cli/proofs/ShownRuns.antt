@@ -1,11 +1,11 @@
 -- A run is read and shown.
 use Rattle.std.proofs.Common.{Option, Some, None, Ok, Err, Bool, true, false, ◌⊎◌, if◌then◌else◌, flat_map, ◌≡◌, ℕ, List, [], ◌∷◌, ◌++◌, refl, ap, sym, subst, inl, inr}
-use Rattle.kt_cli.proofs.Common.{Shows, utf8, Entry, Kind, Run, shows_as, shows_both, heading, case_bytes, ending, junit_bytes, StoreCall, Heads, Outline, Outputs, Pairs, RunHead, StoreFault, Refused, Report, NoPairs, Output, memory_line, refusal_line, TextOrUnread, JunitOrUnread, DidReport, WritesJunit, WritesText, chosen, run_of, Reported, told, told_pairs, ReportedJunit, Unread, no_pairs, no_output, no_outputs, asked_outputs, ending_of, asked_pairs, next_bytes, IsDateOf, last_kind, opening, summary, text_bytes, titled_lines, Stored, Date}
+use Rattle.kt_cli.proofs.Common.{Shows, utf8, Entry, Kind, Run, shows_as, shows_both, heading, case_bytes, ending, junit_bytes, StoreCall, Heads, Outline, Outputs, Pairs, RunHead, StoreFault, Refused, Report, NoPairs, Output, memory_line, refusal_line, TextOrUnread, JunitOrUnread, DidReport, WritesJunit, WritesText, chosen, run_of, Reported, run_shown, pairs_shown, ReportedJunit, Unread, no_pairs, no_output, no_outputs, asked_outputs, ending_of, asked_pairs, next_bytes, IsDateOf, last_kind, opening, summary, text_bytes, titled_lines, Stored, Date}
 use Rattle.kt_report.specs.declared.report_fault.ReportFault.{ReportFault}
 use Rattle.kt_base.specs.declared.emission.OutputFault.{OutputFault}
 use Rattle.kt_cli.specs.declared.commands.report_stop.NotShown.{NotShown}
 use Rattle.kt_cli.specs.declared.commands.report_stop.NotShown.TheVariants.{Refused as Unshown}
-use Rattle.kt_cli.specs.Reports.{missing_line, told as told_junit, no_heads as unread_heads, no_outline as unread_outline, no_memory, no_output as no_junit_output}
+use Rattle.kt_cli.specs.Reports.{missing_line, run_shown as run_shown_junit, no_heads as unread_heads, no_outline as unread_outline, no_memory, no_output as no_junit_output}
 use Rattle.kt_cli.specs.Inner.Shown.{IsMissing, not_shown_line, FindsRun, read, missing, no_heads, no_outline, ReadsRun}
 use Rattle.kt_store.specs.declared.result_store.Keeping as keeping
 use Rattle.kt_cli.proofs.JunitSteps.{heading_shown}
@@ -45,13 +45,13 @@ module _ {R : Type 0} (keep : keeping.Ghosts R) (number : Option ℕ) where
   }
 
 module _ {R : Type 0} (keep : keeping.Ghosts R) (number : Option ℕ) where
-  not_told : (M C : List StoreCall → List ℕ → ℕ → Type 0) (calls : List StoreCall) (why : NotShown)
+  not_shown : (M C : List StoreCall → List ℕ → ℕ → Type 0) (calls : List StoreCall) (why : NotShown)
       → ((heads : List RunHead) → chosen number heads ≡ None → M (Heads (Ok heads) ∷ []) (utf8 (missing_line number heads)) 2)
       → ((cs : List StoreCall) (xs : List ℕ) → Unread number cs xs 2 → C cs xs 2) → FindsRun number calls (Err why)
       → M calls (utf8 (not_shown_line why)) 2 ⊎ C calls (utf8 (not_shown_line why)) 2
-  not_told M C calls why none unread (missing heads other e m) = inl (subst (λ (xs : List ℕ). M calls (utf8 xs) 2) m (none heads e))
-  not_told M C calls why none unread (no_heads fault) = inr (unread calls (utf8 (refusal_line fault)) (unread_heads fault))
-  not_told M C calls why none unread (no_outline heads head fault e) = inr (unread calls (utf8 (refusal_line fault)) (unread_outline heads head fault e))
+  not_shown M C calls why none unread (missing heads other e m) = inl (subst (λ (xs : List ℕ). M calls (utf8 xs) 2) m (none heads e))
+  not_shown M C calls why none unread (no_heads fault) = inr (unread calls (utf8 (refusal_line fault)) (unread_heads fault))
+  not_shown M C calls why none unread (no_outline heads head fault e) = inr (unread calls (utf8 (refusal_line fault)) (unread_outline heads head fault e))
 
   module _ (old new : R) (was now : Option (List ℕ)) (exit : ℕ) where
     -- what was read and what was printed of it
@@ -61,11 +61,11 @@ module _ {R : Type 0} (keep : keeping.Ghosts R) (number : Option ℕ) where
     did calls bytes due f p is s e = record { calls = calls; stored = p; bytes = bytes; due = due; printed = record { failed = f; shows = s; exits = e }; is = is }
 
     -- no run was found
-    pub did_not_tell : (M : List StoreCall → List ℕ → ℕ → Type 0) (C : Bool → List StoreCall → List ℕ → ℕ → Type 0) (why : NotShown) (f : Bool)
+    pub did_not_show : (M : List StoreCall → List ℕ → ℕ → Type 0) (C : Bool → List StoreCall → List ℕ → ℕ → Type 0) (why : NotShown) (f : Bool)
         → ((heads : List RunHead) → chosen number heads ≡ None → M (Heads (Ok heads) ∷ []) (utf8 (missing_line number heads)) 2)
         → ((cs : List StoreCall) (xs : List ℕ) → Unread number cs xs 2 → C f cs xs 2)
         → ReadsRun keep number old new (Err why) → Shows was now f (utf8 (not_shown_line why)) → exit ≡ (if f then 2 else 2) → DidReport keep old new was now exit M C
-    did_not_tell M C why f none unread r s e = did r.calls (utf8 (not_shown_line why)) 2 f r.stored (not_told M (C f) r.calls why none unread r.finds) s e
+    did_not_show M C why f none unread r s e = did r.calls (utf8 (not_shown_line why)) 2 f r.stored (not_shown M (C f) r.calls why none unread r.finds) s e
 
     -- a run was read, and then what it holds
     did_more : {M : List StoreCall → List ℕ → ℕ → Type 0} {C : Bool → List StoreCall → List ℕ → ℕ → Type 0} (mid : R) (calls asked : List StoreCall) (bytes : List ℕ) (due : ℕ) (f : Bool)
@@ -78,16 +78,16 @@ module _ {R : Type 0} (keep : keeping.Ghosts R) (number : Option ℕ) where
       Texts v = DidReport keep old new was now exit (Reported number kinds v) (TextOrUnread number kinds v)
 
       -- the text without pairs
-      pub did_tell : (calls : List StoreCall) (run : Run) (f : Bool) → verbose ≡ false → Stored keep calls old new → FindsRun number calls (Ok run)
+      pub did_show : (calls : List StoreCall) (run : Run) (f : Bool) → verbose ≡ false → Stored keep calls old new → FindsRun number calls (Ok run)
           → ((date : Date) × IsDateOf run.started date × Shows was now f (text_bytes date kinds false run)) → exit ≡ (if f then 2 else 0) → Texts verbose
-      did_tell calls run f off p (read heads head outline e) d x = subst Texts (sym off) (did calls (text_bytes d.0 kinds false run) 0 f p (inl (told heads head outline d.0 e d.1)) d.2 x)
+      did_show calls run f off p (read heads head outline e) d x = subst Texts (sym off) (did calls (text_bytes d.0 kinds false run) 0 f p (inl (run_shown heads head outline d.0 e d.1)) d.2 x)
 
       -- the text with pairs
-      pub did_tell_pairs : (mid : R) (calls : List StoreCall) (run : Run) → verbose ≡ true → Stored keep calls old mid → FindsRun number calls (Ok run)
+      pub did_show_pairs : (mid : R) (calls : List StoreCall) (run : Run) → verbose ≡ true → Stored keep calls old mid → FindsRun number calls (Ok run)
           → WritesText keep mid new was now kinds run (Ok tt) → exit ≡ 0 → Texts verbose
-      did_tell_pairs mid calls run on p (read heads head outline e) w x =
+      did_show_pairs mid calls run on p (read heads head outline e) w x =
           subst Texts (sym on)
-          (did_more mid calls (asked_pairs run.number w.ends.0) (titled_lines true None w.ends.0 ++ summary w.ends.1 run) 0 false p w.ends.4 (inl (told_pairs heads head outline w.ends.0 w.ends.1 e w.ends.2 w.ends.3)) w.ends.5 x)
+          (did_more mid calls (asked_pairs run.number w.ends.0) (titled_lines true None w.ends.0 ++ summary w.ends.1 run) 0 false p w.ends.4 (inl (pairs_shown heads head outline w.ends.0 w.ends.1 e w.ends.2 w.ends.3)) w.ends.5 x)
 
       -- the store refused pairs
       pub did_refuse_pairs : (mid : R) (calls : List StoreCall) (run : Run) (held : Option (List ℕ)) (f : Bool) (fault : StoreFault) → verbose ≡ true → Stored keep calls old mid
@@ -111,9 +111,9 @@ module _ {R : Type 0} (keep : keeping.Ghosts R) (number : Option ℕ) where
     Junit = DidReport keep old new was now exit (ReportedJunit number) (JunitOrUnread number)
 
     -- the whole report
-    pub did_tell_junit : (mid : R) (calls : List StoreCall) (run : Run) → Stored keep calls old mid → FindsRun number calls (Ok run) → WritesJunit keep mid new was now run (Ok tt) → exit ≡ 0 → Junit
-    did_tell_junit mid calls run p (read heads head outline e) w x =
-        did_more mid calls (asked_outputs run.number w.ends.0) (junit_bytes (record run { entries = w.ends.0 })) 0 false p w.ends.2 (inl (told_junit heads head outline w.ends.0 e w.ends.1))
+    pub did_show_junit : (mid : R) (calls : List StoreCall) (run : Run) → Stored keep calls old mid → FindsRun number calls (Ok run) → WritesJunit keep mid new was now run (Ok tt) → exit ≡ 0 → Junit
+    did_show_junit mid calls run p (read heads head outline e) w x =
+        did_more mid calls (asked_outputs run.number w.ends.0) (junit_bytes (record run { entries = w.ends.0 })) 0 false p w.ends.2 (inl (run_shown_junit heads head outline w.ends.0 e w.ends.1))
         (shows_as (ap (λ (xs : List ℕ). xs ++ flat_map case_bytes w.ends.0 ++ ending) (heading_shown run w.ends.0 w.ends.1)) w.ends.3) x
 
     -- the store refused outputs

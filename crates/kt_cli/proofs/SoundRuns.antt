@@ -1,8 +1,8 @@
 -- What a command does to the runs of a sound store.
 use Rattle.std.proofs.Common.{Option, Some, None, Ok, Err, Bool, true, false, map, ◌≡◌, ℕ, suc, List, [], ◌∷◌, ◌++◌, length, refl, sym, ap, ◌∙◌, subst, append-nil, ◌⊎◌, inl, inr}
-use Rattle.kt_cli.proofs.Common.{AllByRecursion, Entry, Run, Job, plan_fits, AreEntries, IsPlan, Trace, IsStoreFault, entry_at, AreNumbered, new_run, run_at, with_entry, put_refusal, finish_refusal, StoreCall, Began, Put, Finished, Heads, Outline, Outputs, Pairs, outputs_of, without_outputs, RunHead, StoreFault, Command, Kind, Seen, Means, stopped, listed, tested, debugged, idle, reported, reported_junit, CutShort, no_memory, cut, report_cut, text_cut, junit_cut, Did, Scene, World, AllRecorded, JunitOrUnread, Reported, told, told_pairs, no_run, ReportedJunit, Unread, TextCut, no_pairs, no_output, asked_outputs, asked_pairs, with_new, Left, put_all, Agrees, changed_by, puts, changed, Agree, PlannedRun, run_for, Tested, TestCut, not_begun, not_run, not_put, not_finished}
+use Rattle.kt_cli.proofs.Common.{AllByRecursion, Entry, Run, Job, plan_fits, AreEntries, IsPlan, Trace, IsStoreFault, entry_at, AreNumbered, new_run, run_at, with_entry, put_refusal, finish_refusal, StoreCall, Began, Put, Finished, Heads, Outline, Outputs, Pairs, outputs_of, without_outputs, RunHead, StoreFault, Command, Kind, Seen, Means, stopped, listed, tested, debugged, nothing_to_debug, reported, reported_junit, CutShort, no_memory, cut, report_cut, text_cut, junit_cut, Did, Scene, World, AllRecorded, JunitOrUnread, Reported, run_shown, pairs_shown, no_run, ReportedJunit, Unread, TextCut, no_pairs, no_output, asked_outputs, asked_pairs, with_new, Left, put_all, Agrees, changed_by, puts, changed, Agree, PlannedRun, run_for, Tested, TestCut, not_begun, not_run, not_put, not_finished}
 use Rattle.kt_sched.specs.RecordOrder.{recorded as record_order}
-use Rattle.kt_cli.specs.Reports.{told as told_junit, no_run as no_junit, no_heads as unread_heads, no_outline as unread_outline, no_outputs as cut_outputs, no_memory as cut_junit, no_output as no_junit_output}
+use Rattle.kt_cli.specs.Reports.{run_shown as run_shown_junit, no_run as no_junit, no_heads as unread_heads, no_outline as unread_outline, no_outputs as cut_outputs, no_memory as cut_junit, no_output as no_junit_output}
 use Rattle.kt_cli.specs.SoundStores.{Adds, none, one_run, OnlyFails, entries_put}
 use Rattle.kt_cli.specs.Testing.{recorded}
 use Rattle.kt_store.specs.declared.result_store.Keeping as keeping
@@ -138,8 +138,8 @@ module _ (number : Option ℕ) (runs : List Run) (h : AreNumbered 1 runs) where
   unread_coming calls bytes exit (unread_outline heads head why e) a = record { only_fails = (tt, (inl (entries_there number runs heads head why h a.0 e a.1.0), tt)); adds = none refl }
 
   reported_coming : (kinds : List Kind) (verbose : Bool) (calls : List StoreCall) (bytes : List ℕ) (exit : ℕ) → Reported number kinds verbose calls bytes exit → Coming runs calls
-  reported_coming kinds verbose calls bytes exit (told heads head outline date e d) = pairs_coming heads head outline []
-  reported_coming kinds verbose calls bytes exit (told_pairs heads head outline shown date e d same) = pairs_coming heads head outline shown
+  reported_coming kinds verbose calls bytes exit (run_shown heads head outline date e d) = pairs_coming heads head outline []
+  reported_coming kinds verbose calls bytes exit (pairs_shown heads head outline shown date e d same) = pairs_coming heads head outline shown
   reported_coming kinds verbose calls bytes exit (no_run v heads e) = record { only_fails = (tt, tt); adds = none refl }
 
   text_coming : (kinds : List Kind) (failed : Bool) (calls : List StoreCall) (bytes : List ℕ) (exit : ℕ) → TextCut number kinds failed calls bytes exit → Agree runs calls → Coming runs calls
@@ -150,7 +150,7 @@ module _ (number : Option ℕ) (runs : List Run) (h : AreNumbered 1 runs) where
       record { only_fails = (tt, (tt, pairs_done head.number shown end (inl (agree_later before end runs a.1.1).0, tt))); adds = none (changed-append before end runs ∙ pairs_change head.number shown runs) }
 
   junit_coming : (calls : List StoreCall) (bytes : List ℕ) (exit : ℕ) → ReportedJunit number calls bytes exit → Coming runs calls
-  junit_coming calls bytes exit (told_junit heads head outline shown e same) = outputs_coming heads head outline shown
+  junit_coming calls bytes exit (run_shown_junit heads head outline shown e same) = outputs_coming heads head outline shown
   junit_coming calls bytes exit (no_junit heads e) = record { only_fails = (tt, tt); adds = none refl }
 
   junit_or_unread : (f : Bool) (calls : List StoreCall) (bytes : List ℕ) (exit : ℕ) → JunitOrUnread number f calls bytes exit → Agree runs calls → Coming runs calls
@@ -176,7 +176,7 @@ module _ (seen : Seen) (runs : List Run) (h : AreNumbered 1 runs) (a : Agree run
   coming c failed bytes exit (inl (listed options picked s k)) = none_coming runs seen.calls k.calls
   coming c failed bytes exit (inl (tested options file picked moment bs x p t)) = tested_coming runs h (run_for seen.plan options picked moment) seen.trace seen.calls bytes exit t a
   coming c failed bytes exit (inl (debugged options picked first others entries e p all k)) = none_coming runs seen.calls k
-  coming c failed bytes exit (inl (idle options picked s e k)) = none_coming runs seen.calls k.calls
+  coming c failed bytes exit (inl (nothing_to_debug options picked s e k)) = none_coming runs seen.calls k.calls
   coming c failed bytes exit (inl (reported options kinds verbose bs x u r)) = reported_coming options.run runs h kinds verbose seen.calls bytes exit r
   coming c failed bytes exit (inl (reported_junit options bs x u r)) = junit_coming options.run runs h seen.calls bytes exit r
   coming c failed bytes exit (inr (no_memory d options e _ k)) = none_coming runs seen.calls k.calls

@@ -8,7 +8,7 @@ use Rattle.kt_words.specs.declared.options.CaseOptions.{CaseOptions}
 use Rattle.kt_plan.specs.declared.cases.Picked.{Picked}
 use Rattle.kt_plan.specs.declared.stop.Stop.{Stop}
 use Rattle.kt_plan.specs.Selecting.{Selects, SelectsOrShort}
-use Rattle.kt_cli.specs.Inner.Meaning.{HasSelected, asked_only, AsksOnly}
+use Rattle.kt_cli.specs.Inner.Meaning.{asked_only, AsksOnly}
 use Rattle.kt_plan.specs.Planning.{Surveys, SurveysFirst, ArePlanned}
 use Rattle.kt_plan.proofs.LookLaws.{all_surveyed}
 use Rattle.kt_cli.specs.StopLines.{stop_line, stop_exit}
@@ -16,7 +16,7 @@ use Rattle.kt_plan.specs.Told.{Told, Now}
 use Rattle.kt_plan.proofs.QuestionChains.{chain_of_host}
 use Rattle.kt_store.specs.declared.result_store.Keeping as keeping
 use Rattle.kt_words.specs.declared.command.Command.TheVariants as command
-use Rattle.kt_cli.proofs.Saying.{tells_both}
+use Rattle.kt_cli.proofs.Saying.{says_both}
 use Rattle.kt_cli.proofs.StoreChains.{stored_none, stored_as}
 
 -- bytes were printed, and the exit is the one that was due
@@ -24,16 +24,20 @@ pub printed_as : (was now : Option (List ℕ)) (f : Bool) (exit due : ℕ) (byte
 printed_as was now f exit due bytes own s k e = record { failed = f; shows = s; exits = e ∙ ap (λ (x : ℕ). if f then 2 else x) k }
 
 module _ {W : Type 0} (w : World W) where
+  -- these cases were selected for a command, by questions whose answers lead from one world to the other
+  abbrev HasSelected : Command → CaseOptions → W → Picked → W → Type 0
+  HasSelected c options old picked new = Answered (leads_by w.asks w.tells) old new (λ questions. SelectsOrShort (needs_case c) options questions (Ok picked))
+
   -- a world is idle as before, after a question to its host
-  pub idle_told : ((s t : W) (q : Told) → w.tells s q t → (k : ℕ) (role : Role) → w.running t k role ≡ w.running s k role) → ((s t : W) (q : Told) → w.tells s q t → (k : ℕ) → w.pending t k ≡ w.pending s k)
+  pub idle_after : ((s t : W) (q : Told) → w.tells s q t → (k : ℕ) (role : Role) → w.running t k role ≡ w.running s k role) → ((s t : W) (q : Told) → w.tells s q t → (k : ℕ) → w.pending t k ≡ w.pending s k)
       → (mid new : W) (m : Told) → w.tells mid m new → IsIdle (w.running mid) (w.pending mid) → IsIdle (w.running new) (w.pending new)
-  idle_told d e mid new m t j = record { runs = λ k role. d mid new m t k role ∙ j.runs k role; pends = λ k. e mid new m t k ∙ j.pends k }
+  idle_after d e mid new m t j = record { runs = λ k role. d mid new m t k role ∙ j.runs k role; pends = λ k. e mid new m t k ∙ j.pends k }
 
   -- nothing was started
-  told_only : (c : Command) (old new : W) (was now : Option (List ℕ)) (exit : ℕ) (questions : List Question) (bytes : List ℕ) (due : ℕ) → Chain (leads_by w.asks w.tells) old questions new
+  asks_only : (c : Command) (old new : W) (was now : Option (List ℕ)) (exit : ℕ) (questions : List Question) (bytes : List ℕ) (due : ℕ) → Chain (leads_by w.asks w.tells) old questions new
       → (q : Printed was now exit bytes due) → Means (asked_only questions) c bytes due ⊎ CutShort (asked_only questions) q.failed c bytes due
       → AsksOnly w c old new was now exit
-  told_only c old new was now exit questions bytes due p q m = record { seen = asked_only questions; course = record { begun = new; asked = p; ran = refl }; uncalled = refl; bytes = bytes; due = due; is = m; printed = q }
+  asks_only c old new was now exit questions bytes due p q m = record { seen = asked_only questions; course = record { begun = new; asked = p; ran = refl }; uncalled = refl; bytes = bytes; due = due; is = m; printed = q }
 
   only_asked : (questions : List Question) → IsAskedOnly (asked_only questions)
   only_asked questions = record { trace = refl; calls = refl }
@@ -43,7 +47,7 @@ module _ {W : Type 0} (w : World W) where
       → Answered (leads_by w.asks w.tells) old new (λ questions. SelectsOrShort (needs_case c) options questions (Err fault))
       → Printed was now exit (utf8 (stop_line fault)) (stop_exit fault) → AsksOnly w c old new was now exit
   stopped_only c options old new was now exit fault e a p =
-      told_only c old new was now exit a.asked (utf8 (stop_line fault)) (stop_exit fault) a.chain p (elim a.holds [
+      asks_only c old new was now exit a.asked (utf8 (stop_line fault)) (stop_exit fault) a.chain p (elim a.holds [
         | inl s ↦ inr (subst (λ (x : Stop). CutShort (asked_only a.asked) p.failed c (utf8 (stop_line x)) (stop_exit x)) (sym s.0.1) (no_memory c options e (selecting a.asked s.1) (only_asked a.asked)))
         | inr s ↦ inl (stopped c options fault e s (only_asked a.asked))
       ])
@@ -57,43 +61,43 @@ module _ {W : Type 0} (w : World W) where
       → ((questions : List Question) → Selects needed options questions (Ok picked) → IsAskedOnly (asked_only questions) → Means (asked_only questions) c bytes due)
       → Answered (leads_by w.asks w.tells) old new (λ questions. SelectsOrShort needed options questions (Ok picked)) → Printed was now exit bytes due → AsksOnly w c old new was now exit
   picked_only c needed options old new was now exit picked bytes due means a p =
-      told_only c old new was now exit a.asked bytes due a.chain p (inl (means a.asked (picked_is needed options a.asked picked a.holds) (only_asked a.asked)))
+      asks_only c old new was now exit a.asked bytes due a.chain p (inl (means a.asked (picked_is needed options a.asked picked a.holds) (only_asked a.asked)))
 
   -- the selection, and the first questions about its cases
-  prepared_first : (needed : Bool) (options : CaseOptions) (questions : List Question) (told : List Told) (picked : Picked) (cases : List Candidate) → SelectsOrShort needed options questions (Ok picked) → cases ≡ taken needed picked.chosen.cases
-      → SurveysFirst cases told → AsksFirst needed options (questions ++ of_host told)
-  prepared_first needed options questions told picked cases a same s =
-      preparing questions picked told (picked_is needed options questions picked a) (subst (λ (cs : List Candidate). SurveysFirst cs told) same s)
+  prepared_first : (needed : Bool) (options : CaseOptions) (questions : List Question) (answers : List Told) (picked : Picked) (cases : List Candidate) → SelectsOrShort needed options questions (Ok picked) → cases ≡ taken needed picked.chosen.cases
+      → SurveysFirst cases answers → AsksFirst needed options (questions ++ of_host answers)
+  prepared_first needed options questions answers picked cases a same s =
+      preparing questions picked answers (picked_is needed options questions picked a) (subst (λ (cs : List Candidate). SurveysFirst cs answers) same s)
 
   -- memory ran out before a plan was made
   pub short_only : (c : Command) (options : CaseOptions) (old mid new : W) (was now : Option (List ℕ)) (exit : ℕ) (picked : Picked) (cases : List Candidate) → cases_of c ≡ Some options
-      → HasSelected w c options old picked mid → cases ≡ taken (needs_case c) picked.chosen.cases → Answered w.tells mid new (λ told. SurveysFirst cases told)
+      → HasSelected c options old picked mid → cases ≡ taken (needs_case c) picked.chosen.cases → Answered w.tells mid new (λ answers. SurveysFirst cases answers)
       → Printed was now exit (utf8 memory_line) 2 → AsksOnly w c old new was now exit
   short_only c options old mid new was now exit picked cases e a same b p =
-      told_only c old new was now exit (a.asked ++ of_host b.asked) (utf8 memory_line) 2 (chain-append (leads_by w.asks w.tells) a.asked (of_host b.asked) old mid new a.chain (chain_of_host w.asks w.tells b.asked mid new b.chain)) p
+      asks_only c old new was now exit (a.asked ++ of_host b.asked) (utf8 memory_line) 2 (chain-append (leads_by w.asks w.tells) a.asked (of_host b.asked) old mid new a.chain (chain_of_host w.asks w.tells b.asked mid new b.chain)) p
       (inr (no_memory c options e (prepared_first (needs_case c) options a.asked b.asked picked cases a.holds same b.holds) (only_asked (a.asked ++ of_host b.asked))))
 
   -- what the host was asked for some cases, and their plan
   abbrev pub Prepares : Picked → List Candidate → List Job → List Told → Type 0
-  Prepares picked cases plan told = (host : Host) × Surveys cases told host × ArePlanned picked.settings.config host 0 cases plan
+  Prepares picked cases plan answers = (host : Host) × Surveys cases answers host × ArePlanned picked.settings.config host 0 cases plan
 
   -- the questions for cases, for what these require, and then some more
-  asks_all : (before : List Question) (told last : List Told) (old mid asked begun : W) → Chain (leads_by w.asks w.tells) old before mid
-      → Chain w.tells mid told asked → Chain w.tells asked last begun → Chain (leads_by w.asks w.tells) old (before ++ (of_host told ++ of_host last)) begun
-  asks_all before told last old mid asked begun p q r =
-      chain-append (leads_by w.asks w.tells) before (of_host told ++ of_host last) old mid begun p
-      (chain-append (leads_by w.asks w.tells) (of_host told) (of_host last) mid asked begun
-      (chain_of_host w.asks w.tells told mid asked q) (chain_of_host w.asks w.tells last asked begun r))
+  asks_all : (before : List Question) (answers last : List Told) (old mid asked begun : W) → Chain (leads_by w.asks w.tells) old before mid
+      → Chain w.tells mid answers asked → Chain w.tells asked last begun → Chain (leads_by w.asks w.tells) old (before ++ (of_host answers ++ of_host last)) begun
+  asks_all before answers last old mid asked begun p q r =
+      chain-append (leads_by w.asks w.tells) before (of_host answers ++ of_host last) old mid begun p
+      (chain-append (leads_by w.asks w.tells) (of_host answers) (of_host last) mid asked begun
+      (chain_of_host w.asks w.tells answers mid asked q) (chain_of_host w.asks w.tells last asked begun r))
 
-  prepared : (needed : Bool) (options : CaseOptions) (before : List Question) (told last : List Told) (picked : Picked) (cases : List Candidate)
-      (plan : List Job) (trace : Trace) (calls : List StoreCall) → SelectsOrShort needed options before (Ok picked) → Prepares picked cases plan told
-      → IsPrepared needed options (record { questions = before ++ (of_host told ++ of_host last); plan = plan; trace = trace; calls = calls }) picked cases last
-  prepared needed options before told last picked cases plan trace calls s p =
-      record { before = before; selects = picked_is needed options before picked s; told = told; host = p.0; surveys = p.1; asked = refl; planned = p.2 }
+  prepared : (needed : Bool) (options : CaseOptions) (before : List Question) (answers last : List Told) (picked : Picked) (cases : List Candidate)
+      (plan : List Job) (trace : Trace) (calls : List StoreCall) → SelectsOrShort needed options before (Ok picked) → Prepares picked cases plan answers
+      → IsPrepared needed options (record { questions = before ++ (of_host answers ++ of_host last); plan = plan; trace = trace; calls = calls }) picked cases last
+  prepared needed options before answers last picked cases plan trace calls s p =
+      record { before = before; selects = picked_is needed options before picked s; answers = answers; host = p.0; surveys = p.1; asked = refl; planned = p.2 }
 
   -- one case was run for `debug`
   pub debug_only : (options : CaseOptions) (old mid begun new : W) (was now : Option (List ℕ)) (exit : ℕ) (picked : Picked) (first : Candidate) (others cases some : List Candidate) (plan : List Job) (failed : Bool) (totals : Totals) (due : ℕ)
-      → HasSelected w (command.Debug options) options old picked mid → cases ≡ picked.chosen.cases → cases ≡ first ∷ others → some ≡ take 1 cases
+      → HasSelected (command.Debug options) options old picked mid → cases ≡ picked.chosen.cases → cases ≡ first ∷ others → some ≡ take 1 cases
       → Answered w.tells mid begun (Prepares picked some plan)
       → Debugged (launcher_of w) plan begun new was now failed (Ok totals) → due ≡ (if totals.bad == 0 then 0 else 1) → exit ≡ (if failed then 2 else due)
       → AsksOnly w (command.Debug options) old new was now exit
@@ -125,13 +129,13 @@ module _ {W : Type 0} (w : World W) where
         bytes = utf8 memory_line;
         due = 2;
         is = inr (no_memory (command.Debug options) options refl (prepared_first true options a.asked b.asked picked some a.holds same (all_surveyed some b.asked b.holds.0 b.holds.1)) (record { trace = q.0; calls = refl }));
-        printed = record { failed = g; shows = (tells_both was between now false f g [] (utf8 memory_line) (subst (λ (es : List Entry). Says was false between f (all_debug_bytes es)) q.1 d.says) s).more; exits = e };
+        printed = record { failed = g; shows = (says_both was between now false f g [] (utf8 memory_line) (subst (λ (es : List Entry). Says was false between f (all_debug_bytes es)) q.1 d.says) s).more; exits = e };
       }
 
   module _ {R : Type 0} (keep : keeping.Ghosts R) where
     -- a command that calls no store is a command
-    pub did_told : (c : Command) (old new : W) (store : R) (was now : Option (List ℕ)) (exit : ℕ) → AsksOnly w c old new was now exit → Did w keep c (scene old store was) (scene new store now) exit
-    did_told c old new store was now exit t = record {
+    pub did_asked : (c : Command) (old new : W) (store : R) (was now : Option (List ℕ)) (exit : ℕ) → AsksOnly w c old new was now exit → Did w keep c (scene old store was) (scene new store now) exit
+    did_asked c old new store was now exit t = record {
       seen = t.seen;
       course = t.course;
       stored = stored_as keep [] t.seen.calls store store (sym t.uncalled) (stored_none keep store);
@@ -143,7 +147,7 @@ module _ {W : Type 0} (w : World W) where
 
     -- a plan was run
     pub did_test : (old new : Scene W R) (options : CaseOptions) (file : List ℕ) (mid asked begun : W) (picked : Picked) (cases : List Candidate) (plan : List Job) (moment exit : ℕ)
-        → HasSelected w (command.Test options file) options old.world picked mid → cases ≡ picked.chosen.cases
+        → HasSelected (command.Test options file) options old.world picked mid → cases ≡ picked.chosen.cases
         → Answered w.tells mid asked (Prepares picked cases plan) → w.tells asked (Now moment) begun
         → RanPlan (launcher_of w) keep (run_for plan options picked moment) (scene begun old.store old.held) new exit → Did w keep (command.Test options file) old new exit
     did_test old new options file mid asked begun picked cases plan moment exit a same parts t r =

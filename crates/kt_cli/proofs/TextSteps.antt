@@ -1,7 +1,6 @@
 -- A text report with pairs is written, an entry at a time.
 use Rattle.std.proofs.Common.{Option, Some, None, Result, Ok, Err, Bool, true, false, flat_map, get_or, take, drop, ◌≡◌, ◌<◌, ◌≤◌, ◌+◌, ℕ, List, [], ◌∷◌, ◌++◌, length, map, refl, ap, ap₂, ◌∙◌, sym, subst, append_assoc, append-nil}
-use Rattle.kt_cli.proofs.Common.{Entry, Kind, Run, Shows, shows_as, shows_both, shows_more, shows_none, Pairs, StoreFault, without_pairs, titled_lines, last_kind, opening, by_section, summary, entry_bytes, with_meta, entries_of, same_kind, chosen_of, list_any, StoreCall, IsErrAnd, EndsEntries, WritesEntries, WritesText, NoPairs, Output, DifferInPairs, asked_pairs, next_bytes, IsDateOf, Date, Stored}
-use Rattle.kt_base.proofs.Lists.{error_is}
+use Rattle.kt_cli.proofs.Common.{Entry, Kind, Run, Shows, shows_as, shows_both, shows_more, shows_none, Pairs, StoreFault, without_pairs, titled_lines, last_kind, opening, by_section, summary, entry_bytes, with_meta, entries_of, same_kind, chosen_of, list_any, StoreCall, EndsEntries, WritesEntries, WritesText, NoPairs, Output, DifferInPairs, asked_pairs, next_bytes, IsDateOf, Date, Stored}
 use Rattle.kt_base.specs.declared.emission.OutputFault.{OutputFault}
 use Rattle.kt_base.specs.declared.variable.Variable.{Variable}
 use Rattle.kt_report.proofs.LineSteps.{if_of, if_of_all}
@@ -116,11 +115,6 @@ module _ {R : Type 0} (keep : keeping.Ghosts R) (number : ℕ) where
       → WritesEntries keep store after was now number before xs answer → WritesEntries keep store after was now number before ys answer
   entries_as {store} {after} {was} {now} {before} {answer = answer} same w = subst (λ (es : List Entry). WritesEntries keep store after was now number before es answer) same w
 
-  pub entries_error : {store after : R} {was now : Option (List ℕ)} {before : Option Kind} {due : List Entry} {answer : Result (Option Kind) TextStop} {stop : TextStop}
-      → IsErrAnd answer (λ x. x ≡ stop)
-      → WritesEntries keep store after was now number before due (Err stop) → WritesEntries keep store after was now number before due answer
-  entries_error {store} {after} {was} {now} {before} {due} {answer} {stop} is w = error_is (WritesEntries keep store after was now number before due) answer stop is w
-
   -- those of each item of a list in turn
   module _ {X : Type 0} (f : X → List Entry) (items : List X) (i : ℕ) where
     pub item_next : (d : X) {store mid after : R} {was held now : Option (List ℕ)} {before last : Option Kind} {answer : Result (Option Kind) TextStop} → i < length items
@@ -142,10 +136,6 @@ module _ {R : Type 0} (keep : keeping.Ghosts R) (number : ℕ) where
 -- ---- the whole report
 
 module _ {R : Type 0} (keep : keeping.Ghosts R) where
-  pub text_error : {store after : R} {was now : Option (List ℕ)} {kinds : List Kind} {run : Run} {answer : Result (Unit {0}) TextStop} {stop : TextStop} → IsErrAnd answer (λ x. x ≡ stop)
-      → WritesText keep store after was now kinds run (Err stop) → WritesText keep store after was now kinds run answer
-  text_error {store} {after} {was} {now} {kinds} {run} {answer} {stop} is w = error_is (WritesText keep store after was now kinds run) answer stop is w
-
   module _ {kinds : List Kind} {run : Run} (date : Date) (on : IsDateOf run.started date) where
     pub sections_cut : {store after : R} {was now : Option (List ℕ)} (stop : TextStop) → WritesEntries keep store after was now run.number None (by_section kinds run.entries) (Err stop)
         → WritesText keep store after was now kinds run (Err stop)

@@ -6,11 +6,11 @@ use Rattle.kt_cli.specs.Types.{DriverFault, Error, NoWorkDirectory, Surroundings
 use Rattle.kt_base.specs.declared.no_memory.NoMemory.{NoMemory as Shortage}
 use Rattle.kt_child.specs.declared.driving.driver.DriverFault.TheVariants.{NoMemory}
 
--- The working directory is the one that the system tells. If the system tells one, only memory may be lacking for it.
+-- The working directory is the one that the system returns. If it returns one, only memory may be lacking.
 abbrev pub IsHere : Result (List ℕ) Error → Result (List ℕ) DriverFault → Type 0
-IsHere (Ok told) (Ok here) = here ≡ chars told
-IsHere (Ok told) (Err (NoMemory refusal)) = ⊤
-IsHere (Ok told) (Err NoWorkDirectory) = ⊥
+IsHere (Ok answer) (Ok here) = here ≡ chars answer
+IsHere (Ok answer) (Err (NoMemory refusal)) = ⊤
+IsHere (Ok answer) (Err NoWorkDirectory) = ⊥
 IsHere (Err error) (Ok here) = ⊥
 IsHere (Err error) (Err fault) = ⊤
 
@@ -19,13 +19,13 @@ abbrev pub IsVariable : Result ℕ FillError → List ℕ → Result (Option (Li
 IsVariable (Ok count) room (Ok (Some value)) = value ≡ chars (take count room)
 IsVariable (Ok count) room (Ok None) = IsUtf8 (take count room) → ⊥
 IsVariable (Err error) room (Ok value) = value ≡ None
-IsVariable told room (Err refusal) = ⊤
+IsVariable answer room (Err refusal) = ⊤
 
--- the value of a variable that was told so
-abbrev pub IsTold : Option (List ℕ) → Type 0
-IsTold value = (told : Result ℕ FillError) × (room : List ℕ) × IsVariable told room (Ok value)
+-- the value of a variable, by the answer of the system
+abbrev pub IsAnswered : Option (List ℕ) → Type 0
+IsAnswered value = (answer : Result ℕ FillError) × (room : List ℕ) × IsVariable answer room (Ok value)
 
--- What is found around a process is what the system told, and no work directory is found only if it told none.
+-- What is found around a process is what the system returned, and no work directory is found only if it returned none.
 abbrev pub IsFound : Result Surroundings DriverFault → Type 0
-IsFound (Ok around) = ((told : Result (List ℕ) Error) × IsHere told (Ok around.here)) × IsTold around.path × IsTold around.user
-IsFound (Err fault) = (told : Result (List ℕ) Error) × IsHere told (Err fault)
+IsFound (Ok around) = ((answer : Result (List ℕ) Error) × IsHere answer (Ok around.here)) × IsAnswered around.path × IsAnswered around.user
+IsFound (Err fault) = (answer : Result (List ℕ) Error) × IsHere answer (Err fault)

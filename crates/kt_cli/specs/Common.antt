@@ -20,7 +20,7 @@ pub use Rattle.kt_store.specs.StoreCalls.{Began, Finished, Heads, Outline, Outpu
 pub use Rattle.kt_suite.specs.Selecting.{most_items}
 pub use Rattle.kt_words.specs.Commands.{cases_of}
 pub use Rattle.kt_words.specs.declared.command.Command.{Command}
-pub use Rattle.kt_cli.specs.Around.{IsFound, IsHere, IsTold, IsVariable}
+pub use Rattle.kt_cli.specs.Around.{IsFound, IsHere, IsAnswered, IsVariable}
 pub use Rattle.kt_cli.specs.CaseLines.{case_line}
 pub use Rattle.kt_cli.specs.Closings.{Concluded}
 pub use Rattle.kt_cli.specs.CommandLines.{IsSaid}
@@ -30,12 +30,12 @@ pub use Rattle.kt_cli.specs.HostAnswers.{HostStarts, HostWaits, IsHostAnswer, lo
 pub use Rattle.kt_cli.specs.Inner.Debugging.{Debugged, Prints}
 pub use Rattle.kt_cli.specs.Inner.FaultLines.{run_line}
 pub use Rattle.kt_cli.specs.Inner.HostFiles.{may_execute}
-pub use Rattle.kt_cli.specs.Inner.Meaning.{HasSelected, AsksOnly}
+pub use Rattle.kt_cli.specs.Inner.Meaning.{AsksOnly}
 pub use Rattle.kt_cli.specs.Inner.MemoryRuns.{FindsPlace, ServesInMemory, closing_refusal, entry_refusal, place_among}
 pub use Rattle.kt_cli.specs.Inner.Pages.{Says}
 pub use Rattle.kt_cli.specs.Inner.Recording.{Recorded, Took, recording, sink_fault_of}
 pub use Rattle.kt_cli.specs.Inner.Recordings.{Records}
-pub use Rattle.kt_cli.specs.Inner.Reports.{DidReport, JunitOrUnread, TextOrUnread, WritesCase, WritesEntries, WritesJunit, WritesText}
+pub use Rattle.kt_cli.specs.Inner.Reports.{DidReport, JunitOrUnread, TextOrUnread, WritesEntries, WritesJunit, WritesText}
 pub use Rattle.kt_cli.specs.Inner.Shown.{IsMissing, ReadsRun, not_shown_line}
 pub use Rattle.kt_cli.specs.Inner.Testing.{RanPlan}
 pub use Rattle.kt_cli.specs.LineOutputs.{HandedOn, given_bytes, has_failed, is_broken, line_state, unflushed, unwritten}

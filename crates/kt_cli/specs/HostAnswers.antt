@@ -43,7 +43,7 @@ module _ {M O : Type 0} (answers : M → MachineAnswer → M → Type 0) where
   IsLook old (Exists path answer) new =
       Asks old (AtPath answers (path_below old.directory path) (IsFile (path_below old.directory path) answer) (answer ≡ false)) new
 
-  -- a list moves the driver, and every other question asks the machine alone, or nobody: a configuration file and a required file are asked
+  -- a list moves the driver, and every other question asks only the machine, or nobody: a configuration file and a required file are asked
   -- for at their paths as they stand, a program as it is sought; memory and disk space are unknown
   abbrev pub IsHostAnswer : (O → Call → O → Type 0) → HostWorld M O → Told → HostWorld M O → Type 0
   IsHostAnswer leads old (ReadConfig path answer) new = Asks old (λ m n. answers m (FrontOf (utf8 path) answer) n) new × IsShort answer
@@ -86,7 +86,7 @@ module _ {M O : Type 0} where
   look_kept answers old new (Read path answer) h = asked_kept old new h.0.0
   look_kept answers old new (Exists path answer) h = asked_kept old new h.0
 
-  pub running_kept : (answers : M → MachineAnswer → M → Type 0) (leads : O → Call → O → Type 0) (old new : HostWorld M O) (told : Told) → IsHostAnswer answers leads old told new
+  pub running_kept : (answers : M → MachineAnswer → M → Type 0) (leads : O → Call → O → Type 0) (old new : HostWorld M O) (answer : Told) → IsHostAnswer answers leads old answer new
       → new.driver.running ≡ old.driver.running
   running_kept answers leads old new (ReadConfig path answer) h = asked_kept old new h.0.0
   running_kept answers leads old new (Lists program variables answer) h = h.0.1

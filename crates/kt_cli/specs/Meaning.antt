@@ -47,10 +47,10 @@ listing_exit chosen = if all_matched chosen.unmatched then 0 else 1
 pub record IsPrepared (needed : Bool) (options : CaseOptions) (seen : Seen) (picked : Picked) (cases : List Candidate) (last : List Told) : Type 0 where
   pub before : List Question
   pub selects : Selects needed options before (Ok picked)
-  pub told : List Told
+  pub answers : List Told
   pub host : Host
-  pub surveys : Surveys cases told host
-  pub asked : seen.questions ≡ before ++ (of_host told ++ of_host last)
+  pub surveys : Surveys cases answers host
+  pub asked : seen.questions ≡ before ++ (of_host answers ++ of_host last)
   pub planned : ArePlanned picked.settings.config host 0 cases seen.plan
 
 -- no case was started, and the store was not called; programs may have been asked for their lists
@@ -75,7 +75,7 @@ pub data Means (seen : Seen) : Command → List ℕ → ℕ → Type 0 where
   debugged : (options : CaseOptions) (picked : Picked) (first : Candidate) (others : List Candidate) (entries : List Entry) → picked.chosen.cases ≡ first ∷ others
       → IsPrepared true options seen picked (first ∷ []) [] → AllRecorded seen.plan 1 seen.trace entries → seen.calls ≡ []
       → Means seen (command.Debug options) (all_debug_bytes entries) (debug_exit entries)
-  idle : (options : CaseOptions) (picked : Picked) → Selects true options seen.questions (Ok picked) → picked.chosen.cases ≡ [] → IsAskedOnly seen
+  nothing_to_debug : (options : CaseOptions) (picked : Picked) → Selects true options seen.questions (Ok picked) → picked.chosen.cases ≡ [] → IsAskedOnly seen
       → Means seen (command.Debug options) (utf8 (warnings options.filters picked.chosen.unmatched)) 1
   reported : (options : ReportOptions) (kinds : List Kind) (verbose : Bool) (bytes : List ℕ) (exit : ℕ) → IsUnasked seen → Reported options.run kinds verbose seen.calls bytes exit
       → Means seen (command.Report options kinds verbose) bytes exit
@@ -90,8 +90,8 @@ taken true cases = take 1 cases
 -- the first questions of a command over test cases for which memory ran out: for its cases, and then for what they require
 pub data AsksFirst (needed : Bool) (options : CaseOptions) : List Question → Type 0 where
   selecting : (questions : List Question) → SelectsFirst needed options questions → AsksFirst needed options questions
-  preparing : (before : List Question) (picked : Picked) (told : List Told) → Selects needed options before (Ok picked)
-      → SurveysFirst (taken needed picked.chosen.cases) told → AsksFirst needed options (before ++ of_host told)
+  preparing : (before : List Question) (picked : Picked) (answers : List Told) → Selects needed options before (Ok picked)
+      → SurveysFirst (taken needed picked.chosen.cases) answers → AsksFirst needed options (before ++ of_host answers)
 
 -- how a command ends if memory or the store cuts it short, or a failed writer, after which a report asks the store for no more
 pub data CutShort (seen : Seen) (failed : Bool) : Command → List ℕ → ℕ → Type 0 where

@@ -85,20 +85,20 @@ module _ {M O R : Type 0} (m : machine.Ghosts M) (o : system.Ghosts O) (r : keep
     pub directory : old.directory ≡ directory_of options.kyuafile
     pub around_it : old.around ≡ around
     pub did : Did (host_world m o) r c (with_world old before) (with_world new after) exit
-    pub told : RunsFrom o.leads did.seen.plan did.seen.trace (board_of idle_state did.course.begun.driver.next) did.course.begun.driver new.driver
+    pub by_trace : RunsFrom o.leads did.seen.plan did.seen.trace (board_of idle_state did.course.begun.driver.next) did.course.begun.driver new.driver
     pub left : after.world.machine ≡ new.machine
     pub closed : (done : Bool) × o.leads new.driver.os (RemoveTree new.driver.root done) after.world.os
 
 -- a world that answers nothing
 abbrev pub no_world : World (Unit {0})
-no_world = record { running = λ w k role. None; pending = λ w k. false; starts = λ w job role answer v. ⊥; waits = λ w ended v. ⊥; asks = λ w asked v. ⊥; tells = λ w told v. ⊥ }
+no_world = record { running = λ w k role. None; pending = λ w k. false; starts = λ w job role answer v. ⊥; waits = λ w ended v. ⊥; asks = λ w asked v. ⊥; tells = λ w answer v. ⊥ }
 
 module _ {M O P S R : Type 0} (p : Program M O P S) (r : keeping.Ghosts R) where
   -- a command was executed over a store: a report by itself; a command over test cases with what was found around the process and a driver of
   -- its own, or, without one of these, a line says so and the store is as it was. Nothing else is asked of the machine
   -- and the system, and of the platform what is found around the process
   pub data DoneOver (c : Command) (old new : Scene (State M O P) R) (exit : ℕ) : Type 0 where
-    alone : cases_of c ≡ None → new.world ≡ old.world → Did no_world r c (with_world tt old) (with_world tt new) exit → DoneOver c old new exit
+    needs_nothing : cases_of c ≡ None → new.world ≡ old.world → Did no_world r c (with_world tt old) (with_world tt new) exit → DoneOver c old new exit
     done : (options : CaseOptions) (around : Surroundings) → cases_of c ≡ Some options → p.platform.provides old.world.platform (Found (Ok around)) new.world.platform
         → OnDriver p.machine p.system r (with_world old.world.outside old) (with_world new.world.outside new) around options c exit → DoneOver c old new exit
     no_surroundings : (options : CaseOptions) (fault : DriverFault) → cases_of c ≡ Some options → p.platform.provides old.world.platform (Found (Err fault)) new.world.platform
@@ -109,18 +109,18 @@ module _ {M O P S R : Type 0} (p : Program M O P S) (r : keeping.Ghosts R) where
 
 -- what was given to standard output was handed on, and the exit is the due one; or it is 2, if some of this stays unwritten or the flush of
 -- standard output failed
-pub record Flushed (told : Option (List ℕ)) (now : LineState) (due exit : ℕ) : Type 0 where
-  pub kept : Keeps told now.given
+pub record Flushed (held : Option (List ℕ)) (now : LineState) (due exit : ℕ) : Type 0 where
+  pub kept : Keeps held now.given
   pub failed : Bool
   pub ends : HandedOn now.failed now.unflushed now.unwritten failed
   pub exits : exit ≡ (if failed then failure_exit else due)
 
 -- memory ran out as the arguments were read: one line says so on standard output
 pub record PrintsShortage (was : Option (List ℕ)) (now : LineState) (exit : ℕ) : Type 0 where
-  pub told : Option (List ℕ)
+  pub held : Option (List ℕ)
   pub due : ℕ
-  pub refused : Refused was told due (utf8 memory_line) failure_exit
-  pub flushed : Flushed told now due exit
+  pub refused : Refused was held due (utf8 memory_line) failure_exit
+  pub flushed : Flushed held now due exit
 
 -- what was given to standard output, and what standard error holds
 pub record Streams : Type 0 where
@@ -132,7 +132,7 @@ abbrev pub Rejected : CommandFault → Streams → Streams → ℕ → Type 0
 Rejected (command.NoMemory shortage) was now exit = PrintsShortage was.out.given now.out exit × (now.errors ≡ was.errors)
 Rejected fault was now exit = Refused was.errors now.errors exit (utf8 (command_text fault)) wrong_words_exit × (now.out.given ≡ was.out.given)
 
--- what a command opens its results for: `test` adds a run to them, another command shows them alone
+-- what a command opens its results for: `test` adds a run to them, another command only shows them
 abbrev pub access_of : Command → Access
 access_of (Test options file) = Record
 access_of _ = Read

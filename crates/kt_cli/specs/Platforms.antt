@@ -15,7 +15,7 @@ pub data Provided (S : Type 0) : Type 0 where
   Found : (answer : Result Surroundings DriverFault) → Provided S
 
 -- the answers of a platform that keeps results in files, one of which held this image. Opened are the results that this file held; after a
--- close they are in the database file alone; a refusal comes from a failed statement or memory, or names an unknown schema
+-- close they are only in the database file; a refusal comes from a failed statement or memory, or names an unknown schema
 abbrev pub InFiles : {D : Type 0} {g : disk.Ghosts D} → List ℕ → Image → Provided (FileStore D g) → Type 0
 InFiles path image (Opened file access (Ok results)) = file ≡ path → Finds image results
 InFiles path image (Opened file access (Err fault)) = IsStoreFault fault ⊎ (fault ≡ UnknownSchema)

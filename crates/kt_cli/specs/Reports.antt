@@ -59,9 +59,9 @@ next_bytes before (e ∷ rest) end = opening before e.verdict.kind
 -- `report`: the text of the run whose head is the chosen one, on the date of its start; no outputs are asked for, and pairs only if they are
 -- shown, those of an entry before its line is written
 pub data Reported (number : Option ℕ) (kinds : List Kind) : Bool → List StoreCall → List ℕ → ℕ → Type 0 where
-  told : (heads : List RunHead) (head : RunHead) (outline : List Entry) (date : Date) → chosen number heads ≡ Some head → IsDateOf head.started date
+  run_shown : (heads : List RunHead) (head : RunHead) (outline : List Entry) (date : Date) → chosen number heads ≡ Some head → IsDateOf head.started date
       → Reported number kinds false (Heads (Ok heads) ∷ Outline head.number (Ok outline) ∷ []) (text_bytes date kinds false (run_of head outline)) 0
-  told_pairs : (heads : List RunHead) (head : RunHead) (outline shown : List Entry) (date : Date) → chosen number heads ≡ Some head
+  pairs_shown : (heads : List RunHead) (head : RunHead) (outline shown : List Entry) (date : Date) → chosen number heads ≡ Some head
       → IsDateOf head.started date
       → DifferInPairs shown (by_section kinds outline)
       → Reported number kinds true (Heads (Ok heads) ∷ Outline head.number (Ok outline) ∷ asked_pairs head.number shown) (titled_lines true None shown ++ summary date (run_of head outline)) 0
@@ -70,7 +70,7 @@ pub data Reported (number : Option ℕ) (kinds : List Kind) : Bool → List Stor
 
 -- `report-junit`: the JUnit report of that run, with the outputs of each entry; no pairs are asked for
 pub data ReportedJunit (number : Option ℕ) : List StoreCall → List ℕ → ℕ → Type 0 where
-  told : (heads : List RunHead) (head : RunHead) (outline shown : List Entry) → chosen number heads ≡ Some head → DifferInOutputs shown outline
+  run_shown : (heads : List RunHead) (head : RunHead) (outline shown : List Entry) → chosen number heads ≡ Some head → DifferInOutputs shown outline
       → ReportedJunit number (Heads (Ok heads) ∷ Outline head.number (Ok outline) ∷ asked_outputs head.number shown) (junit_bytes (run_of head shown)) 0
   no_run : (heads : List RunHead) → chosen number heads ≡ None → ReportedJunit number (Heads (Ok heads) ∷ []) (utf8 (missing_line number heads)) 2
 

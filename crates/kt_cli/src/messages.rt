@@ -25,6 +25,7 @@ fn write_fault<O: Write>(words: &str, out: &mut O) -> Result<(), OutputFault>
 }
 
 /// Writes that memory ran out. The refusal isn't printed: it is a parameter so that only a real one leads here.
+#[tactic(auto, unfolding(crate::proofs::Common::chars))]
 pub fn write_memory<O: Write>(_refusal: NoMemory, out: &mut O) -> Result<(), OutputFault>
     ensures { Shows (O.contents out.old) (O.contents out.new) (is_err result) (utf8 memory_line) }
 {

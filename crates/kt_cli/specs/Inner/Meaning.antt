@@ -1,9 +1,7 @@
 -- What a command means: by the answers of its world and of its store, the bytes and the exit.
-use Rattle.std.specs.Prelude.{ℕ, List, [], ◌≡◌, ◌⊎◌, Option, Ok}
-use Rattle.kt_suite.specs.Answers.{Answered}
-use Rattle.kt_cli.specs.Types.{CaseOptions, Command, NoEvent, Picked, Question, leads_by, needs_case}
+use Rattle.std.specs.Prelude.{ℕ, List, [], ◌≡◌, ◌⊎◌, Option}
+use Rattle.kt_cli.specs.Types.{Command, NoEvent, Question}
 use Rattle.kt_cli.specs.Pages.{Printed}
-use Rattle.kt_plan.specs.Selecting.{SelectsOrShort}
 use Rattle.kt_cli.specs.Meaning.{Course, CutShort, Means, Seen}
 use Rattle.kt_cli.specs.Scenes.{World}
 
@@ -12,10 +10,6 @@ abbrev pub asked_only : List Question → Seen
 asked_only questions = record { questions = questions; plan = []; trace = NoEvent; calls = [] }
 
 module _ {W : Type 0} (w : World W) where
-  -- these cases were selected for a command, by questions whose answers lead from one world to the other
-  abbrev pub HasSelected : Command → CaseOptions → W → Picked → W → Type 0
-  HasSelected c options old picked new = Answered (leads_by w.asks w.tells) old new (λ questions. SelectsOrShort (needs_case c) options questions (Ok picked))
-
   -- what a command did that calls no store: what it saw, its bytes and its exit
   pub record AsksOnly (c : Command) (old new : W) (was now : Option (List ℕ)) (exit : ℕ) : Type 0 where
     pub seen : Seen

@@ -28,7 +28,7 @@ module _ (plan : List Job) (n number : ℕ) (T : Trace) (entries : List Entry) (
   pub record RecordedSome (fault : SinkFault) : Type 0 where
     pub entry : Entry
     pub refusal : StoreFault
-    pub told : fault ≡ sink_fault_of refusal
+    pub fault_is : fault ≡ sink_fault_of refusal
     pub one : last ≡ Put number entry (Err refusal) ∷ []
     pub stopped : IsStopped plan n T entries entry
 

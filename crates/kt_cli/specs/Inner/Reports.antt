@@ -1,8 +1,6 @@
 -- Which run is shown, and what is shown of it.
 use Rattle.std.specs.Prelude.{ℕ, Bool, true, false, List, [], ◌∷◌, ◌++◌, ◌≡◌, ◌⊎◌, Option, None, Result, Ok, Err, drop, flat_map}
 use Rattle.kt_cli.specs.Types.{Date, Entry, IsDateOf, Kind, Outputs, Pairs, Run, Shows, StoreCall, by_section, case_bytes, ending, heading, last_kind, opening, summary, titled_lines}
-use Rattle.kt_report.specs.Cases.{with_outputs}
-use Rattle.kt_store.specs.declared.result_store.CaseOutputs.{CaseOutputs}
 use Rattle.kt_store.specs.declared.result_store.Keeping as keeping
 use Rattle.kt_cli.specs.Pages.{Printed}
 use Rattle.kt_cli.specs.Stores.{Stored}
@@ -61,14 +59,6 @@ module _ {R : Type 0} (r : keeping.Ghosts R) where
 
     pub record WritesText (kinds : List Kind) (run : Run) (answer : Result (Unit {0}) TextStop) : Type 0 where
       pub ends : EndsText kinds run answer
-
-    -- the outputs of an entry of the run of a number were asked for, and its case was written with them
-    abbrev pub WritesCase : ℕ → Entry → Result (Unit {0}) JunitStop → Type 0
-    WritesCase number e (Ok done) =
-        (o : CaseOutputs) × Stored r (Outputs number e.position (Ok o) ∷ []) store after × Shows was now false (case_bytes (with_outputs e o.body o.cleanup))
-    WritesCase number e (Err (Refused fault)) = Stored r (Outputs number e.position (Err fault) ∷ []) store after × (now ≡ was)
-    WritesCase number e (Err (Report fault)) =
-        (o : CaseOutputs) × Stored r (Outputs number e.position (Ok o) ∷ []) store after × Shows was now true (case_bytes (with_outputs e o.body o.cleanup))
 
     -- the heading of a run was written, and the cases of its first entries
     abbrev pub WritesFirst : Run → ℕ → Type 0

@@ -1,5 +1,5 @@
 ghost use Rattle.std.specs.Prelude.{◌≡◌, ◌==◌, if◌then◌else◌, is_err};
-ghost use Rattle.kt_cli.specs.Common.{IsIdle, IsPlan, Debugged, HasSelected, AsksOnly};
+ghost use Rattle.kt_cli.specs.Common.{IsIdle, IsPlan, Debugged, AsksOnly};
 ghost use Rattle.kt_words.specs.declared.command.Command.TheVariants as command;
 
 use crate::Exit;
@@ -7,7 +7,7 @@ use crate::commands::recorder::Printer;
 use crate::messages::{stopped, write_memory, write_run_fault, write_warnings};
 use crate::output::exit::{FAILED, ended};
 use kt_base::{Items, OutputFault};
-use kt_plan::{Picked, World, prepare, select_cases};
+use kt_plan::{World, prepare, select_cases};
 use kt_sched::{Job, Launcher, RunFault, Totals, run_cases};
 use kt_words::CaseOptions;
 use std::alloc::Global;
@@ -44,20 +44,22 @@ fn status_of_case(bad: u64) -> u8
     if bad == 0 { 0 } else { 1 }
 }
 
-/// Runs the first of the selected cases alone.
-fn debug_picked<W: World, O: Write>(
+/// The command `debug`: only the first selected case runs, and nothing is recorded.
+pub fn debug<W: World, O: Write>(
     alloc: Global,
     options: &CaseOptions,
-    picked: &Picked,
     world: &mut W,
     out: &mut O,
 ) -> Exit
     requires { IsIdle (W.running world.old) (W.pending world.old) }
-    ensures told { (start : _) → HasSelected W.World (command.Debug options.now) options.now start picked.now world.old
-        → AsksOnly W.World (command.Debug options.now) start world.new
+    ensures asked { AsksOnly W.World (command.Debug options.now) world.old world.new
         (O.contents out.old) (O.contents out.new) result.status }
     ensures idle { IsIdle (W.running world.new) (W.pending world.new) }
 {
+    let picked = match select_cases(alloc, true, options, world) {
+        Ok(picked) => picked,
+        Err(fault) => return stopped(fault, out),
+    };
     let cases = picked.chosen.cases.as_slice();
     let Some((_first, _others)) = cases.split_first() else {
         return ended(write_warnings(options, &picked.chosen, out), 1);
@@ -70,23 +72,5 @@ fn debug_picked<W: World, O: Write>(
     match answer {
         Ok(totals) => ended(written, status_of_case(totals.bad)),
         Err(fault) => ended(write_run_fault(written, fault, out), FAILED),
-    }
-}
-
-/// The command `debug`: the first selected case runs alone, and nothing is recorded.
-pub fn debug<W: World, O: Write>(
-    alloc: Global,
-    options: &CaseOptions,
-    world: &mut W,
-    out: &mut O,
-) -> Exit
-    requires { IsIdle (W.running world.old) (W.pending world.old) }
-    ensures told { AsksOnly W.World (command.Debug options.now) world.old world.new
-        (O.contents out.old) (O.contents out.new) result.status }
-    ensures idle { IsIdle (W.running world.new) (W.pending world.new) }
-{
-    match select_cases(alloc, true, options, world) {
-        Ok(picked) => debug_picked(alloc, options, &picked, world, out),
-        Err(fault) => stopped(fault, out),
     }
 }

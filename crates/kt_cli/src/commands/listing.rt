@@ -11,22 +11,14 @@ use kt_words::CaseOptions;
 use std::alloc::Global;
 use std::io::Write;
 
-/// Writes the line of a case.
-fn write_case<O: Write>(case: &Candidate, out: &mut O) -> Result<(), OutputFault>
-    ensures { Shows (O.contents out.old) (O.contents out.new) (is_err result)
-        (utf8 (case_line case.now)) }
-{
-    let name = case.case.name.as_bytes();
-    emit_all(&[case.path.as_bytes(), b":", name, b"\n"], out)
-}
-
 /// Writes the lines of cases.
 fn write_cases<O: Write>(cases: &[Candidate], out: &mut O) -> Result<(), OutputFault>
     ensures { Shows (O.contents out.old) (O.contents out.new) (is_err result)
         (utf8 (flat_map case_line cases.now)) }
 {
     for case in cases {
-        write_case(case, out)?;
+        let name = case.case.name.as_bytes();
+        emit_all(&[case.path.as_bytes(), b":", name, b"\n"], out)?;
     }
     Ok(())
 }
@@ -52,7 +44,7 @@ pub fn list<W: World, O: Write>(
     out: &mut O,
 ) -> Exit
     requires { IsIdle (W.running world.old) (W.pending world.old) }
-    ensures told { AsksOnly W.World (command.List options.now) world.old world.new
+    ensures asked { AsksOnly W.World (command.List options.now) world.old world.new
         (O.contents out.old) (O.contents out.new) result.status }
     ensures idle { IsIdle (W.running world.new) (W.pending world.new) }
 {

@@ -1,5 +1,5 @@
 ghost use Rattle.std.specs.Prelude.{◌≡◌, ◌∷◌, [], None, is_err};
-ghost use Rattle.kt_cli.specs.Common.{utf8, Shows, TextOrUnread, JunitOrUnread, DidReport, WritesCase, WritesEntries, WritesJunit, WritesText, by_section, chosen, chosen_of, Reported, ReportedJunit, IsMissing, ReadsRun, not_shown_line};
+ghost use Rattle.kt_cli.specs.Common.{utf8, Shows, TextOrUnread, JunitOrUnread, DidReport, WritesEntries, WritesJunit, WritesText, by_section, chosen, chosen_of, Reported, ReportedJunit, IsMissing, ReadsRun, not_shown_line};
 
 use crate::Exit;
 use crate::commands::report_stop::{JunitStop, NotShown, TextStop};
@@ -61,14 +61,6 @@ fn read_run<R: ResultStore>(number: Option<u64>, results: &mut R) -> Result<Run,
     }
 }
 
-fn write_no_run<O: Write>(number: u64, out: &mut O) -> Result<(), OutputFault>
-    ensures { Shows (O.contents out.old) (O.contents out.new) (is_err result)
-        (utf8 (not_shown_line (NotShown.NoRun number))) }
-{
-    let digits = Decimal::new(number);
-    emit_all(&[b"kyua: E: no run ", digits.as_bytes(), b"\n"], out)
-}
-
 /// Writes why no run is shown.
 fn write_not_shown<O: Write>(why: NotShown, out: &mut O) -> Result<(), OutputFault>
     ensures { Shows (O.contents out.old) (O.contents out.new) (is_err result)
@@ -76,7 +68,10 @@ fn write_not_shown<O: Write>(why: NotShown, out: &mut O) -> Result<(), OutputFau
 {
     match why {
         NotShown::NoRuns => emit(b"kyua: E: no runs\n", out),
-        NotShown::NoRun(number) => write_no_run(number, out),
+        NotShown::NoRun(number) => {
+            let digits = Decimal::new(number);
+            emit_all(&[b"kyua: E: no run ", digits.as_bytes(), b"\n"], out)
+        }
         NotShown::Refused(fault) => write_refusal(fault, out),
     }
 }
@@ -185,22 +180,6 @@ pub fn report<R: ResultStore, O: Write>(
     }
 }
 
-/// Writes the case of an entry, for whose outputs it asks.
-fn write_case<R: ResultStore, O: Write>(
-    alloc: Global,
-    run: u64,
-    entry: &Entry,
-    results: &mut R,
-    out: &mut O,
-) -> Result<(), JunitStop>
-    ensures { WritesCase R.Keeping results.old results.new (O.contents out.old)
-        (O.contents out.new) run entry.now result }
-{
-    let outputs = results.outputs(run, entry.position)?;
-    junit_case(alloc, entry, &outputs.body, &outputs.cleanup, out)?;
-    Ok(())
-}
-
 /// Writes the JUnit report of a run whose entries have no outputs. It never holds the outputs of
 /// more than one entry.
 fn write_junit<R: ResultStore, O: Write>(
@@ -214,7 +193,8 @@ fn write_junit<R: ResultStore, O: Write>(
 {
     junit_heading(run, out)?;
     for entry in run.entries.as_slice() {
-        write_case(alloc, run.number, entry, results, out)?;
+        let outputs = results.outputs(run.number, entry.position)?;
+        junit_case(alloc, entry, &outputs.body, &outputs.cleanup, out)?;
     }
     junit_end(out)?;
     Ok(())

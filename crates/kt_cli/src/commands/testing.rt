@@ -1,5 +1,5 @@
-ghost use Rattle.std.specs.Prelude.{◌≤◌, ℕ, List, length, is_err, false};
-ghost use Rattle.kt_cli.specs.Common.{Shows, utf8, IsIdle, IsMoment, IsPlan, IsWidth, most_items, Did, Says, Records, RanPlan, scene, HasSelected, ending, run_for, totals_text};
+ghost use Rattle.std.specs.Prelude.{◌≤◌, length, is_err, false};
+ghost use Rattle.kt_cli.specs.Common.{Shows, utf8, IsIdle, IsMoment, IsPlan, IsWidth, most_items, Did, Says, Records, RanPlan, scene, ending, run_for, totals_text};
 ghost use Rattle.kt_words.specs.declared.command.Command.TheVariants as command;
 
 use crate::Exit;
@@ -140,39 +140,6 @@ fn run_plan<L: Launcher, R: ResultStore, O: Write>(
     }
 }
 
-/// Prepares and runs the selected cases.
-fn test_picked<W: World, R: ResultStore, O: Write>(
-    alloc: Global,
-    options: &CaseOptions,
-    picked: &Picked,
-    world: &mut W,
-    results: &mut R,
-    out: &mut O,
-) -> Exit
-    requires idle { IsIdle (W.running world.old) (W.pending world.old) }
-    requires few { length picked.now.chosen.cases ≤ most_items }
-    ensures did { (file : List ℕ) (start : _) → HasSelected W.World
-        (command.Test options.now file) options.now start picked.now world.old
-        → Did W.World R.Keeping (command.Test options.now file)
-        (scene start results.old (O.contents out.old))
-        (scene world.new results.new (O.contents out.new)) result.status }
-    ensures idle { IsIdle (W.running world.new) (W.pending world.new) }
-{
-    let cases = picked.chosen.cases.as_slice();
-    let plan = match prepare(alloc, &picked.settings.config, cases, world) {
-        Ok(plan) => plan,
-        Err(refusal) => return ended(write_memory(refusal, out), FAILED),
-    };
-    let moment = world.now();
-    let planned = PlannedRun {
-        plan,
-        options,
-        picked,
-        moment,
-    };
-    run_plan(alloc, planned, world, results, out)
-}
-
 /// The command `test`. `file` is the name of the results, which stand open already.
 pub fn test<W: World, R: ResultStore, O: Write>(
     alloc: Global,
@@ -188,8 +155,21 @@ pub fn test<W: World, R: ResultStore, O: Write>(
         (scene world.new results.new (O.contents out.new)) result.status }
     ensures idle { IsIdle (W.running world.new) (W.pending world.new) }
 {
-    match select_cases(alloc, false, options, world) {
-        Ok(picked) => test_picked(alloc, options, &picked, world, results, out),
-        Err(fault) => stopped(fault, out),
-    }
+    let picked = match select_cases(alloc, false, options, world) {
+        Ok(picked) => picked,
+        Err(fault) => return stopped(fault, out),
+    };
+    let cases = picked.chosen.cases.as_slice();
+    let plan = match prepare(alloc, &picked.settings.config, cases, world) {
+        Ok(plan) => plan,
+        Err(refusal) => return ended(write_memory(refusal, out), FAILED),
+    };
+    let moment = world.now();
+    let planned = PlannedRun {
+        plan,
+        options,
+        picked: &picked,
+        moment,
+    };
+    run_plan(alloc, planned, world, results, out)
 }

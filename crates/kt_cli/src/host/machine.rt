@@ -14,7 +14,7 @@ pub trait Machine {
 
     /// The front of a regular file. One byte more than a script may have is enough.
     fn front(&mut self, path: &str) -> Result<Bytes, ReadFault>
-        ensures told { answers self.old (FrontOf path.now result) self.new }
+        ensures answered { answers self.old (FrontOf path.now result) self.new }
         ensures short { IfOk result (λ bytes. length bytes ≤ read_limit) };
 
     /// Whether there is a regular file.
@@ -31,6 +31,6 @@ pub trait Machine {
 
     /// The moment, in milliseconds since 1970 in UTC; 0 if the clock failed or is out of range.
     fn moment(&mut self) -> u64
-        ensures told { answers self.old (HasMoment result) self.new }
+        ensures answered { answers self.old (HasMoment result) self.new }
         ensures moment { IsMoment result };
 }

@@ -1,5 +1,5 @@
-ghost use Rattle.std.specs.Prelude.{◌≡◌, Some};
-ghost use Rattle.kt_cli.specs.Common.{access_of, cases_of, given_bytes, line_state, CarriedOut, DoneIn, DoneOver, Performed, program, scene, state, Rejected};
+ghost use Rattle.std.specs.Prelude.{◌≡◌};
+ghost use Rattle.kt_cli.specs.Common.{access_of, given_bytes, line_state, CarriedOut, DoneIn, DoneOver, Performed, program, scene, state, Rejected};
 
 use crate::commands::reporting::{report, report_junit};
 use crate::host::host_execution::execute_over_cases;
@@ -11,34 +11,11 @@ use crate::{
 use kt_base::Text;
 use kt_child::Os;
 use kt_store::{Access, ResultStore};
-use kt_words::{CaseOptions, Command, CommandFault};
+use kt_words::{Command, CommandFault};
 use std::io::Write;
 
-/// Executes a command over test cases, with what is found around the process.
-fn perform_over_cases<M: Machine + Drop, O: Os + Drop, P: Platform, S: ResultStore, W: Write>(
-    outside: Outside<M, O>,
-    platform: &mut P,
-    command: &Command,
-    options: &CaseOptions,
-    results: &mut S,
-    out: &mut W,
-) -> (Exit, Outside<M, O>)
-    requires { cases_of command.now ≡ Some options.now }
-    ensures { DoneOver (program M.Machine O.Os P.Platform P.Results.Keeping) S.Keeping command.now
-        (scene (state platform.old outside) results.old (W.contents out.old))
-        (scene (state platform.new result.1) results.new (W.contents out.new)) result.0.status }
-{
-    let around = match platform.surroundings() {
-        Ok(around) => around,
-        Err(fault) => return (print_driver_fault(fault, out), outside),
-    };
-    match execute_over_cases(outside, around, command, options, results, out) {
-        Ok(done) => done,
-        Err((fault, outside)) => (print_driver_fault(fault, out), outside),
-    }
-}
-
-/// Executes a command over a store of runs. A report needs nothing else.
+/// Executes a command over a store of runs. One over test cases gets what is found around the process; a report needs
+/// nothing else.
 fn perform_over<M: Machine + Drop, O: Os + Drop, P: Platform, S: ResultStore, W: Write>(
     outside: Outside<M, O>,
     platform: &mut P,
@@ -52,7 +29,14 @@ fn perform_over<M: Machine + Drop, O: Os + Drop, P: Platform, S: ResultStore, W:
 {
     match command {
         Command::List(options) | Command::Debug(options) | Command::Test { options, .. } => {
-            perform_over_cases(outside, platform, command, options, results, out)
+            let around = match platform.surroundings() {
+                Ok(around) => around,
+                Err(fault) => return (print_driver_fault(fault, out), outside),
+            };
+            match execute_over_cases(outside, around, command, options, results, out) {
+                Ok(done) => done,
+                Err((fault, outside)) => (print_driver_fault(fault, out), outside),
+            }
         }
         Command::Report {
             options,

@@ -15,11 +15,11 @@ pub trait Platform {
     /// Whether an answer leads from the first state to the second.
     ghost provides: { Self → Provided Self.Results → Self → Type 0 };
 
-    /// Opens the results in a file, to add a run to them or to show them alone.
+    /// Opens the results in a file, to add a run to them or only to show them.
     fn open(&mut self, file: &Text, access: Access) -> Result<Self::Results, StoreFault>
         ensures { provides self.old (Opened file.now access result) self.new };
 
-    /// Closes the results in a file. Afterwards the file alone has them all; after an error they
+    /// Closes the results in a file. Afterwards only that file has them; after an error they
     /// stand in it and in its log.
     fn close(&mut self, results: Self::Results) -> Result<(), StoreFault>
         ensures { provides self.old (Closed results result) self.new };

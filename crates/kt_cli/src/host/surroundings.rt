@@ -2,7 +2,7 @@ ghost use Rattle.std.specs.Prelude.{◌≡◌, ◌≤◌, ℕ, Result, IfOk, len
 ghost use Rattle.std.specs.Path.{path_buf_bytes};
 ghost use Rattle.std.specs.Result.{result_map_both};
 ghost use Rattle.std.specs.declared.env.FillError.{FillError as FillFault};
-ghost use Rattle.kt_cli.specs.Around.{IsFound, IsHere, IsTold, IsVariable};
+ghost use Rattle.kt_cli.specs.Around.{IsFound, IsHere, IsAnswered, IsVariable};
 ghost use Rattle.kt_cli.specs.Inner.HostAnswers.{longest_variable};
 
 use kt_base::{NoMemory, Text};
@@ -30,13 +30,13 @@ pub struct Surroundings {
 /// The value of a variable, from the answer of the system and the buffer that it filled.
 fn value_of(
     alloc: Global,
-    told: Result<usize, FillError>,
+    answer: Result<usize, FillError>,
     room: &[u8],
 ) -> Result<Option<Text>, NoMemory>
-    requires { IfOk told (λ count. count ≤ length room.now) }
-    ensures { IsVariable told room.now result }
+    requires { IfOk answer (λ count. count ≤ length room.now) }
+    ensures { IsVariable answer room.now result }
 {
-    let Ok(count) = told else {
+    let Ok(count) = answer else {
         return Ok(None);
     };
     match str::from_utf8(&room[..count]) {
@@ -53,17 +53,17 @@ fn variable<R: Env + AllocGlobal>(
 ) -> Result<Option<Text>, NoMemory>
     requires { length room.old ≡ longest_variable }
     ensures room { length room.new ≡ length room.old }
-    ensures value { (told : Result ℕ FillFault) × IsVariable told room.new result }
+    ensures value { (answer : Result ℕ FillFault) × IsVariable answer room.new result }
 {
-    let told = rt.var(name, room);
-    value_of(rt.alloc(), told, room)
+    let answer = rt.var(name, room);
+    value_of(rt.alloc(), answer, room)
 }
 
 /// The absolute working directory, from the answer of the system.
-fn here_of(alloc: Global, told: io::Result<PathBuf>) -> Result<Text, DriverFault>
-    ensures { IsHere (result_map_both path_buf_bytes (λ error. error) told) result }
+fn here_of(alloc: Global, answer: io::Result<PathBuf>) -> Result<Text, DriverFault>
+    ensures { IsHere (result_map_both path_buf_bytes (λ error. error) answer) result }
 {
-    match told {
+    match answer {
         Ok(here) => Text::from_str(alloc, here.as_str()).map_err(DriverFault::NoMemory),
         Err(error) => match NoMemory::in_error(&error) {
             Some(refusal) => Err(DriverFault::NoMemory(refusal)),
@@ -78,8 +78,8 @@ impl Surroundings {
     /// Takes the variables from the environment. One that isn't UTF-8 counts as not set.
     pub fn new<R: Env + AllocGlobal>(rt: &R, here: Text) -> Result<Surroundings, NoMemory>
         ensures here { IfOk result (λ around. around.here ≡ here) }
-        ensures path { IfOk result (λ around. IsTold around.path) }
-        ensures user { IfOk result (λ around. IsTold around.user) }
+        ensures path { IfOk result (λ around. IsAnswered around.path) }
+        ensures user { IfOk result (λ around. IsAnswered around.user) }
     {
         let mut room = vec![in rt.alloc(); 0u8; LONGEST_VARIABLE]?;
         let path = variable(rt, "PATH", &mut room)?;
@@ -99,6 +99,7 @@ impl Surroundings {
     }
 
     /// Whether root runs the command.
+    #[tactic(auto, unfolding(crate::proofs::Common::chars))]
     pub fn is_root(&self) -> bool
         ensures { result ≡ is_root self.now.user }
     {

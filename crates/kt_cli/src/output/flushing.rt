@@ -8,7 +8,7 @@ pub struct FlushFault {
     flush: FailedFlush,
 }
 
-/// A type of this module alone, so that no other can write a `FlushFault`.
+/// A type of this module only, so that no other can write a `FlushFault`.
 #[derive(Clone, Copy)]
 struct FailedFlush;
 

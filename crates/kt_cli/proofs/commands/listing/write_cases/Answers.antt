@@ -1,15 +1,31 @@
-use Rattle.std.proofs.Common.{ap}
-use Rattle.kt_cli.proofs.Common.{shows_as, shows_error, utf8, Candidate, shows_cut_off, shows_whole, case_line}
+use Rattle.std.proofs.Common.{◌≡◌, ◌++◌, codes, ap, sym, ◌∙◌}
+use Rattle.kt_base.proofs.Showing.{utf8_four}
+use Rattle.kt_report.proofs.InTurn.{shows_next}
+use Rattle.kt_cli.proofs.Common.{encode, shows_as, shows_error, utf8, Candidate, shows_cut_off, shows_whole, case_line}
 use Rattle.kt_cli.proofs.Utf8Sums.{utf8_flat_map}
 use Rattle.kt_cli.proofs.commands.listing.write_cases.Goals as goal
 
-pub returns-in_err-write_case : goal.returns-in_err-write_case
-returns-in_err-write_case g c =
-    let cut = shows_as (ap (λ (k : Candidate). utf8 (case_line k)) c.case-item.is) c.in_err-write_case.ensures in
-    let whole = shows_cut_off (λ (k : Candidate). utf8 (case_line k)) c.args.cases.now c.loop-case.case-index _ c.loop-case-test.true c.loop-case.invariant cut in
-    shows_error _ _ c.from_residual.ensures.1 (shows_as (utf8_flat_map case_line c.args.cases.now) whole)
+-- the line of a case
+line_is : (k : Candidate) → utf8 k.path ++ codes ":" ++ utf8 k.case.name ++ codes "\n" ≡ utf8 (case_line k)
+unfolding encode
+line_is k = sym (utf8_four k.path (codes ":") k.case.name (codes "\n"))
+
+pub returns-in_err-emit_all : goal.returns-in_err-emit_all
+returns-in_err-emit_all g c =
+    let line = shows_as (line_is c.case-item.result ∙ ap (λ (k : Candidate). utf8 (case_line k)) c.case-item.is)
+    (rw (c.as_bytes.ensures, c.as_bytes-name.ensures) at c.in_err-emit_all.ensures) in
+    let cut = shows_cut_off (λ (k : Candidate). utf8 (case_line k)) c.args.cases.now c.loop-case.case-index _ c.loop-case-test.true
+    c.loop-case.invariant line in
+    shows_error _ _ c.from_residual.ensures.1 (shows_as (utf8_flat_map case_line c.args.cases.now) cut)
+
+pub loop-case-preserved : goal.loop-case-preserved
+loop-case-preserved g c =
+    let line = shows_as (line_is c.case-item.result ∙ ap (λ (k : Candidate). utf8 (case_line k)) c.case-item.is)
+    (rw (c.as_bytes.ensures, c.as_bytes-name.ensures) at c.in_ok-emit_all.ensures) in
+    shows_next (λ (k : Candidate). utf8 (case_line k)) c.args.cases.now c.loop-case.case-index _ c.loop-case-test.true c.loop-case.invariant line
 
 pub returns : goal.returns
 returns g c =
-    let whole = shows_whole (λ (k : Candidate). utf8 (case_line k)) c.args.cases.now c.loop-case.case-index c.loop-case-test.false c.loop-case.invariant in
+    let whole = shows_whole (λ (k : Candidate). utf8 (case_line k)) c.args.cases.now c.loop-case.case-index c.loop-case-test.false
+    c.loop-case.invariant in
     shows_as (utf8_flat_map case_line c.args.cases.now) whole

@@ -1,24 +1,24 @@
 use Rattle.std.proofs.Common.{rules, ◌≡◌, true, false, inl, refl}
 use Rattle.kt_cli.proofs.Common.{Reported, TextOrUnread, no_run}
-use Rattle.kt_cli.proofs.ShownRuns.{did_tell, did_not_tell, did_tell_pairs, did_refuse_pairs, did_stop_pairs}
+use Rattle.kt_cli.proofs.ShownRuns.{did_show, did_not_show, did_show_pairs, did_refuse_pairs, did_stop_pairs}
 use Rattle.kt_cli.proofs.commands.reporting.report.Goals as goal
 
 pub returns-in-Err : goal.returns-in-Err
 returns-in-Err g c =
-    did_not_tell g.R.Keeping c.args.number _ _ _ _ _ (Reported c.args.number c.args.kinds.now c.args.verbose)
+    did_not_show g.R.Keeping c.args.number _ _ _ _ _ (Reported c.args.number c.args.kinds.now c.args.verbose)
     (TextOrUnread c.args.number c.args.kinds.now c.args.verbose) c.in-Err.why _ (no_run c.args.verbose) (λ calls bytes u. inl u)
     c.in-Err.ensures c.write_not_shown.ensures c.ended.ensures
 
 pub returns-then-not-verbose : goal.returns-then-not-verbose
 returns-then-not-verbose g c =
     let off : c.args.verbose ≡ false = search rules in
-    did_tell g.R.Keeping c.args.number _ _ _ _ _ c.args.kinds.now c.args.verbose _ c.in-Ok.run' _ off c.in-Ok.ensures.stored c.in-Ok.ensures.finds
+    did_show g.R.Keeping c.args.number _ _ _ _ _ c.args.kinds.now c.args.verbose _ c.in-Ok.run' _ off c.in-Ok.ensures.stored c.in-Ok.ensures.finds
     c.text.ensures c.ended-then-not-verbose.ensures
 
 pub returns-in-Ok-write_text : goal.returns-in-Ok-write_text
 returns-in-Ok-write_text g c =
     let on : c.args.verbose ≡ true = search rules in
-    did_tell_pairs g.R.Keeping c.args.number _ _ _ _ _ c.args.kinds.now c.args.verbose _ _ c.in-Ok.run' on c.in-Ok.ensures.stored c.in-Ok.ensures.finds
+    did_show_pairs g.R.Keeping c.args.number _ _ _ _ _ c.args.kinds.now c.args.verbose _ _ c.in-Ok.run' on c.in-Ok.ensures.stored c.in-Ok.ensures.finds
     c.in-Ok-write_text.ensures refl
 
 pub returns-in-Err-NoPairs : goal.returns-in-Err-NoPairs

@@ -1,17 +1,17 @@
 use Rattle.std.proofs.Common.{inl, refl}
 use Rattle.kt_cli.proofs.Common.{JunitOrUnread, ReportedJunit}
 use Rattle.kt_cli.specs.Reports.{no_run}
-use Rattle.kt_cli.proofs.ShownRuns.{did_tell_junit, did_not_tell, did_refuse, did_cut, did_stop}
+use Rattle.kt_cli.proofs.ShownRuns.{did_show_junit, did_not_show, did_refuse, did_cut, did_stop}
 use Rattle.kt_cli.proofs.commands.reporting.report_junit.Goals as goal
 
 pub returns-in-Err : goal.returns-in-Err
 returns-in-Err g c =
-    did_not_tell g.R.Keeping c.args.number _ _ _ _ _ (ReportedJunit c.args.number) (JunitOrUnread c.args.number) c.in-Err.why _ no_run
+    did_not_show g.R.Keeping c.args.number _ _ _ _ _ (ReportedJunit c.args.number) (JunitOrUnread c.args.number) c.in-Err.why _ no_run
     (λ calls bytes u. inl u) c.in-Err.ensures c.write_not_shown.ensures c.ended.ensures
 
 pub returns-in-Ok-write_junit : goal.returns-in-Ok-write_junit
 returns-in-Ok-write_junit g c =
-    did_tell_junit g.R.Keeping c.args.number _ _ _ _ _ _ _ c.in-Ok.run' c.in-Ok.ensures.stored c.in-Ok.ensures.finds c.in-Ok-write_junit.ensures refl
+    did_show_junit g.R.Keeping c.args.number _ _ _ _ _ _ _ c.in-Ok.run' c.in-Ok.ensures.stored c.in-Ok.ensures.finds c.in-Ok-write_junit.ensures refl
 
 pub returns-in-Err-Refused : goal.returns-in-Err-Refused
 returns-in-Err-Refused g c =

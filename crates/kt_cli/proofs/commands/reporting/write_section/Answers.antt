@@ -1,7 +1,8 @@
 use Rattle.std.proofs.Common.{rules, ◌≡◌, true, ap, sym, ◌∙◌}
-use Rattle.kt_cli.proofs.Common.{same_kind}
+use Rattle.kt_base.proofs.Lists.{error_is}
+use Rattle.kt_cli.proofs.Common.{WritesEntries, same_kind}
 use Rattle.kt_report.proofs.LineSteps.{if_of, if_of_is, if_of_not}
-use Rattle.kt_cli.proofs.TextSteps.{single, all_chosen, entries_none, entries_as, entries_error, item_next, item_cut, items_all}
+use Rattle.kt_cli.proofs.TextSteps.{single, all_chosen, entries_none, entries_as, item_next, item_cut, items_all}
 use Rattle.kt_cli.proofs.commands.reporting.write_section.Goals.{then-same_kind+in_ok-last, else-same_kind}
 use Rattle.kt_cli.proofs.commands.reporting.write_section.Goals as goal
 
@@ -12,7 +13,7 @@ returns-in_err-last g c =
     let items = c.as_slice-entry-items in
     let chosen : c.is_chosen.result ≡ true = search rules in
     let one = if_of_is single kind c.entry-item.result _ c.entry-item.is (ap (same_kind kind) (sym c.kind.ensures) ∙ sym c.if-same_kind.ensures) in
-    entries_error g.R.Keeping number c.from_residual.ensures.1
+    error_is (WritesEntries g.R.Keeping _ _ _ _ number _ _) _ _ c.from_residual.ensures.1
     (entries_as g.R.Keeping number (all_chosen c.args.kinds.now kind items.result.now c.args.run.now.entries _ items.ensures c.is_chosen.ensures chosen)
     (item_cut g.R.Keeping number (if_of single kind) items.result.now c.loop-entry.entry-index _ c.loop-entry-test.true c.loop-entry.invariant
     (entries_as g.R.Keeping number one c.in_err-last.ensures)))

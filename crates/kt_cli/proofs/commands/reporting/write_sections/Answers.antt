@@ -1,6 +1,7 @@
 use Rattle.std.proofs.Common.{ap, flat_map}
-use Rattle.kt_cli.proofs.Common.{chosen_of}
-use Rattle.kt_cli.proofs.TextSteps.{entries_as, entries_error, item_next, item_cut, items_all}
+use Rattle.kt_base.proofs.Lists.{error_is}
+use Rattle.kt_cli.proofs.Common.{WritesEntries, chosen_of}
+use Rattle.kt_cli.proofs.TextSteps.{entries_as, item_next, item_cut, items_all}
 use Rattle.kt_cli.proofs.commands.reporting.write_sections.Goals as goal
 
 pub returns-in_err-last : goal.returns-in_err-last
@@ -8,7 +9,7 @@ returns-in_err-last g c =
     let number = c.args.run.now.number in
     let due = chosen_of c.args.kinds.now c.args.run.now.entries in
     let items = c.text_order-kind-items in
-    entries_error g.R.Keeping number c.from_residual.ensures.1 (entries_as g.R.Keeping number (ap (flat_map due) items.ensures)
+    error_is (WritesEntries g.R.Keeping _ _ _ _ number _ _) _ _ c.from_residual.ensures.1 (entries_as g.R.Keeping number (ap (flat_map due) items.ensures)
     (item_cut g.R.Keeping number due items.result.now c.loop-kind.kind-index _ c.loop-kind-test.true c.loop-kind.invariant c.in_err-last.ensures))
 
 pub loop-kind-preserved : goal.loop-kind-preserved

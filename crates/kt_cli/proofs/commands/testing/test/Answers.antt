@@ -1,10 +1,27 @@
-use Rattle.std.proofs.Common.{refl}
+use Rattle.std.proofs.Common.{rules, refl}
 use Rattle.kt_cli.proofs.Common.{world_of}
 use Rattle.kt_words.specs.declared.command.Command.TheVariants as command
-use Rattle.kt_cli.proofs.Testings.{stopped_only, did_told}
+use Rattle.kt_cli.proofs.Testings.{idle_after, short_only, stopped_only, did_asked, did_test, printed_as}
 use Rattle.kt_cli.proofs.commands.testing.test.Goals as goal
 
 pub returns-in-Err-clause-did : goal.returns-in-Err-clause-did
 returns-in-Err-clause-did g c =
-    did_told (world_of g.W.Tree g.W.Launcher g.W.World) g.R.Keeping _ _ _ _ _ _ _
-    (stopped_only (world_of g.W.Tree g.W.Launcher g.W.World) (command.Test c.args.options.now c.args.file.now) c.args.options.now _ _ _ _ _ c.in-Err.fault refl c.in-Err.ensures.selects c.stopped.ensures)
+    did_asked (world_of g.W.Tree g.W.Launcher g.W.World) g.R.Keeping _ _ _ _ _ _ _
+    (stopped_only (world_of g.W.Tree g.W.Launcher g.W.World) (command.Test c.args.options.now c.args.file.now) c.args.options.now _ _ _ _ _
+    c.in-Err.fault refl c.in-Err.ensures.selects c.stopped.ensures)
+
+pub returns-in-Err-prepare-clause-did : goal.returns-in-Err-prepare-clause-did
+returns-in-Err-prepare-clause-did g c =
+    did_asked (world_of g.W.Tree g.W.Launcher g.W.World) g.R.Keeping _ _ _ _ _ _ _
+    (short_only (world_of g.W.Tree g.W.Launcher g.W.World) (command.Test c.args.options.now c.args.file.now) c.args.options.now _ _ _ _ _ _ c.in-Ok.picked
+    c.as_slice-cases.result.now refl c.in-Ok.ensures.selects (search rules) c.in-Err-prepare.ensures.planned
+    (printed_as _ _ _ _ _ _ _ c.write_memory.ensures refl c.ended.ensures))
+
+pub run_plan-requires-clause-idle : goal.run_plan-requires-clause-idle
+run_plan-requires-clause-idle g c =
+    idle_after (world_of g.W.Tree g.W.Launcher g.W.World) g.met.W.World.runs_told g.met.W.World.pends_told _ _ _ c.now-moment.ensures.told c.in-Ok-prepare.ensures.idle
+
+pub returns-clause-did : goal.returns-clause-did
+returns-clause-did g c =
+    did_test (world_of g.W.Tree g.W.Launcher g.W.World) g.R.Keeping _ _ c.args.options.now c.args.file.now _ _ _ c.in-Ok.picked c.as_slice-cases.result.now
+    c.in-Ok-prepare.plan _ _ c.in-Ok.ensures.selects (search rules) c.in-Ok-prepare.ensures.planned c.now-moment.ensures.told c.run_plan.ensures.ran

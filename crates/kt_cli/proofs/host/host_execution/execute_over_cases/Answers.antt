@@ -13,12 +13,12 @@ module _ {M O : Type 0} (m : machine.Ghosts M) (o : system.Ghosts O) where
   all_running_kept : (qs : List Question) (old new : HostWorld M O) → Chain (leads_by (IsLook m.answers) (IsHostAnswer m.answers o.leads)) old qs new → new.driver.running ≡ old.driver.running
   all_running_kept [] old new h = ap (λ (w : HostWorld M O). w.driver.running) h
   all_running_kept (OfTree asked ∷ qs) old new h = all_running_kept qs h.0 new h.2 ∙ look_kept m.answers old h.0 asked h.1
-  all_running_kept (OfHost told ∷ qs) old new h = all_running_kept qs h.0 new h.2 ∙ running_kept m.answers o.leads old h.0 told h.1
+  all_running_kept (OfHost answer ∷ qs) old new h = all_running_kept qs h.0 new h.2 ∙ running_kept m.answers o.leads old h.0 answer h.1
 
-  -- whatever was asked of a world whose driver had nothing running at first: its children tell each end of the trace
-  courses_are_told : (seen : Seen) (old new : HostWorld M O) (course : Course (host_world m o) seen old new) → old.driver.running ≡ idle_state
+  -- whatever was asked of a world whose driver had nothing running at first: each end of the trace is that of a child
+  courses_by_trace : (seen : Seen) (old new : HostWorld M O) (course : Course (host_world m o) seen old new) → old.driver.running ≡ idle_state
       → RunsFrom o.leads seen.plan seen.trace (board_of idle_state course.begun.driver.next) course.begun.driver new.driver
-  courses_are_told seen old new course none =
+  courses_by_trace seen old new course none =
       let d = course.begun.driver in
       let P : ChildrenState → Type 0 = λ b. RunsFrom o.leads seen.plan seen.trace (board_of b d.next) d new.driver in
       subst P (all_running_kept seen.questions old course.begun course.asked ∙ none)
@@ -39,7 +39,7 @@ returns-clause-did g c =
       directory = c.in-Ok.ensures.directory;
       around_it = refl;
       did = did;
-      told = courses_are_told g.M.Machine g.O.Os did.seen _ _ did.course c.in-Ok-driver_of.ensures.made.none_runs;
+      by_trace = courses_by_trace g.M.Machine g.O.Os did.seen _ _ did.course c.in-Ok-driver_of.ensures.made.none_runs;
       left = refl;
       closed = c.close-os.ensures;
     }

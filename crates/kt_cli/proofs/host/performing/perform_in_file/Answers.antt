@@ -8,5 +8,6 @@ returns-in-Err g c =
 
 pub returns : goal.returns
 returns g c =
-    closed c.in-Ok.results c.perform_over-outside.new.results c.open.new.self c.perform_over-outside.new.platform (g.W.Write.contents c.perform_over-outside.new.out) c.perform_over-outside.result.0.status c.close-closed.result
+    closed c.in-Ok.results c.perform_over-outside.new.results c.open.new.self c.perform_over-outside.new.platform
+    (g.W.Write.contents c.perform_over-outside.new.out) c.perform_over-outside.result.0.status c.close-closed.result
     (rw c.access_of.ensures at c.in-Ok.ensures) c.perform_over-outside.ensures c.close-closed.ensures c.with_closed.ensures
