@@ -10,19 +10,23 @@ use Rattle.kt_cli.specs.declared.commands.report_stop.JunitStop.TheVariants.{Ref
 use Rattle.kt_cli.specs.declared.commands.report_stop.TextStop.{TextStop}
 use Rattle.kt_cli.specs.declared.commands.report_stop.TextStop.TheVariants.{NoPairs, Output}
 
+-- how a report is cut short: whether a write failed, the calls, the bytes that are due, and the exit
+abbrev pub Cuts : Type 1
+Cuts = Bool → List StoreCall → List ℕ → ℕ → Type 0
+
 -- the store refused to be read, or the text ended early
-abbrev pub TextOrUnread : Option ℕ → List Kind → Bool → Bool → List StoreCall → List ℕ → ℕ → Type 0
-TextOrUnread number kinds verbose failed calls bytes exit =
+abbrev pub TextOrUnread : Option ℕ → List Kind → Bool → Cuts
+TextOrUnread number kinds verbose = λ failed calls bytes exit.
     Unread number calls bytes exit ⊎ ((verbose ≡ true) × TextCut number kinds failed calls bytes exit)
 
 -- the store refused to be read, or the JUnit report ended early
-abbrev pub JunitOrUnread : Option ℕ → Bool → List StoreCall → List ℕ → ℕ → Type 0
-JunitOrUnread number failed calls bytes exit = Unread number calls bytes exit ⊎ JunitCut number failed calls bytes exit
+abbrev pub JunitOrUnread : Option ℕ → Cuts
+JunitOrUnread number = λ failed calls bytes exit. Unread number calls bytes exit ⊎ JunitCut number failed calls bytes exit
 
 module _ {R : Type 0} (r : keeping.Ghosts R) where
   module _ (store after : R) (was now : Option (List ℕ)) where
     -- what was read of a store and printed of it, in one of two ways
-    pub record DidReport (exit : ℕ) (Means : List StoreCall → List ℕ → ℕ → Type 0) (Cut : Bool → List StoreCall → List ℕ → ℕ → Type 0) : Type 0 where
+    pub record DidReport (exit : ℕ) (Means : List StoreCall → List ℕ → ℕ → Type 0) (Cut : Cuts) : Type 0 where
       pub calls : List StoreCall
       pub stored : Stored r calls store after
       pub bytes : List ℕ

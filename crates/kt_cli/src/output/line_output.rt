@@ -42,13 +42,6 @@ fn hand_on<W: Write>(held: &mut HeldBytes, out: &mut W) -> bool
     failed
 }
 
-/// Whether to hand on after these bytes: the buffer is full, or a line is complete.
-fn is_due(held: &HeldBytes, by_line: bool, bytes: &[u8]) -> bool
-    ensures { result ≡ false → length held.now < 65536 }
-{
-    held.len() == ROOM || (by_line && bytes.contains(&b'\n'))
-}
-
 impl<W: Write> LineOutput<W> {
     ghost use Rattle.std.specs.Prelude.{◌≡◌, [], false};
     ghost use Rattle.kt_cli.specs.Common.{Keeps, given_bytes, is_broken, unwritten, line_state, Flushed};
@@ -116,7 +109,8 @@ impl<W: Write> Write for LineOutput<W> {
         }
         let taken = buf.len().min(ROOM - self.held.len());
         self.held.append(&buf[..taken]);
-        if !is_due(&self.held, self.by_line, &buf[..taken]) {
+        let has_line = self.by_line && buf[..taken].contains(&b'\n');
+        if self.held.len() < ROOM && !has_line {
             return Ok(taken);
         }
         self.failed = hand_on(&mut self.held, &mut self.out);
