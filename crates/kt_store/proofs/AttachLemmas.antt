@@ -1,6 +1,5 @@
 -- Taking the tables of a database, by what it was.
-use Rattle.kt_store.proofs.Common.{Blank, Current, Ghosts, HasCleanDisk, HasTables, Held, IsEmpty, IsLive, IsOf, IsStoreFault, IsTrue, IsUnchanged, Keeps, List, Numbered, OldTables, Older, Refuses, Rests, Run, SaysSchema, StandsInOld, State, StoreFault, Survives, Tables, Takes, Trees, Was, [], arith, inl, inr, no_schema, pos, refl, state, survives_then, survives_weaker, ℤ, ⊤, ◌≡◌, ◌≢◌, ◌⊎◌}
-use Rattle.kt_store.specs.Inner.Attaching.{HasNumber}
+use Rattle.kt_store.proofs.Common.{Blank, Current, Ghosts, HasCleanDisk, HasNumber, HasTables, Held, IsEmpty, IsLive, IsOf, IsStoreFault, IsTrue, IsUnchanged, Keeps, List, Numbered, OldTables, Older, Refuses, Rests, Run, SaysSchema, StandsInOld, State, StoreFault, Survives, Tables, TakesTables, Trees, Was, [], arith, inl, inr, no_schema, pos, refl, state, survives_then, survives_weaker, ℤ, ⊤, ◌≡◌, ◌≢◌, ◌⊎◌}
 use Rattle.kt_store.proofs.StepLemmas.{rests_hold, rests_then, outlives, either_left, leaves_held}
 use Rattle.kt_store.proofs.MetaLemmas.{says_one, says_two, says_filled, empty_blank, still_holds, still_says}
 use Rattle.kt_store.proofs.AskLemmas.{tables_before}
@@ -44,7 +43,7 @@ module _ (old new : State) (never : ¬ HasCleanDisk new) (nothing : Survives old
   more : (P : Trees → Type 0) → Survives old new P
   more P = survives_weaker old new (λ _. ⊥) P (λ _ db none. absurd none) nothing
 
-  never_takes : (was : Was) → Takes was old new
+  never_takes : (was : Was) → TakesTables was old new
   never_takes Blank = (λ clean opened. absurd (never clean), λ clean trees may. absurd (never clean), more (Keeps []))
   never_takes (Current runs) = (λ clean opened. absurd (never clean), λ clean trees may. absurd (never clean), nothing)
   never_takes (Older runs) = (λ clean opened. absurd (never clean), λ clean trees may. absurd (never clean), more (Keeps runs))
@@ -71,7 +70,7 @@ module _ (old mid new : State) (first : Survives old mid (λ (db : Trees). ⊥))
   after P then = survives_then old mid new (λ _. ⊥) P P (λ _ db none. absurd none) (λ _ db it. it) first then
 
   module _ (early : HasCleanDisk new → HasCleanDisk mid) where
-    takes_after : (was : Was) → Takes was mid new → Takes was old new
+    takes_after : (was : Was) → TakesTables was mid new → TakesTables was old new
     takes_after Blank t = (t.0, t.1, after (Keeps []) t.2)
     takes_after (Current runs) t = (t.0, t.1, after (λ _. ⊥) t.2)
     takes_after (Older runs) t = (t.0, t.1, after (Keeps runs) t.2)
@@ -88,7 +87,7 @@ module _ (old mid new : State) (first : Survives old mid (λ (db : Trees). ⊥))
       nothing : Survives old new (λ (db : Trees). ⊥)
       nothing = survives_then old mid new (λ _. ⊥) P (λ _. ⊥) (λ _ db none. none) (λ clean db it. absurd (never (early clean))) first then
 
-      not_taken : (was : Was) → Takes was old new
+      not_taken : (was : Was) → TakesTables was old new
       not_taken was = never_takes old new (λ clean. never (early clean)) nothing was
 
       not_refused : (fault : StoreFault) (was : Was) → Refuses was old new fault
@@ -102,7 +101,7 @@ module _ (old mid new : State) (first : Survives old mid (λ (db : Trees). ⊥))
       none : (was : Was) → HasNumber was → IsOf was old → IsEmpty mid
       none was has is clean opened = absurd (filled was has is clean)
 
-      pub create_takes : (IsEmpty mid → Takes Blank mid new) → (was : Was) → IsOf was old → Takes was old new
+      pub create_takes : (IsEmpty mid → TakesTables Blank mid new) → (was : Was) → IsOf was old → TakesTables was old new
       create_takes t Blank is = takes_after Blank (t (still_of Blank is))
       create_takes t was is = not_taken (Keeps []) (filled was tt is) (t (none was tt is)).2 was
 
@@ -115,7 +114,7 @@ module _ (old mid new : State) (first : Survives old mid (λ (db : Trees). ⊥))
       empty_never : IsEmpty old → ¬ HasCleanDisk mid
       empty_never is clean = filled (empty_blank old mid earlier same is clean)
 
-      pub take_takes : ((was : Was) → HasNumber was → IsOf was mid → Takes was mid new) → (was : Was) → IsOf was old → Takes was old new
+      pub take_takes : ((was : Was) → HasNumber was → IsOf was mid → TakesTables was mid new) → (was : Was) → IsOf was old → TakesTables was old new
       take_takes t Blank is = not_taken (λ _. ⊥) (empty_never is) (t (Current []) tt (λ clean opened. absurd (empty_never is clean))).2 Blank
       take_takes t was is = takes_after was (t was tt (still_of was is))
 
@@ -127,8 +126,8 @@ module _ (old mid new : State) (first : Survives old mid (λ (db : Trees). ⊥))
     none_older : ¬ HasCleanDisk mid → StandsInOld mid []
     none_older never clean opened = absurd (never clean)
 
-    pub renew_takes : ((runs : List Run) → StandsInOld mid runs → Takes (Older runs) mid new) → (was : Was) → HasNumber was → (HasCleanDisk mid → number_of was ≡ pos 1) → (HasCleanDisk mid → HasTables (number_of was) old) → IsOf was old
-        → Takes was old new
+    pub renew_takes : ((runs : List Run) → StandsInOld mid runs → TakesTables (Older runs) mid new) → (was : Was) → HasNumber was → (HasCleanDisk mid → number_of was ≡ pos 1) → (HasCleanDisk mid → HasTables (number_of was) old) → IsOf was old
+        → TakesTables was old new
     renew_takes t Blank has one tables is = absurd has
     renew_takes t (Current runs) has one tables is = let never : ¬ HasCleanDisk mid = λ clean. two_is_not_one (one clean) in not_taken (Keeps []) never (t [] (none_older never)).2 (Current runs)
     renew_takes t (Older runs) has one tables is = takes_after (Older runs) (t runs (still_of (Older runs) is))
@@ -168,7 +167,7 @@ module _ {S : Type 0} (g : Ghosts S) (old new : Held S) (law : (db : Trees) → 
 
   -- that found schema 2
   pub look_takes : (HasCleanDisk (state g new) → IsUnchanged (state g old) (state g new)) → (was : Was) → HasNumber was → (HasCleanDisk (state g new) → number_of was ≡ pos 2) → (HasCleanDisk (state g new) → HasTables (number_of was) (state g old))
-      → IsOf was (state g old) → Takes was (state g old) (state g new)
+      → IsOf was (state g old) → TakesTables was (state g old) (state g new)
   look_takes same Blank has two tables is = absurd has
   look_takes same (Current runs) has two tables is = (
     still_holds (state g old) (state g new) was_clean same (λ db. Tables db runs) is,

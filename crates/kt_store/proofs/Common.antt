@@ -10,14 +10,10 @@ pub use Rattle.std.proofs.lemmas.List.Elements.{filter-append, filter_passes, re
 pub use Rattle.std.proofs.lemmas.List.Sorted.{IsPermutation-append_comm, IsPermutation-append_left, IsPermutation-append_right, IsPermutation-cons, IsPermutation-map, IsPermutation-middle, IsPermutation-refl, IsPermutation-sym, IsPermutation-trans, length_permutation}
 pub use Rattle.std.proofs.lemmas.Option.{none-some, same_Some, slice_get-map, slice_get_past, slice_get_read, slice_get_within}
 pub use Rattle.std.proofs.lemmas.Result.{IfErr-weaker, IfOk-weaker, on_err_weaker, on_ok_weaker}
-pub use Rattle.std.specs.List.{AllByRecursion, AllZip, find, flat_map, list_all}
+pub use Rattle.std.specs.List.{AllZip, flat_map, list_all}
 pub use Rattle.std.specs.Option.{option_copied, option_to_list}
 pub use Rattle.std.specs.Ordering.{int_cmp, is_eq, is_gt, is_lt, match_ordering, ordering_then}
 pub use Rattle.std.specs.Prelude.{⊤}
-pub use Rattle.kt_base.specs.Limits.{last_run}
-pub use Rattle.kt_base.specs.declared.entry.Entry.{Entry}
-pub use Rattle.kt_base.specs.declared.entry.Run.{Run}
-pub use Rattle.kt_base.specs.declared.variable.Variable.{Variable}
 pub use Rattle.sqlite.proofs.Callers.{IsPlain, command_of, never_commits, one_permutation, one_step, reads_as, runs_as, statement_of, survives_begin, unchanged_then}
 pub use Rattle.sqlite.proofs.FileLemmas.{probe_size, same_image}
 pub use Rattle.sqlite.proofs.InsideLemmas.{fails_whole, inside_keeps, keeps_then}
@@ -29,44 +25,38 @@ pub use Rattle.sqlite.specs.Command.{Command}
 pub use Rattle.sqlite.specs.Command.TheVariants.{Commit, CreateTable, Insert, Release, Select, Update}
 pub use Rattle.sqlite.specs.Does.{AtPlace, Concludes, Does, OnRows, Tally, lacks_sequence}
 pub use Rattle.sqlite.specs.Edit.{Edit, edit_of}
-pub use Rattle.sqlite.specs.Effect.{Answers, Database, IsDatabase, value_rows}
-pub use Rattle.sqlite.specs.Files.{HoldsDatabase, file_state, image_of, over_files}
-pub use Rattle.sqlite.specs.Held.{Held, state}
+pub use Rattle.sqlite.specs.Effect.{Answers, value_rows}
+pub use Rattle.sqlite.specs.Files.{image_of, over_files}
 pub use Rattle.sqlite.specs.Kind.TheVariants.{Integer}
 pub use Rattle.sqlite.specs.Listing.{reads_listing}
 unfoldable pub use Rattle.sqlite.specs.Listing.{understood}
 pub use Rattle.sqlite.specs.Opening.{HoldsAt, HoldsIn, layout_at, layout_of, unrooted}
 pub use Rattle.sqlite.specs.Ops.{from_truth, is_null, is_true}
 unfoldable pub use Rattle.sqlite.specs.Ops.{binary, unary}
-pub use Rattle.sqlite.specs.Order.{Row}
 pub use Rattle.sqlite.specs.Program.{overlay}
 pub use Rattle.sqlite.specs.Query.{IsAnswerAs, IsSureAnswer, Output, Query, end, inner, matches_as, output, output_cmp}
 pub use Rattle.sqlite.specs.Rowids.TheVariants.{Above, Chosen, Given}
 pub use Rattle.sqlite.specs.Rows.{Counts, CountsIn, Gives, Inserts, Task, Updates, Written, count_of, last_id, rowids_for, sequence, stamped}
 pub use Rattle.sqlite.specs.Schema.{Schema}
 pub use Rattle.sqlite.specs.Source.TheVariants.{Values}
-pub use Rattle.sqlite.specs.State.{CommitsShowing, Executes, ExecutesInside, Fails, FailsToShow, HasCleanDisk, IsLive, IsNewestNamed, IsRolledBack, IsUnchanged, KeepsCommit, Runs, RunsCommand, ShowsRows, State, Survives, Writes, begins_at, mode_of, names_in, shows_rows}
+pub use Rattle.sqlite.specs.State.{Fails, FailsToShow, IsNewestNamed, Runs, RunsCommand, ShowsRows, Writes, begins_at, mode_of, names_in, shows_rows}
 unfoldable pub use Rattle.sqlite.specs.State.{CommitsBy, ExecutesIn, FailsToQuery, IsNotRun, Shown}
 pub use Rattle.sqlite.specs.Steps.{FailsToCommit, Outlines}
-pub use Rattle.sqlite.specs.Store.{Ghosts}
 pub use Rattle.sqlite.specs.Table.{Table}
 pub use Rattle.sqlite.specs.Term.{Env, Term, col, eval, eval_all, holds, lit, op2}
-pub use Rattle.sqlite.specs.Tree.{Trees}
-pub use Rattle.sqlite.specs.Values.{bound}
 pub use Rattle.sqlite.specs.declared.error.Error.{Error}
 pub use Rattle.sqlite.specs.declared.run.Mode.{Mode}
 pub use Rattle.sqlite.specs.declared.types.Value.{Value}
-pub use Rattle.sqlite.specs.declared.types.Value.TheVariants.{Blob, Int, Null, Real, Text}
+pub use Rattle.sqlite.specs.declared.types.Value.TheVariants.{Real}
 pub use Rattle.sqlite_catalog.proofs.ReadLemmas.{lists_once}
 pub use Rattle.sqlite_catalog.specs.Listing.{IsSound, Lists}
 pub use Rattle.sqlite_exec.specs.Loops.{left_of}
 pub use Rattle.sqlite_keyed.proofs.ListLemmas.{IsPermutation-filter, all-append, all-filter, all-map, all-slice_get, all_map, all_weaker, ascending-filter, ascending-map, ascending_from_map, ascending_weaker, filter-map, filter_all, filter_none, filter_same, flat_map_same_on, map-map, map_same, slice_get-filter}
 pub use Rattle.sqlite_keyed.proofs.SortLemmas.{sorted_unique}
-pub use Rattle.sqlite_pages.specs.PageMap.{PageMap}
 pub use Rattle.sqlite_pool.proofs.ResealLemmas.{adopts_of, plain_adopts}
 pub use Rattle.sqlite_pool.proofs.StateLemmas.{clean_is, file_alone, may_leave_is, settled, size_is_allowed}
 pub use Rattle.sqlite_pool.specs.File.{in_use, version_in}
-pub use Rattle.sqlite_pool.specs.Stored.{Recovers, reserved, stored_size}
+pub use Rattle.sqlite_pool.specs.Stored.{reserved}
 pub use Rattle.sqlite_pool.specs.StoredLaws.{recovers_once}
 pub use Rattle.sqlite_resolve.specs.declared.compiled.Compiled.{Compiled}
 pub use Rattle.sqlite_rules.proofs.ListLemmas.{all_from, all_more}
@@ -87,56 +77,43 @@ pub use Rattle.sqlite_sql.specs.declared.aggregate.AggregateOp.TheVariants.{Coun
 pub use Rattle.sqlite_sql.specs.declared.ops.BinaryOp.TheVariants.{Compare}
 pub use Rattle.sqlite_sql.specs.declared.ops.CompareOp.TheVariants.{Eq}
 pub use Rattle.sqlite_store.specs.Db.{IsFile, rows_at}
-pub use Rattle.sqlite_store.specs.FileStore.{recovers, view}
 pub use Rattle.sqlite_store.specs.Joined.{joined}
 pub use Rattle.sqlite_store.specs.Laws.{settled_at, shut_if_dirty_at}
 pub use Rattle.sqlite_store.specs.Listing.{all_trees, file_trees, listed_from}
 pub use Rattle.sqlite_store.specs.Saved.{kept_schema}
 pub use Rattle.sqlite_store.specs.Unopened.{image, state_of, wanted_by}
-pub use Rattle.sqlite_store.specs.declared.store.FileStore.{FileStore}
 unfoldable pub use Rattle.sqlite_tied.specs.Compute.{everything}
 pub use Rattle.sqlite_trees.proofs.Doubt.{clean_of, no_doubt}
 pub use Rattle.sqlite_trees.proofs.ListLemmas.{all-get_or, all-permutation, pull_back}
 pub use Rattle.sqlite_trees.specs.Objects.{IsListed, catalog_tree, number_in, with_version}
 pub use Rattle.sqlite_trees.specs.Props.{Trees-set}
-pub use Rattle.sqlite_trees.specs.Tree.{IsAscending, IsIndex, IsTable, from_key, has_rowid, no_trees, order_of, put_row, rowid, sought, up_to_key, without_rowid}
-pub use Rattle.sqlite_trees.specs.View.{IsClean, IsOrdered, IsShaped, View, is_int, with_cursor}
+pub use Rattle.sqlite_trees.specs.Tree.{IsTable, no_trees, order_of, put_row, sought, up_to_key, without_rowid}
+pub use Rattle.sqlite_trees.specs.View.{IsOrdered, is_int, with_cursor}
 pub use Rattle.sqlite_trees.specs.declared.store.Direction.TheVariants.{Backward}
 pub use Rattle.sqlite_trees.specs.declared.store.Shape.{Shape}
 pub use Rattle.sqlite_value.proofs.OrderLemmas.{then-Equal, value_cmp-Int, value_cmp_total}
 pub use Rattle.sqlite_value.specs.Keys.{ascending, entry_cmp, plain, prefix_cmp}
 unfoldable pub use Rattle.sqlite_value.specs.Keys.{first_key}
-pub use Rattle.sqlite_value.specs.Order.{column}
 unfoldable pub use Rattle.sqlite_value.specs.Order.{value_cmp}
 pub use Rattle.sqlite_wal.proofs.StateLemmas.{open_from}
 pub use Rattle.sqlite_wal.specs.Files.{outcomes, seen_image}
 pub use Rattle.sqlite_wal.specs.Reads.{AreClean, are_clean}
-pub use Rattle.sqlite_wal.specs.Recovery.{AreWhole, Image, IsIgnored, only_page}
-pub use Rattle.kt_store.specs.Ask.{IsNoMemory, IsStoreFault, Rests}
-pub use Rattle.kt_store.specs.Attaching.{Blank, Current, IsOf, Numbered, Older, Refuses, Takes, Was}
-pub use Rattle.kt_store.specs.Closing.{HasWithoutLog}
-pub use Rattle.kt_store.specs.Files.{Ends, EndsIn}
-pub use Rattle.kt_store.specs.Heads.{entry_at, head_of, outlined, outputs_of, pairs_of, without_outputs, without_pairs}
-pub use Rattle.kt_store.specs.Inner.Ask.{AreWide, Asked, HasColumns, MayShow, MayExecute, ShowsOf, Executed}
-pub use Rattle.kt_store.specs.Inner.Calls.{IsOurs, Statement, entry_statements, make_statements, pair_statement, pair_statements, pair_text, plain_statements, raise_statements}
-pub use Rattle.kt_store.specs.Inner.Cursors.{CountsUnder, HoldsCommit, IsAt, Looks, LooksThrough, Places, Shows, ShowsUnder, begins, in_columns}
-pub use Rattle.kt_store.specs.Inner.Edits.{Ended, Fills, IsSettledStore, Obeys, PutsRows, Wrote, begun_row, done_row, unnumbered}
-pub use Rattle.kt_store.specs.Inner.Heads.{entry_columns, head_columns, output_columns, pair_columns, whole_columns}
-pub use Rattle.kt_store.specs.Inner.Kept.{AsksNumber, Changes, CommitsNothing, KeepsRuns, Looked, MayChange, OnlyReads}
-pub use Rattle.kt_store.specs.Inner.Known.{HasRuns, by_trees, readings, runs_file}
+pub use Rattle.sqlite_wal.specs.Recovery.{AreWhole, IsIgnored, only_page}
+pub use Rattle.kt_store.specs.Attaching.{Current, Numbered, Was}
+pub use Rattle.kt_store.specs.Files.{HasWithoutLog}
+pub use Rattle.kt_store.specs.Inner.Cursors.{IsAt, Places, Shows, begins}
+pub use Rattle.kt_store.specs.Inner.Edits.{IsSettledStore, begun_row}
+pub use Rattle.kt_store.specs.Inner.Heads.{output_columns}
+pub use Rattle.kt_store.specs.Inner.Kept.{OnlyReads}
+pub use Rattle.kt_store.specs.Inner.Known.{by_trees, readings, runs_file}
 pub use Rattle.kt_store.specs.Inner.NewFiles.{HoldsEmpty, IsNewName}
-pub use Rattle.kt_store.specs.Inner.Opening.{ListsRuns, OpensOver}
-pub use Rattle.kt_store.specs.Inner.Places.{AreNamed, StandAt, places_2}
-pub use Rattle.kt_store.specs.Inner.Runs.{CanAdd, HasTexts, IsBareIfPassed, IsComplete, entries_of}
-pub use Rattle.kt_store.specs.Inner.Transactions.{Commits, CommitsLater, IsUndone, MayCommit, RunInTurn, RunsAll, RunsInside, RunsOne, Undoes, begun}
-pub use Rattle.kt_store.specs.Runs.{AreNumbered, AreOrdered, AreRuns, HaveNoPairs, IsEntry, IsPair, IsRun, IsText, Keeps, KeepsEither, KeepsOld, KeepsOne, OldTables, SaysIn, Tables, entry_row, entry_rows, finish, finish_refusal, finish_refusal_of, flag, has_position, insert_at, kind_code, new_run, pair_row, pair_rows, pair_rows_from, prop_rows, put_refusal, put_refusal_of, run_at, run_row, with_entry}
-pub use Rattle.kt_store.specs.Seeks.{HasCommitted, HoldsRuns, OpensRuns}
-pub use Rattle.kt_store.specs.Serving.{Agrees, Outlasts, Reads, Serves, changed_by, results}
-pub use Rattle.kt_store.specs.Stands.{HasTables, Holds, IsEmpty, IsSettled, IsStore, IsUnderstood, Leaves, SaysNumber, SaysSchema, StandsFor, StandsInOld}
-pub use Rattle.kt_store.specs.StoreCalls.{Began, Finished, Heads, Outline, Outputs, Pairs, Put, StoreCall, seen_as}
+pub use Rattle.kt_store.specs.Inner.Runs.{HasTexts}
+pub use Rattle.kt_store.specs.Inner.Transactions.{IsUndone, RunInTurn, RunsInside, begun, make_statements, pair_text, raise_statements}
+pub use Rattle.kt_store.specs.Runs.{HaveNoPairs, IsRun, KeepsEither, KeepsOld, OldTables, SaysIn, Tables, entry_rows, finish_refusal_of, insert_at, prop_rows, put_refusal_of}
+pub use Rattle.kt_store.specs.Serving.{Outlasts}
+pub use Rattle.kt_store.specs.Stands.{HasTables, WhileOpen, IsEmpty, IsSettled, IsStore, SaysNumber, StandsInOld}
+pub use Rattle.kt_store.specs.StoreCalls.{StoreCall}
 pub use Rattle.kt_store.specs.Supposed.{IsOfRuns, ListsTables, objects_2}
-pub use Rattle.kt_store.specs.Tables.{begin_text, beside_meta, create_entries, create_meta, create_props, create_runs, entries, entries_1, entries_text, finish_text, index_of, mark_text, meta, meta_1, meta_text, no_schema, pairs_text, props, props_1, put_text, raise_text, run_text, runs, runs_1, runs_text, schema_1, schema_2, there_text}
-pub use Rattle.kt_store.specs.declared.result_store.CaseOutputs.{CaseOutputs}
-pub use Rattle.kt_store.specs.declared.result_store.RunHead.{RunHead}
-pub use Rattle.kt_store.specs.declared.store_fault.StoreFault.{StoreFault}
-pub use Rattle.kt_store.specs.declared.store_fault.StoreFault.TheVariants.{BadPosition, Incomplete, NoMemory, NoRun, RepeatedPosition, RunClosed, Store, StoreFull}
+pub use Rattle.kt_store.specs.Tables.{begin_text, beside_meta, create_entries, create_meta, create_props, create_runs, entries, entries_1, finish_text, index_of, mark_text, meta, meta_1, meta_text, no_schema, props, props_1, put_text, raise_text, run_text, runs, runs_1, schema_1, there_text}
+pub use Rattle.kt_store.specs.Common.{Agrees, AreNamed, AreNumbered, AreOrdered, AreRuns, AreWide, Asked, AsksNumber, Began, Blank, CanAdd, Changes, Commits, CommitsLater, CommitsNothing, CountsUnder, Ended, Ends, EndsIn, Executed, Fills, Finished, HasColumns, HasCommitted, HasNumber, HasRuns, Heads, HoldsCommit, HoldsRuns, IsBareIfPassed, IsComplete, IsEntry, IsNoMemory, IsOf, IsOurs, IsPair, IsStoreFault, IsText, IsUnderstood, Keeps, KeepsOne, KeepsRuns, Leaves, ListsRuns, Looked, Looks, LooksThrough, MayChange, MayCommit, MayExecute, MayShow, Obeys, Older, OpensOver, OpensRuns, Outline, Outputs, Pairs, Put, PutsRows, Reads, Refuses, Rests, RunsAll, RunsOne, SaysSchema, Serves, ShowsOf, ShowsUnder, StandAt, StandsFor, Statement, TakesTables, Undoes, Wrote, bound, changed_by, done_row, entries_of, entries_text, entry_at, entry_columns, entry_row, entry_statements, finish, finish_refusal, flag, has_position, head_columns, head_of, in_columns, kind_code, new_run, outlined, outputs_of, pair_columns, pair_row, pair_rows, pair_rows_from, pair_statement, pair_statements, pairs_of, pairs_text, places_2, plain_statements, put_refusal, results, run_at, run_row, runs_text, schema_2, seen_as, unnumbered, whole_columns, with_entry, without_outputs, without_pairs}
+pub use Rattle.kt_store.specs.Types.{AllByRecursion, BadPosition, Blob, CaseOutputs, CommitsShowing, Database, Entry, Executes, ExecutesInside, FileStore, Ghosts, HasCleanDisk, Held, HoldsDatabase, Image, Incomplete, Int, IsAscending, IsClean, IsDatabase, IsIndex, IsLive, IsRolledBack, IsShaped, IsUnchanged, KeepsCommit, NoMemory, NoRun, Null, PageMap, Recovers, RepeatedPosition, Row, Run, RunClosed, RunHead, State, Store, StoreFault, StoreFull, Survives, Text, Trees, Variable, View, column, file_state, find, from_key, has_rowid, last_run, recovers, rowid, state, stored_size, view}

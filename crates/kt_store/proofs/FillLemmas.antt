@@ -9,7 +9,7 @@ use Rattle.kt_store.proofs.Numbered.{numbers_entry}
 use Rattle.kt_store.proofs.Values.{cast_int, cast_null}
 
 -- the tables of schema 2 with the rows of these runs, of these entries and of these pairs
-pub record Holds (runs : List Run) (entries props : List Row) (db : Database) : Type 0 where
+pub record HasRows (runs : List Run) (entries props : List Row) (db : Database) : Type 0 where
   pub schema : db.schema ≡ schema_2
   pub marked : map (drop 1) (db.trees 0) ≡ (Text (codes "schema") ∷ Int (pos 2) ∷ []) ∷ []
   pub runs_are : db.trees 2 ≡ map run_row runs
@@ -32,7 +32,7 @@ rows_more stored (r ∷ new) rows fresh have =
     IsPermutation-trans _ _ _ (IsPermutation-sym _ _ (IsPermutation-middle new r rows)) (rows_more (put_row row stored) new (r ∷ rows) both.1 (one_more stored rows row r refl (not-true (is_taken stored row) both.0) have))
 
 -- the same pairs in another order
-moved : (runs : List Run) (entries props more : List Row) (db : Database) → IsPermutation more props → Holds runs entries props db → Holds runs entries more db
+moved : (runs : List Run) (entries props more : List Row) (db : Database) → IsPermutation more props → HasRows runs entries props db → HasRows runs entries more db
 moved runs entries props more db same has = record {
   schema = has.schema;
   marked = has.marked;
@@ -42,8 +42,8 @@ moved runs entries props more db same has = record {
 }
 
 -- an entry and pairs, as the rules of the schema put them in
-module _ (runs : List Run) (entries props : List Row) (db after : Database) (has : Holds runs entries props db) (schema_is : after.schema ≡ schema_2) where
-  pub entry_in : (n : ℕ) (e : Entry) → Applies schema_2 Enforced db.trees (edit_of db.trees entries_1 [] Chosen 0 (put_rows n e)) after.trees → Holds runs (entry_row n e ∷ entries) props after
+module _ (runs : List Run) (entries props : List Row) (db after : Database) (has : HasRows runs entries props db) (schema_is : after.schema ≡ schema_2) where
+  pub entry_in : (n : ℕ) (e : Entry) → Applies schema_2 Enforced db.trees (edit_of db.trees entries_1 [] Chosen 0 (put_rows n e)) after.trees → HasRows runs (entry_row n e ∷ entries) props after
   entry_in n e applies =
       let news_are : (edit_of db.trees entries_1 [] Chosen 0 (put_rows n e)).news ≡ numbered Chosen (db.trees 3) (map back (entry_row n e ∷ [])) =
       rw (cast_null, cast_int (pos n), cast_int (pos e.position), cast_int (pos (kind_code e.verdict.kind)), cast_int (pos e.started), cast_int (pos e.millis)) refl in
@@ -56,7 +56,7 @@ module _ (runs : List Run) (entries props : List Row) (db after : Database) (has
         props_are = subst (λ l. IsPermutation props (map (drop 1) l)) (sym (applies.tables.1.1.1.0 (λ e. cc))) has.props_are;
       }
 
-  pub pairs_in : (sources rows : List Row) → map (λ s. cast_row props_1 (drop 0 s)) sources ≡ map back rows → Applies schema_2 Enforced db.trees (edit_of db.trees props_1 [] Chosen 0 sources) after.trees → Holds runs entries (rows ++ props) after
+  pub pairs_in : (sources rows : List Row) → map (λ s. cast_row props_1 (drop 0 s)) sources ≡ map back rows → Applies schema_2 Enforced db.trees (edit_of db.trees props_1 [] Chosen 0 sources) after.trees → HasRows runs entries (rows ++ props) after
   pairs_in sources rows rows_are applies =
       let news_are : (edit_of db.trees props_1 [] Chosen 0 sources).news ≡ numbered Chosen (db.trees 5) (map back rows) = ap (numbered Chosen (db.trees 5)) rows_are in
       record {
@@ -68,15 +68,15 @@ module _ (runs : List Run) (entries props : List Row) (db after : Database) (has
             (rows_more (db.trees 5) rows props (subst (λ news. are_fresh (db.trees 5) news ≡ true) news_are applies.fresh) has.props_are);
       }
 
-module _ (runs : List Run) (entries props : List Row) (old new : State) (count : ℕ) (has : Holds runs entries props old.now) where
-  pub put_inside : (n : ℕ) (e : Entry) → Executes put_text (entry_row n e) old new (Ok count) → Holds runs (entry_row n e ∷ entries) props new.now × IsDatabase new.now
+module _ (runs : List Run) (entries props : List Row) (old new : State) (count : ℕ) (has : HasRows runs entries props old.now) where
+  pub put_inside : (n : ℕ) (e : Entry) → Executes put_text (entry_row n e) old new (Ok count) → HasRows runs (entry_row n e ∷ entries) props new.now × IsDatabase new.now
   put_inside n e h =
       let text = statement_of put_text (understood schema_2 put_text) in
       let w : Writes old new None (Insert 2 (Values put_terms 13)) text (entry_row n e) count = runs_as put_text (entry_row n e) old new schema_2 has.schema (Insert 2 (Values put_terms 13)) put_is.0 put_is.1 count h in
       let did = changed schema_2 2 entries_1 put_terms 13 refl refl refl put_works old.step_limit (mode_of old) (entry_row n e) old.now new.now text w.tally refl has.schema w.changed in
       (entry_in runs entries props old.now new.now has did.schema_is n e did.applies, w.sound)
 
-  pair_inside : (n p k : ℕ) (v : Variable) → Executes pair_text (pair_row n p k v) old new (Ok count) → Holds runs entries (pair_row n p k v ∷ props) new.now × IsDatabase new.now
+  pair_inside : (n p k : ℕ) (v : Variable) → Executes pair_text (pair_row n p k v) old new (Ok count) → HasRows runs entries (pair_row n p k v ∷ props) new.now × IsDatabase new.now
   pair_inside n p k v h =
       let params = pair_row n p k v in
       let text = statement_of pair_text (understood schema_2 pair_text) in
@@ -85,9 +85,9 @@ module _ (runs : List Run) (entries props : List Row) (old new : State) (count :
       (pairs_in runs entries props old.now new.now has did.schema_is (value_rows params 6 1 pair_terms) (params ∷ []) (rw (cast_null, cast_int (pos n), cast_int (pos p), cast_int (pos k)) refl) did.applies, w.sound)
 
 module _ {S : Type 0} (g : Ghosts S) (runs : List Run) (entries : List Row) (n p : ℕ) where
-  pairs_inside : (k : ℕ) (vs : List Variable) (props : List Row) (old new : Held S) → Holds runs entries props (state g old).now → IsDatabase (state g old).now
-      → RunInTurn g (pair_statements n p k vs) old new → Holds runs entries (pair_rows_from n p k vs ++ props) (state g new).now × IsDatabase (state g new).now
-  pairs_inside k [] props old new has sound is = subst (λ h. Holds runs entries props (state g h).now × IsDatabase (state g h).now) (sym is) (has, sound)
+  pairs_inside : (k : ℕ) (vs : List Variable) (props : List Row) (old new : Held S) → HasRows runs entries props (state g old).now → IsDatabase (state g old).now
+      → RunInTurn g (pair_statements n p k vs) old new → HasRows runs entries (pair_rows_from n p k vs ++ props) (state g new).now × IsDatabase (state g new).now
+  pairs_inside k [] props old new has sound is = subst (λ h. HasRows runs entries props (state g h).now × IsDatabase (state g h).now) (sym is) (has, sound)
   pairs_inside k (v ∷ vs) props old new has sound ran =
       let one = pair_inside runs entries props (state g old) (state g ran.0) ran.1.0 has n p k v ran.1.1.0 in
       let all = pairs_inside (suc k) vs (pair_row n p k v ∷ props) ran.0 new one.0 one.1 ran.2 in
@@ -100,11 +100,11 @@ module _ {S : Type 0} (g : Ghosts S) (n p : ℕ) where
   pairs_spelled k (v ∷ vs) old new ran = ((ran.1.2.0, ran.1.2.1.0), pairs_spelled (suc k) vs ran.0 new ran.2)
 
 -- the tables of runs, and with an entry and its pairs those of the runs that have it
-pub rows_of : (runs : List Run) (db : Database) → Tables db runs → Holds runs (entry_rows runs) (prop_rows runs) db
+pub rows_of : (runs : List Run) (db : Database) → Tables db runs → HasRows runs (entry_rows runs) (prop_rows runs) db
 rows_of runs db has = record { schema = has.schema; marked = has.marked; runs_are = has.runs_are; entries_are = has.entries_are; props_are = has.props_are }
 
 pub tables_of : (runs : List Run) (run : ℕ) (e : Entry) → CanAdd run e runs → HasTexts e → AreRuns runs → (db : Database)
-    → Holds runs (entry_row run e ∷ entry_rows runs) (pair_rows run e ++ prop_rows runs) db → Tables db (with_entry run e runs)
+    → HasRows runs (entry_row run e ∷ entry_rows runs) (pair_rows run e ++ prop_rows runs) db → Tables db (with_entry run e runs)
 tables_of runs run e fits texts were db has =
     let number : 1 + fits.0 ≡ run = omega (arith, fits.1) in
     let rows : IsPermutation (entry_row run e ∷ entry_rows runs) (entry_rows (with_entry run e runs)) =

@@ -8,7 +8,7 @@ use Rattle.sqlite_store.proofs.AlikeLemmas.{same_file}
 use Rattle.sqlite_catalog.specs.Reading.{AreShaped}
 use Rattle.sqlite_disk.specs.declared.Disk.{Ghosts}
 use Rattle.sqlite_disk.specs.Events.{Event, replay}
-use Rattle.kt_store.specs.Files.{AreOver, Finds, Follows, IsOver}
+use Rattle.kt_store.specs.Files.{AreOfFile, Finds, Follows, IsOfFile}
 
 -- a result that was taken as an option
 pub ok_is : {T E : Type 0} (r : Result T E) (o : Option T) (x : T) → o ≡ result_ok r → o ≡ Some x → r ≡ Ok x
@@ -113,7 +113,7 @@ same_tables s t a b runs same equal has = subst (λ x. Tables (record { schema =
 
 module _ {D : Type 0} {g : Ghosts D} (image : Image) where
   -- a connection over the file stands for them
-  pub held_stands : (conn : Held (FileStore D g)) → IsOver image conn → (runs : List Run) → HoldsRuns image runs → StandsFor (file_state conn) runs
+  pub held_stands : (conn : Held (FileStore D g)) → IsOfFile image conn → (runs : List Run) → HoldsRuns image runs → StandsFor (file_state conn) runs
   held_stands conn over runs (db, found, (held, sound, trees, tables)) clean opened =
       let it = over clean in
       let s = file_state conn in
@@ -127,7 +127,7 @@ module _ {D : Type 0} {g : Ghosts D} (image : Image) where
       }
 
   -- and so does the store behind the results that were taken of it
-  pub opens_of : (results : Held (FileStore D g)) (store : FileStore D g) → AreOver image results → Follows results store → OpensRuns image store
+  pub opens_of : (results : Held (FileStore D g)) (store : FileStore D g) → AreOfFile image results → Follows results store → OpensRuns image store
   opens_of results store over follows =
       let taken = λ (runs : List Run) (h : HoldsRuns image runs). over.2 (Current runs) (held_stands over.0 over.1 runs h) in
       record {
@@ -135,7 +135,7 @@ module _ {D : Type 0} {g : Ghosts D} (image : Image) where
         leaves = λ runs h clean trees found. (taken runs h).1 (follows.earlier clean) trees (follows.crash trees found);
       }
 
-  pub found_of : (results : Held (FileStore D g)) (made : Result (FileStore D g) StoreFault) → AreOver image results → IfOk made (λ s. (runs : List Run) → StandsFor (file_state results) runs → HasCommitted (view s) runs) → IfOk made (λ s. IsClean (view s) → HasCleanDisk (file_state results))
+  pub found_of : (results : Held (FileStore D g)) (made : Result (FileStore D g) StoreFault) → AreOfFile image results → IfOk made (λ s. (runs : List Run) → StandsFor (file_state results) runs → HasCommitted (view s) runs) → IfOk made (λ s. IsClean (view s) → HasCleanDisk (file_state results))
       → IfOk made (λ s. (trees : Trees) → recovers s trees → (file_state results).may_leave trees) → IfOk made (Finds image)
   found_of results (Ok store) over stands earlier crash =
       let follows : Follows results store = record { stands = stands; earlier = earlier; crash = crash } in

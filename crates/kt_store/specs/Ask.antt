@@ -1,8 +1,6 @@
 -- What a failed call of SQLite leaves, and the faults that it becomes.
 use Rattle.std.specs.Prelude.{◌⊎◌, ⊤, ℕ, List, codes}
-use Rattle.sqlite.specs.State.{State, IsUnchanged, IsRolledBack}
-use Rattle.kt_store.specs.declared.store_fault.StoreFault.{StoreFault}
-use Rattle.kt_store.specs.declared.store_fault.StoreFault.TheVariants.{NoMemory, Store}
+use Rattle.kt_store.specs.Types.{IsRolledBack, IsUnchanged, NoMemory, State, Store, StoreFault}
 
 -- the database is as it was, or as its last commit left it, which is the same where no transaction is open
 abbrev pub Rests : State → State → Type 0

@@ -1,11 +1,9 @@
 -- What taking the tables of a database does, by what the database was.
 use Rattle.std.specs.Prelude.{◌≡◌, ◌≢◌, ◌⊎◌, ℤ, pos, List, [], IsTrue}
-use Rattle.sqlite.specs.State.{State, HasCleanDisk, Survives}
-use Rattle.kt_base.specs.declared.entry.Run.{Run}
 use Rattle.kt_store.specs.Ask.{Rests, IsStoreFault}
 use Rattle.kt_store.specs.Runs.{Keeps, KeepsEither}
 use Rattle.kt_store.specs.Stands.{StandsFor, StandsInOld, IsEmpty, SaysSchema, HasTables, Leaves}
-use Rattle.kt_store.specs.declared.store_fault.StoreFault.{StoreFault}
+use Rattle.kt_store.specs.Types.{HasCleanDisk, Run, State, StoreFault, Survives}
 
 -- a database without tables, one of schema 2 or of schema 1 with these runs, or one whose tables say a number, whatever they hold
 pub data Was : Type 0 where
@@ -23,11 +21,11 @@ IsOf (Numbered n) s = SaysSchema n s
 
 -- it is taken: its tables stand for its runs, which are all that a crash leaves now; a crash meanwhile leaves what it left before or, where tables
 -- are made, these runs in them. No number is taken but 1 and 2, and only with tables that a store can query
-abbrev pub Takes : Was → State → State → Type 0
-Takes Blank old new = StandsFor new [] × Leaves new (Keeps []) × Survives old new (Keeps [])
-Takes (Current runs) old new = StandsFor new runs × Leaves new (Keeps runs) × Survives old new (λ _. ⊥)
-Takes (Older runs) old new = StandsFor new runs × Leaves new (Keeps runs) × Survives old new (Keeps runs)
-Takes (Numbered n) old new = HasCleanDisk new → ((n ≡ pos 1) ⊎ (n ≡ pos 2)) × HasTables n old
+abbrev pub TakesTables : Was → State → State → Type 0
+TakesTables Blank old new = StandsFor new [] × Leaves new (Keeps []) × Survives old new (Keeps [])
+TakesTables (Current runs) old new = StandsFor new runs × Leaves new (Keeps runs) × Survives old new (λ _. ⊥)
+TakesTables (Older runs) old new = StandsFor new runs × Leaves new (Keeps runs) × Survives old new (Keeps runs)
+TakesTables (Numbered n) old new = HasCleanDisk new → ((n ≡ pos 1) ⊎ (n ≡ pos 2)) × HasTables n old
 
 -- it is refused, and is as it was; if the connection was open, a crash leaves its runs, in schema 1 or 2 where they were in schema 1
 abbrev pub Refuses : Was → State → State → StoreFault → Type 0

@@ -1,34 +1,40 @@
 -- Results in a file, as they are opened and closed.
-use Rattle.std.specs.Prelude.{◌≡◌, ◌⊎◌, pos, List, IsTrue}
+use Rattle.std.specs.Prelude.{◌≡◌, ◌⊎◌, pos, List, IsTrue, ℕ, Bool, []}
 use Rattle.sqlite_disk.specs.declared.Disk as disk
 use Rattle.sqlite_disk.specs.declared.Files.{Files}
 use Rattle.sqlite_wal.specs.Files.{outcomes}
 use Rattle.sqlite_wal.specs.Reads.{AreClean}
-use Rattle.sqlite_wal.specs.Recovery.{Image}
-use Rattle.sqlite_store.specs.declared.store.FileStore.{FileStore}
-use Rattle.sqlite_store.specs.FileStore.{files as files_in, view, faults, recovers, is_shielded}
-use Rattle.sqlite_trees.specs.Tree.{Trees}
-use Rattle.sqlite_trees.specs.View.{IsClean, IsQuiet}
-use Rattle.sqlite.specs.State.{HasCleanDisk}
-use Rattle.sqlite.specs.Held.{Held}
+use Rattle.sqlite_store.specs.FileStore.{files as files_in, faults, is_shielded}
 use Rattle.sqlite.specs.Start.{FindsIn}
-use Rattle.sqlite.specs.Files.{file_state, IsOpened}
-use Rattle.kt_base.specs.declared.entry.Run.{Run}
-use Rattle.kt_store.specs.Attaching.{Was, IsOf, Takes}
-use Rattle.kt_store.specs.Closing.{HasWithoutLog}
+use Rattle.kt_store.specs.Attaching.{Was, IsOf, TakesTables}
 use Rattle.kt_store.specs.Runs.{SaysIn}
 use Rattle.kt_store.specs.Seeks.{HasCommitted, OpensRuns}
 use Rattle.kt_store.specs.Stands.{StandsFor}
 use Rattle.kt_store.specs.Supposed.{ListsTables}
+use Rattle.sqlite_store.specs.Listing.{file_trees, IsOurs}
+use Rattle.sqlite_store.specs.declared.catalog.Wanted.{Wanted}
+use Rattle.sqlite_wal.specs.PageSize.{IsPageSize}
+use Rattle.kt_store.specs.Types.{FileStore, HasCleanDisk, Held, Image, IsClean, IsOpened, IsQuiet, PageMap, Recovers, Run, Trees, file_state, recovers, stored_size, view}
+
+-- the two files, and the database file with no log, recover to a sound file with these trees, which are numbered if those of the store were
+pub record HasWithoutLog (is_numbered : Bool) (trees : Trees) (image : Image) : Type 0 where
+  pub size : ℕ
+  pub pages : PageMap
+  pub wanted : List Wanted
+  pub allowed : ∥ IsPageSize (stored_size size) ∥₁
+  pub both : Recovers size image pages
+  pub without_log : Recovers size (record image { log = [] }) pages
+  pub file : ∥ IsOurs size is_numbered wanted pages ∥₁
+  pub reads : trees ≡ file_trees size wanted pages
 
 module _ {D : Type 0} {g : disk.Ghosts D} where
   -- a connection has the database that the file held
-  abbrev pub IsOver : Image → Held (FileStore D g) → Type 0
-  IsOver image conn = HasCleanDisk (file_state conn) → IsOpened conn × FindsIn image (file_state conn)
+  abbrev pub IsOfFile : Image → Held (FileStore D g) → Type 0
+  IsOfFile image conn = HasCleanDisk (file_state conn) → IsOpened conn × FindsIn image (file_state conn)
 
   -- the results are those of such a connection, whose tables were taken
-  abbrev pub AreOver : Image → Held (FileStore D g) → Type 0
-  AreOver image results = (conn : Held (FileStore D g)) × IsOver image conn × ((was : Was) → IsOf was (file_state conn) → Takes was (file_state conn) (file_state results))
+  abbrev pub AreOfFile : Image → Held (FileStore D g) → Type 0
+  AreOfFile image results = (conn : Held (FileStore D g)) × IsOfFile image conn × ((was : Was) → IsOf was (file_state conn) → TakesTables was (file_state conn) (file_state results))
 
   -- a store has the last commit of such results, and a crash leaves what it left of them
   pub record Follows (results : Held (FileStore D g)) (store : FileStore D g) : Type 0 where
@@ -44,7 +50,7 @@ module _ {D : Type 0} {g : disk.Ghosts D} where
   -- a store has the runs that a file held, which lists the tables of schema 2, or has those of results that were taken of it
   pub record Finds (image : Image) (store : FileStore D g) : Type 0 where
     pub held : OpensRuns image store
-    pub whose : Lists image store ⊎ ((results : Held (FileStore D g)) × AreOver image results × Follows results store)
+    pub whose : Lists image store ⊎ ((results : Held (FileStore D g)) × AreOfFile image results × Follows results store)
 
   -- a store ended with these two files of its own, of which the database file alone has the last commit, also after a crash
   pub record Ends (store : FileStore D g) : Type 0 where

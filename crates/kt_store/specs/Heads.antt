@@ -1,12 +1,7 @@
 -- What a call shows of runs and of entries: the heads of runs, entries without their pairs and outputs, and these.
 use Rattle.std.specs.Prelude.{ℕ, ◌==◌, List, [], Option, Some, None}
-use Rattle.std.specs.List.{find}
-use Rattle.kt_base.specs.declared.entry.Entry.{Entry}
 use Rattle.kt_base.specs.declared.entry.Output.{Output}
-use Rattle.kt_base.specs.declared.entry.Run.{Run}
-use Rattle.kt_base.specs.declared.variable.Variable.{Variable}
-use Rattle.kt_store.specs.declared.result_store.CaseOutputs.{CaseOutputs}
-use Rattle.kt_store.specs.declared.result_store.RunHead.{RunHead}
+use Rattle.kt_store.specs.Types.{CaseOutputs, Entry, Run, RunHead, Variable, find}
 
 -- a run without its entries
 abbrev pub head_of : Run → RunHead

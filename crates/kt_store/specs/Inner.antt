@@ -1,7 +1,5 @@
 -- What private functions do: no public clause cites it.
 pub mod Ask
-pub mod Attaching
-pub mod Calls
 pub mod Cursors
 pub mod Edits
 pub mod Fault
@@ -10,7 +8,6 @@ pub mod Kept
 pub mod Known
 pub mod NewFiles
 pub mod Opening
-pub mod Places
 pub mod Runs
 pub mod SupposedLaws
 pub mod Transactions

@@ -1,22 +1,9 @@
 -- The rows of a list of runs.
 use Rattle.std.specs.Prelude.{◌≡◌, ℕ, zero, suc, nat_lt, nat_le, ◌==◌, slice_get, Option, None, ◌<◌, ◌≤◌, ℤ, pos, Bool, true, false, if◌then◌else◌, List, [], ◌∷◌, length, map, drop, flat_map, Some, codes, IsPermutation, ⊤, ◌⊎◌}
-use Rattle.std.specs.List.{AllByRecursion, list_any}
-use Rattle.sqlite.specs.declared.types.Value.TheVariants.{Null, Int, Text, Blob}
-use Rattle.sqlite.specs.Order.{Row}
-use Rattle.sqlite.specs.Effect.{Database, IsDatabase}
-use Rattle.sqlite.specs.Tree.{Trees}
-use Rattle.sqlite_trees.specs.Tree.{IsAscending}
-use Rattle.kt_base.specs.Limits.{last_run}
 use Rattle.kt_base.specs.declared.verdict.Kind.{Kind}
-use Rattle.kt_base.specs.declared.verdict.Kind.TheVariants.{Passed, Skipped, ExpectedFailure, Failed, Broken}
-use Rattle.kt_base.specs.declared.entry.Entry.{Entry}
-use Rattle.kt_base.specs.declared.entry.Run.{Run}
-use Rattle.kt_base.specs.declared.variable.Variable.{Variable}
-use Rattle.kt_store.specs.declared.store_fault.StoreFault.{StoreFault}
-use Rattle.kt_store.specs.declared.store_fault.StoreFault.TheVariants.{NoRun, RunClosed, BadPosition, RepeatedPosition, Incomplete}
 use Rattle.kt_store.specs.Tables.{schema_1, schema_2}
-use Rattle.kt_base.specs.Utf8.{utf8}
 use Rattle.std.specs.Str.{chars, IsUtf8}
+use Rattle.kt_store.specs.Types.{AllByRecursion, BadPosition, Blob, Broken, Database, Entry, ExpectedFailure, Failed, Incomplete, Int, IsAscending, IsDatabase, NoRun, Null, Passed, RepeatedPosition, Row, Run, RunClosed, Skipped, StoreFault, Text, Trees, Variable, last_run, list_any, utf8}
 
 -- the number by which a kind is stored
 abbrev pub kind_code : Kind → ℕ

@@ -1,14 +1,8 @@
 -- When a store whose trees are read stands for a list of runs.
 use Rattle.std.specs.Prelude.{List, IsTrue}
 use Rattle.sqlite_disk.specs.declared.Disk as disk
-use Rattle.sqlite_wal.specs.Recovery.{Image}
-use Rattle.sqlite_trees.specs.Tree.{Trees}
-use Rattle.sqlite_trees.specs.View.{View, IsClean}
-use Rattle.sqlite_store.specs.declared.store.FileStore.{FileStore}
-use Rattle.sqlite_store.specs.FileStore.{view, recovers}
-use Rattle.sqlite.specs.Files.{HoldsDatabase}
-use Rattle.kt_base.specs.declared.entry.Run.{Run}
 use Rattle.kt_store.specs.Runs.{AreNumbered, AreOrdered, Keeps}
+use Rattle.kt_store.specs.Types.{FileStore, HoldsDatabase, Image, IsClean, Run, Trees, View, recovers, view}
 
 -- while the store is open, its last commit is a database with these runs
 abbrev pub HasCommitted : View → List Run → Type 0

@@ -1,18 +1,12 @@
 -- What a call of a store does to its runs, by its answer.
 use Rattle.std.specs.Prelude.{suc, List, [], ◌∷◌, ◌++◌, ◌≡◌, ◌<◌, ◌≤◌, ◌⊎◌, Some, None, Ok, Err, length, map}
-use Rattle.sqlite.specs.Held.{Held, state}
-use Rattle.sqlite.specs.State.{HasCleanDisk}
-use Rattle.sqlite.specs.Store.{Ghosts}
-use Rattle.kt_base.specs.Limits.{last_run}
-use Rattle.kt_base.specs.declared.entry.Entry.{Entry}
-use Rattle.kt_base.specs.declared.entry.Run.{Run}
 use Rattle.kt_store.specs.Ask.{IsStoreFault}
 use Rattle.kt_store.specs.Heads.{head_of, outlined, pairs_of, outputs_of, entry_at}
 use Rattle.kt_store.specs.Runs.{AreNumbered, AreOrdered, KeepsOne, new_run, run_at, with_entry, put_refusal, finish, finish_refusal}
 use Rattle.kt_store.specs.Stands.{Leaves, StandsFor}
 use Rattle.kt_store.specs.StoreCalls.{StoreCall, Began, Put, Finished, Heads, Outline, Pairs, Outputs}
 use Rattle.kt_store.specs.declared.result_store.Keeping as store
-use Rattle.kt_store.specs.declared.store_fault.StoreFault.TheVariants.{StoreFull, NoRun}
+use Rattle.kt_store.specs.Types.{Entry, Ghosts, HasCleanDisk, Held, NoRun, Run, StoreFull, last_run, state}
 
 -- the runs after a call: one that is refused changes nothing
 abbrev pub changed_by : StoreCall → List Run → List Run

@@ -1,18 +1,12 @@
 -- When a connection stands for a list of runs.
 use Rattle.std.specs.Prelude.{◌≡◌, false, Ok, ℕ, List, ℤ, pos, IsTrue}
-use Rattle.sqlite.specs.Effect.{Database}
-use Rattle.sqlite.specs.Listing.{understood}
-use Rattle.sqlite.specs.Tree.{Trees}
-use Rattle.sqlite.specs.Held.{Held, state}
-use Rattle.sqlite.specs.State.{State, HasCleanDisk}
-use Rattle.sqlite.specs.Store.{Ghosts}
 use Rattle.sqlite_resolve.specs.declared.compiled.Compiled.{Compiled}
-use Rattle.kt_base.specs.declared.entry.Run.{Run}
 use Rattle.sqlite.specs.Table.{Table}
 use Rattle.sqlite_schema.specs.declared.schema.Index.{Index}
 use Rattle.sqlite_schema.specs.declared.schema.View.{View}
 use Rattle.kt_store.specs.Tables.{no_schema, beside_meta, runs_text, entries_text, pairs_text}
 use Rattle.kt_store.specs.Runs.{SaysIn, Tables, OldTables}
+use Rattle.kt_store.specs.Types.{Database, Ghosts, HasCleanDisk, Held, Run, State, Trees, state, understood}
 
 -- no transaction is open, and the last commit is what is seen, with P
 pub record IsSettled (P : Database → Type 0) (s : State) : Type 0 where
@@ -20,9 +14,9 @@ pub record IsSettled (P : Database → Type 0) (s : State) : Type 0 where
   pub settled : s.committed ≡ s.now
   pub tables : P s.now
 
--- the same while the disk returns what was written and the connection is open
-abbrev pub Holds : (Database → Type 0) → State → Type 0
-Holds P s = HasCleanDisk s → IsTrue s.is_open → IsSettled P s
+-- the connection is settled with P, while the disk returns what was written and the connection is open
+abbrev pub WhileOpen : (Database → Type 0) → State → Type 0
+WhileOpen P s = HasCleanDisk s → IsTrue s.is_open → IsSettled P s
 
 -- the tables hold these runs
 abbrev pub IsStore : State → List Run → Type 0
@@ -30,19 +24,19 @@ IsStore s runs = IsSettled (λ db. Tables db runs) s
 
 -- while the disk returns what was written and the connection is open, the tables stand for these runs
 abbrev pub StandsFor : State → List Run → Type 0
-StandsFor s runs = Holds (λ db. Tables db runs) s
+StandsFor s runs = WhileOpen (λ db. Tables db runs) s
 
 -- what holds of the runs that the tables stood for before a call, if the disk returns what was written after it
 abbrev pub OnRuns : {S : Type 0} → Ghosts S → Held S → Held S → (List Run → Type 0) → Type 0
 OnRuns g old new P = (runs : List Run) → StandsFor (state g old) runs → HasCleanDisk (state g new) → P runs
 
--- the same of the tables of schema 1
+-- while the disk returns what was written and the connection is open, the tables of schema 1 stand for these runs
 abbrev pub StandsInOld : State → List Run → Type 0
-StandsInOld s runs = Holds (λ db. OldTables db runs) s
+StandsInOld s runs = WhileOpen (λ db. OldTables db runs) s
 
--- the same of a database with no table yet
+-- while the disk returns what was written and the connection is open, the database has no table
 abbrev pub IsEmpty : State → Type 0
-IsEmpty s = Holds (λ db. db.schema ≡ no_schema) s
+IsEmpty s = WhileOpen (λ db. db.schema ≡ no_schema) s
 
 -- a crash at this moment leaves trees with P
 abbrev pub Leaves : State → (Trees → Type 0) → Type 0
@@ -56,7 +50,7 @@ pub record SaysNumber (n : ℤ) (s : State) : Type 0 where
   pub schema : s.now.schema ≡ beside_meta others indexes views
   pub marked : SaysIn n s.now.trees
 
--- the same while the disk returns what was written and the connection is open
+-- while the disk returns what was written and the connection is open, the tables say this number
 abbrev pub SaysSchema : ℤ → State → Type 0
 SaysSchema n s = HasCleanDisk s → IsTrue s.is_open → SaysNumber n s
 

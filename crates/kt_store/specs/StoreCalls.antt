@@ -1,10 +1,6 @@
 -- What is asked of a store of runs, and what it answers.
 use Rattle.std.specs.Prelude.{ℕ, List, Result, Ok, Err}
-use Rattle.kt_base.specs.declared.entry.Entry.{Entry}
-use Rattle.kt_base.specs.declared.variable.Variable.{Variable}
-use Rattle.kt_store.specs.declared.result_store.CaseOutputs.{CaseOutputs}
-use Rattle.kt_store.specs.declared.result_store.RunHead.{RunHead}
-use Rattle.kt_store.specs.declared.store_fault.StoreFault.{StoreFault}
+use Rattle.kt_store.specs.Types.{CaseOutputs, Entry, RunHead, StoreFault, Variable}
 
 -- a call with its answer: a run of a total begins at a moment, an entry is put, a run is finished, all heads are read, the entries of a run
 -- without their pairs and outputs, or the pairs or the outputs of its entry at a position

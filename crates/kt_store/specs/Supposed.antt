@@ -1,19 +1,12 @@
 -- What is supposed of files that list the tables of results.
 use Rattle.std.specs.Prelude.{◌≡◌, ℕ, pos, List, [], ◌∷◌, map, codes}
-use Rattle.sqlite_pages.specs.PageMap.{PageMap}
 use Rattle.sqlite_pool.specs.File.{in_use}
-use Rattle.sqlite_pool.specs.Stored.{Recovers}
 use Rattle.sqlite_store.specs.Db.{rows_at}
-use Rattle.sqlite_trees.specs.Tree.{Trees}
 use Rattle.sqlite_trees.specs.declared.store.Shape.TheVariants.{Table}
-use Rattle.sqlite_value.specs.declared.value.Value.TheVariants.{Null, Int, Text}
-use Rattle.sqlite_value.specs.Order.{Row}
-use Rattle.sqlite_wal.specs.Recovery.{Image}
-use Rattle.sqlite.specs.Files.{HoldsDatabase}
 use Rattle.sqlite.specs.Opening.{unrooted}
-use Rattle.kt_base.specs.declared.entry.Run.{Run}
 use Rattle.kt_store.specs.Runs.{Keeps}
 use Rattle.kt_store.specs.Tables.{create_meta, create_runs, create_entries, create_props}
+use Rattle.kt_store.specs.Types.{HoldsDatabase, Image, Int, Null, PageMap, Recovers, Row, Run, Text, Trees}
 
 -- a table in the list of objects, less its root page: its rowid, type, name, table and text
 abbrev pub table_object : ℕ → List ℕ → List ℕ → Row

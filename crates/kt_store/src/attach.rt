@@ -1,5 +1,5 @@
 ghost use Rattle.std.specs.Prelude.{◌≡◌, ◌≢◌, ◌⊎◌, ◌<◌, ℤ, pos, true, false, [], IfOk, OnOk, OnErr, IfErr};
-ghost use Rattle.kt_store.specs.Common.{HasCleanDisk, IsLive, IsUnchanged, state, Rests, IsStoreFault, Blank, Older, IsOf, Takes, Refuses, HasNumber, WasClean, CommitsNothing, AsksNumber, LeavesSchema, FindsTables, SaysSchema, IsUnderstood, runs_text, entries_text, pairs_text};
+ghost use Rattle.kt_store.specs.Common.{HasCleanDisk, IsLive, IsUnchanged, state, Rests, IsStoreFault, Blank, Older, IsOf, TakesTables, Refuses, HasNumber, WasClean, CommitsNothing, AsksNumber, LeavesSchema, FindsTables, SaysSchema, IsUnderstood, runs_text, entries_text, pairs_text};
 
 use crate::StoreFault;
 use crate::batch::Texts;
@@ -31,7 +31,7 @@ pub(crate) fn lives<S: Alter>(conn: &Connection<S>)
 /// Makes the tables in an empty database, in one commit.
 pub(crate) fn create<S: Alter>(conn: &mut Connection<S>) -> Result<(), StoreFault>
     ensures taken { IsOf Blank (state S.Store conn.old)
-        → OnOk result (Takes Blank (state S.Store conn.old) (state S.Store conn.new)) }
+        → OnOk result (TakesTables Blank (state S.Store conn.old) (state S.Store conn.new)) }
     ensures refused { IsOf Blank (state S.Store conn.old)
         → IfErr result (Refuses Blank (state S.Store conn.old) (state S.Store conn.new)) }
     ensures earlier { WasClean S.Store conn.old conn.new }
@@ -131,7 +131,7 @@ pub(crate) fn is_old<S: Alter>(conn: &mut Connection<S>) -> Result<bool, StoreFa
 /// Takes a database of schema 1 to schema 2, in one commit.
 pub(crate) fn renew<S: Alter>(conn: &mut Connection<S>) -> Result<(), StoreFault>
     ensures taken { (runs : _) → IsOf (Older runs) (state S.Store conn.old)
-        → OnOk result (Takes (Older runs) (state S.Store conn.old) (state S.Store conn.new)) }
+        → OnOk result (TakesTables (Older runs) (state S.Store conn.old) (state S.Store conn.new)) }
     ensures refused { (runs : _) → IsOf (Older runs) (state S.Store conn.old)
         → IfErr result (Refuses (Older runs) (state S.Store conn.old) (state S.Store conn.new)) }
     ensures earlier { WasClean S.Store conn.old conn.new }
@@ -148,7 +148,7 @@ pub(crate) fn renew<S: Alter>(conn: &mut Connection<S>) -> Result<(), StoreFault
 /// Takes the tables of a database that has some, and those of schema 1 to schema 2.
 pub(crate) fn take<S: Alter>(conn: &mut Connection<S>) -> Result<(), StoreFault>
     ensures taken { (was : _) → HasNumber was → IsOf was (state S.Store conn.old)
-        → OnOk result (Takes was (state S.Store conn.old) (state S.Store conn.new)) }
+        → OnOk result (TakesTables was (state S.Store conn.old) (state S.Store conn.new)) }
     ensures refused { (was : _) → HasNumber was → IsOf was (state S.Store conn.old)
         → IfErr result (Refuses was (state S.Store conn.old) (state S.Store conn.new)) }
     ensures earlier { WasClean S.Store conn.old conn.new }
@@ -164,7 +164,7 @@ pub(crate) fn take<S: Alter>(conn: &mut Connection<S>) -> Result<(), StoreFault>
 /// Makes the tables in an empty database, or takes those that are there.
 pub(crate) fn settle<S: Alter>(conn: &mut Connection<S>) -> Result<(), StoreFault>
     ensures taken { (was : _) → IsOf was (state S.Store conn.old)
-        → OnOk result (Takes was (state S.Store conn.old) (state S.Store conn.new)) }
+        → OnOk result (TakesTables was (state S.Store conn.old) (state S.Store conn.new)) }
     ensures refused { (was : _) → IsOf was (state S.Store conn.old)
         → IfErr result (Refuses was (state S.Store conn.old) (state S.Store conn.new)) }
     ensures due { IfErr result (λ e. IsStoreFault e ⊎ (e ≡ StoreFault.UnknownSchema)) }

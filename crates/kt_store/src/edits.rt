@@ -1,7 +1,7 @@
 //! Runs and entries that are written into the trees of a store, without a commit.
 
 ghost use Rattle.std.specs.Prelude.{◌≡◌, ◌⊎◌, ◌<◌, ◌≤◌, ◌^◌, [], ◌∷◌, map, suc, length, Some, None, Ok, Err, false, IfOk, IfErr, OnOk};
-ghost use Rattle.kt_store.specs.Common.{AllByRecursion, Began, CanAdd, Ended, Fills, Finished, HoldsCommit, IsBareIfPassed, IsComplete, IsMoment, IsPair, IsStorable, IsStoreFault, IsText, Looks, LooksThrough, Obeys, OnTrees, Put, PutsRows, Run, StandAt, Wrote, done_row, entry_row, finish_refusal, last_run, owned, pair_row, pair_rows_from, put_refusal, run_at, run_row, unnumbered};
+ghost use Rattle.kt_store.specs.Common.{AllByRecursion, Began, CanAdd, Finished, IsBareIfPassed, IsComplete, IsMoment, IsPair, IsStorable, IsStoreFault, IsText, Looks, LooksThrough, Obeys, OnTrees, Put, PutsRows, Run, StandAt, Wrote, done_row, entry_row, finish_refusal, last_run, owned, pair_row, pair_rows_from, put_refusal, run_at, run_row, unnumbered};
 ghost use Rattle.sqlite_trees.specs.Tree.{Trees};
 ghost use Rattle.sqlite_trees.specs.View.{IsClean};
 ghost use Rattle.sqlite_catalog.specs.Listing.{IsSound};
@@ -11,12 +11,12 @@ use crate::ends::{check_last, entry_place};
 use crate::heads::add;
 use crate::lookup::{MOST_RUNS, key};
 use crate::places::Places;
-use crate::put::{code, reason_of};
+use crate::put::reason_of;
 use crate::seeks::{entries_at, last_number, stored_head, stored_run};
 use crate::store_fault::Trouble;
-use crate::store_fault::rules::put_rows;
+use crate::store_fault::rules::{TableEdit, put_rows};
 use crate::store_fault::trees::{count_under, number_row};
-use crate::value::{blob, int, text};
+use crate::value::{blob, code, int, text};
 use kt_base::{Entry, NoMemory, Text, Variable};
 use sqlite_rules::error::Rowids;
 use sqlite_schema::schema::Schema;
@@ -162,16 +162,14 @@ pub(crate) fn write_run<S: Alter>(
             int(0),
         ],
     )?;
-    put_rows(
-        store,
-        alloc,
-        schema,
-        places.runs.at,
-        &[],
-        Rowids::Chosen,
-        0,
-        slice::from_ref(&row),
-    )?;
+    let edit = TableEdit {
+        place: places.runs.at,
+        gone: &[],
+        rowids: Rowids::Chosen,
+        from: 0,
+        sources: slice::from_ref(&row),
+    };
+    put_rows(store, alloc, schema, edit)?;
     Ok(number)
 }
 
@@ -209,56 +207,6 @@ fn check_entry<S: Alter>(
     Ok(())
 }
 
-/// Writes an entry and its pairs into a run that takes it.
-fn fill<S: Alter>(
-    store: &mut S,
-    alloc: Global,
-    schema: &Schema,
-    places: Places,
-    run: u32,
-    entry: &Entry,
-    reason: &Text,
-) -> Result<(), Trouble>
-    requires reason { reason.now ≡ entry.now.verdict.reason }
-    requires moments { IsStorable entry.now }
-    requires obeys { IsClean (S.Store.view store.old)
-        → Obeys (S.Store.view store.old) schema.now }
-    ensures filled { IsClean (S.Store.view store.new)
-        → OnOk result (Fills schema.now places run entry.now (S.Store.view store.old).trees
-        (S.Store.view store.new).trees) }
-    ensures obeys { IsClean (S.Store.view store.new)
-        → OnOk result (Obeys (S.Store.view store.new) schema.now) }
-    ensures held { IsClean (S.Store.view store.new)
-        → HoldsCommit (S.Store.view store.old) (S.Store.view store.new) }
-    ensures clean { IsClean (S.Store.view store.new) → IsClean (S.Store.view store.old) }
-    ensures outcomes { (db : Trees) → S.Store.recovers store.new db
-        → S.Store.recovers store.old db }
-{
-    let row = row_of_entry(alloc, run, entry, reason)?;
-    put_rows(
-        store,
-        alloc,
-        schema,
-        places.entries.at,
-        &[],
-        Rowids::Chosen,
-        0,
-        slice::from_ref(&row),
-    )?;
-    let pairs = rows_of_pairs(alloc, run, entry.position, entry.meta.as_slice())?;
-    put_rows(
-        store,
-        alloc,
-        schema,
-        places.props.at,
-        &[],
-        Rowids::Chosen,
-        0,
-        pairs.as_slice(),
-    )?;
-    Ok(())
-}
-
 /// Writes an entry and its pairs into a run, if it takes them.
 pub(crate) fn write_entry<S: Alter>(
     store: &mut S,
@@ -276,7 +224,25 @@ pub(crate) fn write_entry<S: Alter>(
 {
     let reason = reason_of(alloc, entry)?;
     check_entry(store, alloc, places, run, entry)?;
-    fill(store, alloc, schema, places, key(run), entry, &reason)?;
+    let number = key(run);
+    let row = row_of_entry(alloc, number, entry, &reason)?;
+    let edit = TableEdit {
+        place: places.entries.at,
+        gone: &[],
+        rowids: Rowids::Chosen,
+        from: 0,
+        sources: slice::from_ref(&row),
+    };
+    put_rows(store, alloc, schema, edit)?;
+    let pairs = rows_of_pairs(alloc, number, entry.position, entry.meta.as_slice())?;
+    let edit = TableEdit {
+        place: places.props.at,
+        gone: &[],
+        rowids: Rowids::Chosen,
+        from: 0,
+        sources: pairs.as_slice(),
+    };
+    put_rows(store, alloc, schema, edit)?;
     Ok(())
 }
 
@@ -342,38 +308,14 @@ pub(crate) fn write_finish<S: Alter>(
 {
     let row = check_run(store, alloc, places, run)?;
     let done = finished_row(alloc, &row)?;
-    put_rows(
-        store,
-        alloc,
-        schema,
-        places.runs.at,
-        &[key(run) as i64],
-        Rowids::Given,
-        1,
-        slice::from_ref(&done),
-    )?;
-    Ok(())
-}
-
-/// Commits what was written. If it was refused, or the commit fails, the transaction goes back to the last commit.
-pub(crate) fn ended<S: Alter, T: Drop>(
-    store: &mut S,
-    written: Result<T, StoreFault>,
-) -> Result<T, StoreFault>
-    ensures { Ended S.Store store.old store.new written result }
-{
-    let value = match written {
-        Ok(value) => value,
-        Err(fault) => {
-            store.rollback();
-            return Err(fault);
-        }
+    let gone = [key(run) as i64];
+    let edit = TableEdit {
+        place: places.runs.at,
+        gone: &gone,
+        rowids: Rowids::Given,
+        from: 1,
+        sources: slice::from_ref(&done),
     };
-    match store.commit() {
-        Ok(()) => Ok(value),
-        Err(error) => {
-            store.rollback();
-            Err(StoreFault::from(error))
-        }
-    }
+    put_rows(store, alloc, schema, edit)?;
+    Ok(())
 }

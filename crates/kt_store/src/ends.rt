@@ -68,7 +68,7 @@ fn is_last_row_placed<S: Store>(
     Ok(count == 1)
 }
 
-/// The same, of a table whose last row has a place. Else it is damaged.
+/// The last place of the index of a table, whose last row has a place. Else the table is damaged.
 fn end_of<S: Store>(store: &mut S, alloc: Global, table: &Table) -> Result<Row, Trouble>
     ensures looks { Looks S.Store store.old store.new }
 {
@@ -146,7 +146,7 @@ fn last_head<S: Store>(
     stored_head(alloc, &row)
 }
 
-/// The same of a run that goes on from the last one, by its number.
+/// Asks whether the tables end with the last run, of which this is the number: before a run begins after it.
 pub(crate) fn check_last<S: Store>(
     store: &mut S,
     alloc: Global,

@@ -1,4 +1,4 @@
-ghost use Rattle.std.specs.Prelude.{◌≡◌, ◌<◌, ◌≤◌, pos, ℕ, length, map, List, ◌++◌, Some, IfOk};
+ghost use Rattle.std.specs.Prelude.{◌≡◌, ◌<◌, ◌≤◌, pos, ℕ, length, map, List, ◌++◌, IfOk};
 ghost use Rattle.kt_store.specs.Common.{utf8, AllByRecursion, AreWide, Blob, Int, column, no_output, IsEntry, IsPair, IsText, entry_columns, kind_code, outlined, pair_columns, whole_columns};
 ghost use Rattle.kt_base.specs.declared.entry.Entry.{Entry as Stored};
 ghost use Rattle.kt_base.specs.declared.verdict.Kind.{Kind as Sort};
@@ -11,7 +11,7 @@ use crate::heads::add;
 use crate::store_fault::Trouble;
 use crate::store_fault::statements::value_in;
 use crate::store_fault::trees::present;
-use crate::value::{number_in, small_in};
+use crate::value::{kind_of, number_in, small_in};
 use kt_base::{Bytes, Entry, Kind, Output, Text, Variable, Variables, Verdict};
 use sqlite::Row;
 use std::alloc::Global;
@@ -23,20 +23,6 @@ fn text_in(row: &Row, at: usize) -> Result<Text, Trouble>
 {
     let string = value_in::<String>(row, at)?;
     Ok(Text::from_string(string))
-}
-
-/// The kind with this number (docs/formats/store.md).
-fn kind_of(code: u64) -> Option<Kind>
-    ensures { (k : Sort) → code ≡ kind_code k → result ≡ Some k }
-{
-    match code {
-        0 => Some(Kind::Passed),
-        1 => Some(Kind::Skipped),
-        2 => Some(Kind::ExpectedFailure),
-        3 => Some(Kind::Failed),
-        4 => Some(Kind::Broken),
-        _ => None,
-    }
 }
 
 /// The kind in a row.

@@ -1,28 +1,15 @@
 ghost use Rattle.std.specs.Prelude.{◌≡◌, ◌⊎◌, Some, None, IfOk, ◌<◌, ◌≤◌, ◌^◌, OnOk, OnErr, IfErr};
-ghost use Rattle.kt_store.specs.Common.{OnRuns, last_run, IsStorable, IsStoreFault, KeepsRuns, Looked, Changes, MayChange, CommitsLater, RunsAll, RunsOne, CanAdd, IsBareIfPassed, with_entry, kind_code, put_refusal, entry_statements, pair_statement, pair_statements};
+ghost use Rattle.kt_store.specs.Common.{OnRuns, last_run, IsStorable, IsStoreFault, KeepsRuns, Looked, Changes, MayChange, CommitsLater, RunsAll, RunsOne, CanAdd, IsBareIfPassed, with_entry, put_refusal, entry_statements, pair_statement, pair_statements};
 
 use crate::StoreFault;
 use crate::batch::Batch;
 use crate::lookup::{key, look, there};
 use crate::store_fault::Trouble;
 use crate::store_fault::statements::{commit, step};
-use crate::value::{blob, int, text};
-use kt_base::{Entry, Kind, NoMemory, Text, Variable};
+use crate::value::{blob, code, int, text};
+use kt_base::{Entry, NoMemory, Text, Variable};
 use sqlite::{Alter, Connection, Transaction};
 use std::alloc::Global;
-
-pub(crate) fn code(kind: Kind) -> u64
-    ensures value { result ≡ kind_code kind }
-    ensures low { result < 5 }
-{
-    match kind {
-        Kind::Passed => 0,
-        Kind::Skipped => 1,
-        Kind::ExpectedFailure => 2,
-        Kind::Failed => 3,
-        Kind::Broken => 4,
-    }
-}
 
 /// The text of the reason.
 pub(crate) fn reason_of(alloc: Global, entry: &Entry) -> Result<Text, NoMemory>

@@ -12,8 +12,8 @@ use sqlite::{Alter, Connection, FileFrom, FileStore, Start};
 use std::alloc::Global;
 use std::marker::Model;
 
-/// The runs that are kept in the tables of a database (docs/formats/store.md). A contract sees the
-/// connection; what is said of it holds while the disk returns what was written, nobody else
+/// The runs that are kept in the tables of a database (docs/formats/store.md). The program opens files by it that are not of
+/// schema 2, and writes by `RunsFile`. A contract sees the connection; what is said of it holds while the disk returns what was written, nobody else
 /// writes the database, and the connection is open.
 #[derive(Drop)]
 pub struct Results<S: Alter> {
@@ -33,7 +33,7 @@ impl<S: Alter> Model for Results<S> {
 
 impl<S: Alter> Results<S> {
     ghost use Rattle.std.specs.Prelude.{◌≡◌, ◌⊎◌, Some, None, IfOk, IfErr};
-    ghost use Rattle.kt_store.specs.Common.{OnRuns, state, IsMoment, IsStorable, IsStoreFault, IsOf, Takes, Refuses, Reads, Serves, Began, Put, Finished, Heads, results, run_at, seen_as};
+    ghost use Rattle.kt_store.specs.Common.{OnRuns, state, IsMoment, IsStorable, IsStoreFault, IsOf, TakesTables, Refuses, Reads, Serves, Began, Put, Finished, Heads, results, run_at, seen_as};
 
     /// Takes the tables of a database; in an empty one it makes them, in one commit, and so it takes those of schema 1
     /// to schema 2. A refusal hands the connection back: `UnknownSchema` where the tables say a number other than 1 and
@@ -43,7 +43,7 @@ impl<S: Alter> Results<S> {
         connection: Connection<S>,
     ) -> Result<Results<S>, (StoreFault, Connection<S>)>
         ensures taken { (was : _) → IsOf was (state S.Store connection)
-            → IfOk result (λ r. Takes was (state S.Store connection) (state S.Store r)) }
+            → IfOk result (λ r. TakesTables was (state S.Store connection) (state S.Store r)) }
         ensures refused { (was : _) → IsOf was (state S.Store connection)
             → IfErr result (λ e. Refuses was (state S.Store connection) (state S.Store e.1) e.0) }
         // Of any database.
@@ -126,12 +126,12 @@ impl<S: Alter> Results<S> {
 
 impl<S: Start> Results<FileStore<FileFrom<S>>> {
     ghost use Rattle.std.specs.Prelude.{◌≡◌, ◌⊎◌, IfOk, IfErr};
-    ghost use Rattle.kt_store.specs.Common.{image_at, IsStoreFault, AreOver};
+    ghost use Rattle.kt_store.specs.Common.{image_at, IsStoreFault, AreOfFile};
 
     /// Opens the results in a file, which is made where there is none. `S` stands for what the file
     /// held, which no code reads. `UnknownSchema` where the tables say a number other than 1 and 2.
     pub(crate) fn open(rt: &HostRuntime, file: &Text, start: S) -> Result<Self, StoreFault>
-        ensures opened { IfOk result (AreOver (image_at S.Start)) }
+        ensures opened { IfOk result (AreOfFile (image_at S.Start)) }
         ensures due { IfErr result (λ e. IsStoreFault e ⊎ (e ≡ StoreFault.UnknownSchema)) }
     {
         prepare(rt, file);

@@ -1,5 +1,5 @@
 ghost use Rattle.std.specs.Prelude.{◌≡◌, false, IsTrue, IfOk, IfErr, IfSome};
-ghost use Rattle.kt_store.specs.Common.{IsStoreFault};
+ghost use Rattle.kt_store.specs.Common.{Ended};
 ghost use Rattle.sqlite_catalog.specs.Listing.{IsSound, Lists};
 ghost use Rattle.sqlite_schema.specs.declared.schema.Schema.{Schema as Tables};
 ghost use Rattle.sqlite_trees.specs.Objects.{catalog_tree};
@@ -7,7 +7,7 @@ ghost use Rattle.sqlite_trees.specs.View.{IsClean};
 
 use crate::attach::lives;
 use crate::by_name::places_in;
-use crate::edits::{ended, write_entry, write_finish, write_run};
+use crate::edits::{write_entry, write_finish, write_run};
 use crate::opening::{close_store, open_known};
 use crate::places::Places;
 use crate::seeks::{find_outputs, find_pairs, heads, outline};
@@ -86,7 +86,7 @@ impl<S: Alter + Drop> RunsFile<S> {
     ghost use Rattle.sqlite_trees.specs.Tree.{Trees};
     ghost use Rattle.sqlite_trees.specs.View.{IsClean};
 
-    /// The same results, by their trees. What a transaction of the connection wrote is undone.
+    /// The results of a connection, by their trees. What a transaction of the connection wrote is undone.
     pub fn of(results: Results<S>) -> Result<RunsFile<S>, StoreFault>
         ensures stands { IfOk result (λ r. (runs : List Run)
             → StandsFor (state S.Store results) runs → HasCommitted (S.Store.view r) runs) }
@@ -188,6 +188,29 @@ impl<S: Alter> Keeping for RunsFile<S> {
     ghost ordered = { λ s runs h sound. h.2 sound };
 }
 
+/// Commits what was written. If it was refused, or the commit fails, the transaction goes back to the last commit.
+fn committed<S: Alter, T: Drop>(
+    store: &mut S,
+    written: Result<T, StoreFault>,
+) -> Result<T, StoreFault>
+    ensures { Ended S.Store store.old store.new written result }
+{
+    let value = match written {
+        Ok(value) => value,
+        Err(fault) => {
+            store.rollback();
+            return Err(fault);
+        }
+    };
+    match store.commit() {
+        Ok(()) => Ok(value),
+        Err(error) => {
+            store.rollback();
+            Err(StoreFault::from(error))
+        }
+    }
+}
+
 impl<S: Alter> ResultStore for RunsFile<S> {
     fn begin(&mut self, total: u32, moment: u64) -> Result<u64, StoreFault> {
         let written = write_run(
@@ -198,7 +221,7 @@ impl<S: Alter> ResultStore for RunsFile<S> {
             total,
             moment,
         );
-        ended(&mut self.store, written)
+        committed(&mut self.store, written)
     }
 
     fn put(&mut self, run: u64, entry: &Entry) -> Result<(), StoreFault> {
@@ -210,12 +233,12 @@ impl<S: Alter> ResultStore for RunsFile<S> {
             run,
             entry,
         );
-        ended(&mut self.store, written)
+        committed(&mut self.store, written)
     }
 
     fn finish(&mut self, run: u64) -> Result<(), StoreFault> {
         let written = write_finish(&mut self.store, self.alloc, &self.schema, self.places, run);
-        ended(&mut self.store, written)
+        committed(&mut self.store, written)
     }
 
     fn runs(&mut self) -> Result<Vec<RunHead>, StoreFault> {

@@ -1,10 +1,11 @@
-ghost use Rattle.std.specs.Prelude.{◌≡◌, ◌<◌, ◌^◌, pos, length, IfOk};
-ghost use Rattle.kt_store.specs.Common.{utf8, owned, Int, Blob, IsText, column};
+ghost use Rattle.std.specs.Prelude.{◌≡◌, ◌<◌, ◌^◌, Some, pos, length, IfOk};
+ghost use Rattle.kt_base.specs.declared.verdict.Kind.{Kind as Sort};
+ghost use Rattle.kt_store.specs.Common.{utf8, owned, Int, Blob, IsText, column, kind_code};
 ghost use Rattle.sqlite_value.specs.declared.value.Value.TheVariants.{Text as Words};
 
 use crate::store_fault::Trouble;
 use crate::store_fault::statements::value_in;
-use kt_base::{Bytes, Text};
+use kt_base::{Bytes, Kind, Text};
 use sqlite::Row;
 use sqlite_value::value::ValueRef;
 
@@ -28,6 +29,34 @@ pub(crate) fn blob(bytes: &Bytes) -> ValueRef<'_>
     ensures { owned result ≡ Blob bytes.entry.now }
 {
     ValueRef::Blob(bytes.as_slice())
+}
+
+/// The number by which a kind is stored (docs/formats/store.md).
+pub(crate) fn code(kind: Kind) -> u64
+    ensures value { result ≡ kind_code kind }
+    ensures low { result < 5 }
+{
+    match kind {
+        Kind::Passed => 0,
+        Kind::Skipped => 1,
+        Kind::ExpectedFailure => 2,
+        Kind::Failed => 3,
+        Kind::Broken => 4,
+    }
+}
+
+/// The kind that is stored by this number.
+pub(crate) fn kind_of(code: u64) -> Option<Kind>
+    ensures { (k : Sort) → code ≡ kind_code k → result ≡ Some k }
+{
+    match code {
+        0 => Some(Kind::Passed),
+        1 => Some(Kind::Skipped),
+        2 => Some(Kind::ExpectedFailure),
+        3 => Some(Kind::Failed),
+        4 => Some(Kind::Broken),
+        _ => None,
+    }
 }
 
 /// A number of a row. A negative one is refused.

@@ -1,17 +1,11 @@
 -- What a statement that is prepared and run shows, and what it does.
 use Rattle.std.specs.Prelude.{◌≡◌, ◌<◌, ◌≤◌, ℕ, List, length, Result, Ok, Err}
-use Rattle.std.specs.List.{AllByRecursion}
 use Rattle.sqlite_resolve.specs.declared.compiled.Compiled.{Compiled}
 use Rattle.sqlite_resolve.specs.declared.error.CompileError.{CompileError}
 use Rattle.sqlite.specs.Command.{Command}
 use Rattle.sqlite.specs.Command.TheVariants.{Select}
-use Rattle.sqlite.specs.Order.{Row}
-use Rattle.sqlite.specs.Tree.{Trees}
-use Rattle.sqlite.specs.Store.{Ghosts}
-use Rattle.sqlite.specs.Held.{Held, state}
-use Rattle.sqlite.specs.State.{IsUnchanged, Shown, Executes, CommitsBy, CommitsShowing}
-use Rattle.kt_base.specs.declared.entry.Run.{Run}
 use Rattle.kt_store.specs.Stands.{IsStore}
+use Rattle.kt_store.specs.Types.{AllByRecursion, CommitsBy, CommitsShowing, Executes, Ghosts, Held, IsUnchanged, Row, Run, Shown, Trees, state}
 
 -- how many columns a query shows
 abbrev pub width_of : Command → ℕ

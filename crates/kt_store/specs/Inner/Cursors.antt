@@ -1,17 +1,11 @@
 -- What cursors over the trees of a store find of its runs.
 use Rattle.std.specs.Prelude.{◌≡◌, ℕ, ℤ, false, true, Bool, List, [], ◌∷◌, ◌++◌, Option, map, drop, take, filter, length, slice_get, IsTrue}
-use Rattle.std.specs.List.{AllByRecursion}
 use Rattle.std.specs.Option.{option_map}
 use Rattle.std.specs.Ordering.{is_eq}
-use Rattle.sqlite.specs.declared.types.Value.TheVariants.{Int}
-use Rattle.sqlite.specs.Order.{Row}
-use Rattle.sqlite_value.specs.Order.{column}
-use Rattle.sqlite_trees.specs.Tree.{IsIndex, Trees, rowid, has_rowid, from_key}
-use Rattle.sqlite_trees.specs.View.{View, IsClean, IsShaped, KeepsSchema}
 use Rattle.sqlite_trees.specs.declared.store.Shape.TheVariants.{Table}
-use Rattle.sqlite.specs.Store.{Ghosts}
 use Rattle.sqlite_value.specs.Keys.{plain, prefix_cmp}
 use Rattle.sqlite_sql.specs.Catalog.{entry_of}
+use Rattle.kt_store.specs.Types.{AllByRecursion, Ghosts, Int, IsClean, IsIndex, IsShaped, KeepsSchema, Row, Trees, View, column, from_key, has_rowid, rowid}
 
 -- an entry of an index begins with the key
 abbrev pub begins : Row → Row → Bool

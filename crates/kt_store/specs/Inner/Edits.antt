@@ -1,7 +1,5 @@
 -- Rows that are written into the trees of a store by the rules of its schema.
 use Rattle.std.specs.Prelude.{◌≡◌, ◌⊎◌, ℕ, pos, false, List, [], ◌∷◌, IsTrue, Some, slice_get, Result, Ok, Err, IfErr, IfOk, OnErr, OnOk, is_err, ℤ, map}
-use Rattle.sqlite_trees.specs.Tree.{Trees}
-use Rattle.sqlite_trees.specs.View.{View, IsClean}
 use Rattle.sqlite_schema.specs.declared.schema.Schema.{Schema}
 use Rattle.sqlite_schema.specs.declared.schema.Table.{Table}
 use Rattle.sqlite_schema.specs.declared.schema.Keys.TheVariants.{Enforced}
@@ -10,11 +8,6 @@ use Rattle.sqlite_rules.specs.Action.{Writes}
 use Rattle.sqlite_rules.specs.Edit.{edit_of}
 use Rattle.sqlite_rules.specs.declared.error.Rowids.{Rowids}
 use Rattle.sqlite_rules.specs.declared.error.Rowids.TheVariants.{Chosen}
-use Rattle.sqlite_value.specs.declared.value.Value.TheVariants.{Null, Int}
-use Rattle.sqlite_value.specs.Order.{Row}
-use Rattle.sqlite.specs.Store.{Ghosts}
-use Rattle.kt_base.specs.declared.entry.Entry.{Entry}
-use Rattle.kt_base.specs.declared.entry.Run.{Run}
 use Rattle.kt_store.specs.Ask.{IsStoreFault}
 use Rattle.kt_store.specs.Inner.Cursors.{HoldsCommit}
 use Rattle.kt_store.specs.Inner.Runs.{HasTexts}
@@ -23,7 +16,7 @@ use Rattle.kt_store.specs.Inner.Known.{HasRuns}
 use Rattle.kt_store.specs.Serving.{Agrees, changed_by}
 use Rattle.kt_store.specs.StoreCalls.{StoreCall}
 use Rattle.kt_store.specs.declared.places.Places.{Places}
-use Rattle.kt_store.specs.declared.store_fault.StoreFault.{StoreFault}
+use Rattle.kt_store.specs.Types.{Entry, Ghosts, Int, IsClean, Null, Row, Run, StoreFault, Trees, View}
 
 -- the transaction is not broken, and its trees list the schema and obey it
 pub record Obeys (v : View) (schema : Schema) : Type 0 where

@@ -24,7 +24,7 @@ IsFailure (Failed statement) = ⊤
 abbrev pub IsOfError : Error → Trouble → Type 0
 IsOfError error trouble = (IsShort trouble × (error ≡ SqliteFailure code.OutOfMemory)) ⊎ (IsFailure trouble × (error ≢ SqliteFailure code.OutOfMemory))
 
--- the same of an error of a tree
+-- an error of a tree is a lack of memory if that is what the tree says, and else a failed statement
 abbrev pub IsOfTreeError : StoreError → Trouble → Type 0
 IsOfTreeError error trouble = (IsShort trouble × (error ≡ OutOfMemory)) ⊎ (IsFailure trouble × (error ≢ OutOfMemory))
 

@@ -1,12 +1,7 @@
 -- The columns that heads, entries, their pairs and their outputs are read from.
 use Rattle.std.specs.Prelude.{pos, [], ◌∷◌, ◌++◌}
-use Rattle.sqlite.specs.declared.types.Value.TheVariants.{Int, Text, Blob}
-use Rattle.sqlite.specs.Order.{Row}
-use Rattle.kt_base.specs.declared.entry.Run.{Run}
-use Rattle.kt_base.specs.declared.entry.Entry.{Entry}
-use Rattle.kt_base.specs.declared.variable.Variable.{Variable}
-use Rattle.kt_base.specs.Utf8.{utf8}
 use Rattle.kt_store.specs.Runs.{flag, kind_code}
+use Rattle.kt_store.specs.Types.{Blob, Entry, Int, Row, Run, Text, Variable, utf8}
 
 -- the columns of a run, as the query for all runs shows them
 abbrev pub head_columns : Run → Row

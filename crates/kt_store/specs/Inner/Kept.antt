@@ -1,12 +1,15 @@
 -- What a call leaves as it was, and what it changes.
-use Rattle.std.specs.Prelude.{ℤ, List}
-use Rattle.sqlite.specs.Store.{Ghosts}
-use Rattle.sqlite.specs.Held.{Held, state}
-use Rattle.sqlite.specs.State.{HasCleanDisk, Survives, IsUnchanged}
-use Rattle.kt_base.specs.declared.entry.Run.{Run}
+use Rattle.std.specs.Prelude.{ℤ, List, ⊤}
 use Rattle.kt_store.specs.Ask.{Rests}
+use Rattle.kt_store.specs.Attaching.{Was, Blank}
 use Rattle.kt_store.specs.Runs.{Keeps}
 use Rattle.kt_store.specs.Stands.{StandsFor, SaysSchema, HasTables, Leaves}
+use Rattle.kt_store.specs.Types.{Ghosts, HasCleanDisk, Held, IsUnchanged, Run, Survives, state}
+
+-- tables that say a number
+abbrev pub HasNumber : Was → Type 0
+HasNumber Blank = ⊥
+HasNumber _ = ⊤
 
 module _ {S : Type 0} (g : Ghosts S) (old new : Held S) where
   -- a disk that returns what was written after the call did so before it

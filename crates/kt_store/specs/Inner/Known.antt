@@ -1,12 +1,12 @@
--- What is known of the results in a database, by the trees of a store.
-use Rattle.std.specs.Prelude.{◌≡◌, false, List}
-use Rattle.sqlite.specs.Store.{Ghosts}
-use Rattle.sqlite_trees.specs.Tree.{Trees}
-use Rattle.sqlite_trees.specs.View.{View, IsClean}
-use Rattle.kt_base.specs.declared.entry.Run.{Run}
+-- What is known of the results in a database, by the trees of a store, and where their tables stand.
+use Rattle.std.specs.Prelude.{◌≡◌, false, List, ℕ, suc, [], ◌∷◌, ⊤, Some}
 use Rattle.kt_store.specs.Runs.{AreNumbered, AreOrdered, Keeps, KeepsOne}
 use Rattle.kt_store.specs.Seeks.{HasCommitted}
 use Rattle.kt_store.specs.declared.result_store.Keeping as store
+use Rattle.sqlite_schema.specs.Names.{column_named}
+use Rattle.sqlite_schema.specs.declared.schema.Table.{Table}
+use Rattle.kt_store.specs.declared.places.Places.{Places}
+use Rattle.kt_store.specs.Types.{Ghosts, IsClean, Run, Trees, View}
 
 -- while the disk returns what was written and the store is not broken, its trees are those of a database with these runs
 abbrev pub HasRuns : View → List Run → Type 0
@@ -35,3 +35,16 @@ module _ {S : Type 0} (g : Ghosts S) where
   -- of a store that is read and written by its trees
   abbrev pub runs_file : store.Ghosts S
   runs_file = by_trees HasCommitted
+
+-- the columns of a table from a place on have these names
+abbrev pub AreNamed : Table → ℕ → List (List ℕ) → Type 0
+AreNamed table at [] = ⊤
+AreNamed table at (name ∷ names) = (column_named table name ≡ Some at) × AreNamed table (suc at) names
+
+-- where they stand in schema 2
+abbrev pub places_2 : Places
+places_2 = record { runs = record { at = 1; tree = 2 }; entries = record { at = 2; tree = 3 }; entry_keys = 4; props = record { at = 3; tree = 5 }; pair_keys = 6 }
+
+-- the tables of a store that shows runs, and is not broken, stand there
+abbrev pub StandAt : Places → View → Type 0
+StandAt places v = IsClean v → v.is_broken ≡ false → (runs : List Run) → Keeps runs v.trees → places ≡ places_2

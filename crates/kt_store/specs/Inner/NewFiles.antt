@@ -1,8 +1,7 @@
 -- What a new file holds, and its first name.
 use Rattle.std.specs.Prelude.{◌≡◌, ◌++◌, ℕ, List, codes}
-use Rattle.sqlite.specs.Tree.{Trees}
-use Rattle.sqlite.specs.Files.{HoldsDatabase, IsEmpty}
-use Rattle.sqlite_wal.specs.Recovery.{Image}
+use Rattle.sqlite.specs.Files.{IsEmpty}
+use Rattle.kt_store.specs.Types.{HoldsDatabase, Image, Trees}
 
 -- a database without a table
 abbrev pub HoldsEmpty : Image → Type 0

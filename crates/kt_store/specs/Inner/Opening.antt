@@ -1,20 +1,14 @@
 -- From two files to a store that has the runs that they hold.
 use Rattle.std.specs.Prelude.{◌≡◌, true, false, List, IsTrue}
 use Rattle.sqlite_disk.specs.declared.Disk.{Ghosts}
-use Rattle.sqlite_wal.specs.Recovery.{Image}
-use Rattle.sqlite_pages.specs.PageMap.{PageMap}
-use Rattle.sqlite_pool.specs.Stored.{Recovers}
-use Rattle.sqlite_trees.specs.Tree.{Trees}
-use Rattle.sqlite_store.specs.declared.store.FileStore.{FileStore}
 use Rattle.sqlite_store.specs.declared.store.open.Unopened.{Unopened}
-use Rattle.sqlite_store.specs.FileStore.{view, recovers}
 use Rattle.sqlite_store.specs.Listing.{file_trees, IsOurs}
 use Rattle.sqlite_store.specs.Unopened.{state_of, wanted_by, image}
 use Rattle.sqlite.specs.Opening.{HoldsAt}
-use Rattle.kt_base.specs.declared.entry.Run.{Run}
 use Rattle.kt_store.specs.Runs.{Keeps}
 use Rattle.kt_store.specs.Seeks.{HoldsRuns}
 use Rattle.kt_store.specs.Supposed.{ListsObjects}
+use Rattle.kt_store.specs.Types.{FileStore, Image, PageMap, Recovers, Run, Trees, recovers, view}
 
 module _ {D : Type 0} {g : Ghosts D} (image : Image) (store : FileStore D g) where
   -- a store shows the runs that a file held, unless it is broken, and a crash leaves them

@@ -1,10 +1,7 @@
 -- The rows of a list of runs.
 use Rattle.std.specs.Prelude.{◌≡◌, ℕ, suc, Option, None, ◌<◌, List, [], length, Some}
-use Rattle.std.specs.List.{AllByRecursion}
-use Rattle.kt_base.specs.declared.entry.Entry.{Entry}
-use Rattle.kt_base.specs.declared.verdict.Kind.TheVariants.{Passed}
-use Rattle.kt_base.specs.declared.entry.Run.{Run}
 use Rattle.kt_store.specs.Runs.{IsPair, IsRun, IsText, run_at, with_entry}
+use Rattle.kt_store.specs.Types.{AllByRecursion, Entry, Passed, Run}
 
 -- a passed case has the empty reason
 abbrev pub IsBareIfPassed : Entry → Type 0

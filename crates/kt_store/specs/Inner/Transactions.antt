@@ -1,15 +1,50 @@
--- Statements that are run one after the other, in one commit.
-use Rattle.std.specs.Prelude.{◌≡◌, ◌⊎◌, ℕ, true, false, List, [], ◌∷◌, Ok, IsTrue}
-use Rattle.sqlite.specs.Store.{Ghosts}
-use Rattle.sqlite.specs.Held.{Held, state}
-use Rattle.std.specs.List.{AllByRecursion}
-use Rattle.sqlite.specs.State.{State, HasCleanDisk, KeepsCommit, ExecutesInside, Shows}
-use Rattle.sqlite.specs.Tree.{Trees}
-use Rattle.kt_store.specs.Runs.{IsText}
-use Rattle.kt_store.specs.Inner.Calls.{Statement}
+-- The statements of the calls that write more than one, which are run one after the other, in one commit.
+use Rattle.std.specs.Prelude.{◌≡◌, ◌⊎◌, ℕ, true, false, List, [], ◌∷◌, Ok, IsTrue, suc, codes}
+use Rattle.kt_store.specs.Runs.{IsText, entry_row, pair_row}
 use Rattle.kt_store.specs.Inner.Kept.{CommitsNothing}
+use Rattle.sqlite.specs.Given.{IsPlain}
+use Rattle.kt_store.specs.Tables.{schema_2, put_text, create_meta, create_runs, create_entries, create_props, mark_text, raise_text}
+use Rattle.kt_store.specs.Types.{AllByRecursion, Entry, ExecutesInside, Ghosts, HasCleanDisk, Held, KeepsCommit, Row, Shows, State, Trees, Variable, state, understood}
 
--- the same connection, in a transaction that began just now
+-- a text of SQL, the values of its parameters, and the texts among them
+abbrev pub Statement : Type 0
+Statement = List ℕ × Row × List (List ℕ)
+
+-- a text of one of our statements: it makes a table, or is one that SQLite understands over those of schema 2
+abbrev pub IsOurs : List ℕ → Type 0
+IsOurs sql = (sql ≡ create_meta) ⊎ (sql ≡ create_runs) ⊎ (sql ≡ create_entries) ⊎ (sql ≡ create_props) ⊎ IsPlain (understood schema_2 sql)
+
+-- a new pair of an entry
+abbrev pub pair_text : List ℕ
+pair_text = codes "INSERT INTO props (run, position, place, name, value) VALUES (?1, ?2, ?3, ?4, ?5)"
+
+-- a pair is put at its place
+abbrev pub pair_statement : ℕ → ℕ → ℕ → Variable → Statement
+pair_statement run position place v = (pair_text, pair_row run position place v, v.name ∷ v.value ∷ [])
+
+-- these pairs are put, by place from this one on
+abbrev pub pair_statements : ℕ → ℕ → ℕ → List Variable → List Statement
+pair_statements run position place [] = []
+pair_statements run position place (v ∷ pairs) = pair_statement run position place v ∷ pair_statements run position (suc place) pairs
+
+-- an entry and its pairs are put
+abbrev pub entry_statements : ℕ → Entry → List Statement
+entry_statements run e = (put_text, entry_row run e, e.program ∷ e.case_name ∷ e.verdict.reason ∷ []) ∷ pair_statements run e.position 0 e.meta
+
+-- statements without parameters
+abbrev pub plain_statements : List (List ℕ) → List Statement
+plain_statements [] = []
+plain_statements (sql ∷ others) = (sql, [], []) ∷ plain_statements others
+
+-- the tables are made
+abbrev pub make_statements : List Statement
+make_statements = plain_statements (create_meta ∷ create_runs ∷ create_entries ∷ create_props ∷ mark_text ∷ [])
+
+-- the tables of schema 1 become those of schema 2
+abbrev pub raise_statements : List Statement
+raise_statements = plain_statements (create_props ∷ raise_text ∷ [])
+
+-- the connection, in a transaction that began just now
 abbrev pub begun : {S : Type 0} → Held S → Held S
 begun h = record h { in_transaction = true }
 
@@ -30,10 +65,11 @@ module _ {S : Type 0} (g : Ghosts S) where
   RunInTurn [] old new = new ≡ old
   RunInTurn (s ∷ others) old new = (mid : Held S) × RunsInside s old mid × RunInTurn others mid new
 
-  -- the same, as long as the disk returns what was written, of a transaction that is open
+  -- while the disk returns what was written, a statement was run in the transaction, if one is open
   abbrev pub RunsOne : Statement → Held S → Held S → Type 0
   RunsOne s old new = HasCleanDisk (state g new) → IsTrue (state g old).in_transaction → RunsInside s old new
 
+  -- while the disk returns what was written, these statements were run in the transaction, if one is open
   abbrev pub RunsAll : List Statement → Held S → Held S → Type 0
   RunsAll statements old new = HasCleanDisk (state g new) → IsTrue (state g old).in_transaction → RunInTurn statements old new
 

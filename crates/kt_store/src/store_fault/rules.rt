@@ -1,15 +1,17 @@
-ghost use Rattle.std.specs.Prelude.{◌≡◌, ◌⊎◌, OnOk};
-ghost use Rattle.kt_store.specs.Common.{IsOfWriteError, IsStoreFault, Obeys, HoldsCommit, PutsRows};
+ghost use Rattle.std.specs.Prelude.{◌≡◌, ◌⊎◌, IfOk, OnOk};
+ghost use Rattle.kt_store.specs.Common.{IsOfWriteError, Obeys, HoldsCommit, PutsRows};
+ghost use Rattle.sqlite_schema.specs.Catalog.{IsCatalogOf};
 ghost use Rattle.sqlite_trees.specs.View.{IsClean, IsQuiet};
 
-use crate::StoreFault;
+use crate::store_fault::trees::sure;
 use crate::store_fault::{FAULTY, Trouble};
+use kt_base::NoMemory;
 use sqlite_exec::work::Workspace;
 use sqlite_items::Items;
-use sqlite_rules::error::{Refusal, Rowids, WriteError};
+use sqlite_rules::error::{Rowids, WriteError};
 use sqlite_rules::write::{are_kept, write};
-use sqlite_schema::schema::{Among, Constraint, Keys, Schema};
-use sqlite_trees::error::StoreError;
+use sqlite_schema::schema::{Among, Keys, Schema};
+use sqlite_sql::query::Index;
 use sqlite_trees::store::Alter;
 use sqlite_value::row::Row;
 use std::alloc::Global;
@@ -25,31 +27,37 @@ impl From<WriteError> for Trouble {
     }
 }
 
-impl From<WriteError> for StoreFault {
-    ghost from_gives = { λ _ fault. IsStoreFault fault };
-
-    fn from(error: WriteError) -> StoreFault {
-        StoreFault::from(Trouble::from(error))
-    }
+/// What the table at a place of the schema loses, by rowid, and the rows that it gets, which are read from a column of these on.
+#[derive(Clone, Copy)]
+pub(crate) struct TableEdit<'a> {
+    pub(crate) place: usize,
+    pub(crate) gone: &'a [i64],
+    pub(crate) rowids: Rowids,
+    pub(crate) from: usize,
+    pub(crate) sources: &'a [Row],
 }
 
-/// Takes the rows with these rowids out of the table at a place of the schema, and puts others in, which are read from a
-/// column of these on. Each rule of the schema is tested. Nothing is committed.
+/// The indexes of a schema.
+fn indexes_of(alloc: Global, schema: &Schema) -> Result<Vec<Index<'_>>, NoMemory>
+    ensures { IfOk result (λ all. IsCatalogOf schema.now all.items) }
+{
+    let all = schema.catalog(alloc)?;
+    Ok(all)
+}
+
+/// Edits a table. Each rule of the schema is tested. Nothing is committed.
 pub(crate) fn put_rows<S: Alter>(
     store: &mut S,
     alloc: Global,
     schema: &Schema,
-    place: usize,
-    gone: &[i64],
-    rowids: Rowids,
-    from: usize,
-    sources: &[Row],
-) -> Result<(), WriteError>
+    edit: TableEdit<'_>,
+) -> Result<(), Trouble>
     requires obeys { IsClean (S.Store.view store.old) → Obeys (S.Store.view store.old) schema.now }
-    requires short { from ≡ 0 ⊎ from ≡ 1 }
+    requires short { edit.from ≡ 0 ⊎ edit.from ≡ 1 }
     ensures puts { IsClean (S.Store.view store.new)
-        → OnOk result (PutsRows schema.now place gone.now rowids from sources.now
-        (S.Store.view store.old).trees (S.Store.view store.new).trees) }
+        → OnOk result (PutsRows schema.now edit.entry.place edit.entry.gone.now edit.entry.rowids
+        edit.entry.from edit.entry.sources.now (S.Store.view store.old).trees
+        (S.Store.view store.new).trees) }
     ensures obeys { IsClean (S.Store.view store.new)
         → OnOk result (Obeys (S.Store.view store.new) schema.now) }
     ensures held { IsClean (S.Store.view store.new)
@@ -57,10 +65,10 @@ pub(crate) fn put_rows<S: Alter>(
     ensures quiet { IsQuiet S.Store.view S.Store.faults S.Store.recovers S.Store.is_shielded
         store.old store.new }
 {
-    let Some(table) = schema.tables.as_slice().get(place) else {
-        return Err(WriteError::Failed(StoreError::Broken));
+    let Some(table) = schema.tables.as_slice().get(edit.place) else {
+        return Err(FAULTY);
     };
-    let catalog = schema.catalog(alloc)?;
+    let indexes = indexes_of(alloc, schema)?;
     let mut work = Workspace::new(alloc);
     let mut log = Items::new(alloc);
     write(
@@ -68,27 +76,25 @@ pub(crate) fn put_rows<S: Alter>(
         &mut work,
         alloc,
         schema,
-        catalog.as_slice(),
+        indexes.as_slice(),
         Keys::Enforced,
-        place,
+        edit.place,
         table,
-        gone,
-        rowids,
-        from,
-        sources,
+        edit.gone,
+        edit.rowids,
+        edit.from,
+        edit.sources,
         &mut log,
     )?;
-    if are_kept(
+    let is_kept = are_kept(
         store,
         &mut work,
         alloc,
         schema,
-        catalog.as_slice(),
+        indexes.as_slice(),
         Among::All,
         log.as_slice(),
-    )? {
-        Ok(())
-    } else {
-        Err(WriteError::Refused(Refusal::Violates(Constraint::ForeignKey)))
-    }
+    )?;
+    sure(is_kept)?;
+    Ok(())
 }

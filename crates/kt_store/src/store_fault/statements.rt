@@ -1,5 +1,5 @@
 ghost use Rattle.std.specs.Prelude.{◌≡◌, ◌<◌, Ok, IfOk, OnOk, OnErr, IsTrue, true, false, nat_lt, length, []};
-ghost use Rattle.kt_store.specs.Common.{OnRuns, bound, IsPlain, understood, HasCleanDisk, Survives, IsUnchanged, state, column, IsOfError, CommitsNothing, Looked, Asked, AreWide, HasColumns, MayShow, MayExecute, ShowsOf, Executed, Commits, CommitsLater, IsOurs, MayCommit, RunsOne, Undoes, Rests, IsNoMemory, IsShort, image_at, IsOver, IsUnderstood, schema_2};
+ghost use Rattle.kt_store.specs.Common.{OnRuns, bound, IsPlain, understood, HasCleanDisk, Survives, IsUnchanged, state, column, IsOfError, CommitsNothing, Looked, Asked, AreWide, HasColumns, MayShow, MayExecute, ShowsOf, Executed, Commits, CommitsLater, IsOurs, MayCommit, RunsOne, Undoes, Rests, IsNoMemory, IsShort, image_at, IsOfFile, IsUnderstood, schema_2};
 ghost use Rattle.sqlite_std_file.specs.File.{file_is_usable, IsFresh};
 
 use crate::batch::Batch;
@@ -220,7 +220,7 @@ pub(crate) fn open_file<S: Start>(
     file: &Text,
     start: S,
 ) -> Result<Connection<FileStore<FileFrom<S>>>, Trouble>
-    ensures opened { IfOk result (IsOver (image_at S.Start)) }
+    ensures opened { IfOk result (IsOfFile (image_at S.Start)) }
 {
     if !is_path(file.as_str()) {
         return Err(FAULTY);

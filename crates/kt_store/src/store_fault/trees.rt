@@ -125,7 +125,7 @@ pub(crate) fn columns_of(
     Ok(values)
 }
 
-/// The same, as a query shows them.
+/// These columns of a stored row, as a query shows them.
 pub(crate) fn shown(alloc: Global, row: &row::Row, columns: &[usize]) -> Result<Row, NoMemory>
     ensures { IfOk result (λ it. it ≡ in_columns columns.now row.now) }
 {
@@ -134,7 +134,7 @@ pub(crate) fn shown(alloc: Global, row: &row::Row, columns: &[usize]) -> Result<
     Ok(row)
 }
 
-/// Adds the same, as a query shows them.
+/// Adds these columns of a stored row, as a query shows them.
 fn add_shown<T: FromRow>(
     alloc: Global,
     row: &row::Row,
@@ -270,8 +270,8 @@ fn rows_behind<S: Store>(
     Err(FAULTY)
 }
 
-/// The same, after the last place was read that begins with the key `before` or less, and its row: it may be one of these
-/// that was damaged.
+/// The rows that `rows_behind` finds, after the last place was read that begins with the key `before` or less, and its row: it
+/// may be one of these that was damaged.
 pub(crate) fn rows_after<S: Store>(
     store: &mut S,
     alloc: Global,

@@ -9,7 +9,7 @@ pub write-requires-clause-set_up : goal.write-requires-clause-set_up
 write-requires-clause-set_up g c clean =
     let store = c.args.store.now in
     let s = c.requires.obeys clean in
-    is_set_up (g.S.Store.view store) c.args.schema.now s (g.met.S.Alter.listed store s.unbroken) (g.met.S.Store.ordered store s.unbroken) _ (subst (IsCatalogOf c.args.schema.now) (sym c.as_slice-2.ensures.value) c.in_ok-catalog.ensures)
+    is_set_up (g.S.Store.view store) c.args.schema.now s (g.met.S.Alter.listed store s.unbroken) (g.met.S.Store.ordered store s.unbroken) _ (subst (IsCatalogOf c.args.schema.now) (sym c.as_slice-2.ensures.value) c.in_ok-indexes.ensures)
 
 pub write-requires-clause-reals : goal.write-requires-clause-reals
 write-requires-clause-reals g c clean =
@@ -29,21 +29,22 @@ are_kept-requires-clause-set_up g c clean =
     let falls = c.write.ensures.quiet.clean in
     let s = c.requires.obeys (omega arith) in
     still_set_up c.args.schema.now _ _ _
-    (is_set_up (g.S.Store.view store) c.args.schema.now s (g.met.S.Alter.listed store s.unbroken) (g.met.S.Store.ordered store s.unbroken) _ (subst (IsCatalogOf c.args.schema.now) (sym c.as_slice-3.ensures.value) c.in_ok-catalog.ensures))
+    (is_set_up (g.S.Store.view store) c.args.schema.now s (g.met.S.Alter.listed store s.unbroken) (g.met.S.Store.ordered store s.unbroken) _ (subst (IsCatalogOf c.args.schema.now) (sym c.as_slice-3.ensures.value) c.in_ok-indexes.ensures))
     (c.in_ok-write.ensures.advances clean).frame
 
-pub returns-then-branch-clause-puts : goal.returns-then-branch-clause-puts
-returns-then-branch-clause-puts g c clean table found =
+pub returns-clause-puts : goal.returns-clause-puts
+returns-clause-puts g c clean table found =
     let falls = c.are_kept.ensures.quiet.clean in
-    let same = c.in_ok-are_kept.ensures.same clean in
+    let same = c.in_ok-is_kept.ensures.same clean in
     let old = (g.S.Store.view c.args.store.now).trees in
-    let here : slice_get c.args.schema.now.tables c.args.place ≡ Some c.in-Some.table.now = ap (λ l. slice_get l c.args.place) (sym c.as_slice.ensures) ∙ slice_get_read c.as_slice.result.now _ c.args.place c.in-Some.table.now refl c.in-Some.ensures.lookup.3.0 c.in-Some.ensures.lookup.1 in
-    let one : c.in-Some.table.now ≡ table = let e : Some c.in-Some.table.now ≡ Some table = sym here ∙ found in cc in
-    subst (λ (t : Table). Writes c.args.schema.now Enforced old (edit_of old t c.args.gone.now c.args.rowids c.args.from c.args.sources.now) (Ok (g.S.Store.view c.are_kept.new.store).trees)) one
-    (subst (λ (t : Trees). Writes c.args.schema.now Enforced old (edit_of old c.in-Some.table.now c.args.gone.now c.args.rowids c.args.from c.args.sources.now) (Ok t)) (sym (ap (λ (v : View). v.trees) same)) (c.in_ok-write.ensures.ok (omega arith)))
+    let own = c.in-Some.table.now in
+    let here : slice_get c.args.schema.now.tables c.args.edit.place ≡ Some own = ap (λ l. slice_get l c.args.edit.place) (sym c.as_slice.ensures) ∙ slice_get_read c.as_slice.result.now _ c.args.edit.place own refl c.in-Some.ensures.lookup.3.0 c.in-Some.ensures.lookup.1 in
+    let one : own ≡ table = let e : Some own ≡ Some table = sym here ∙ found in cc in
+    subst (λ (t : Table). Writes c.args.schema.now Enforced old (edit_of old t c.args.edit.gone.now c.args.edit.rowids c.args.edit.from c.args.edit.sources.now) (Ok (g.S.Store.view c.are_kept.new.store).trees)) one
+    (subst (λ (t : Trees). Writes c.args.schema.now Enforced old (edit_of old own c.args.edit.gone.now c.args.edit.rowids c.args.edit.from c.args.edit.sources.now) (Ok t)) (sym (ap (λ (v : View). v.trees) same)) (c.in_ok-write.ensures.ok (omega arith)))
 
-pub returns-then-branch-clause-obeys : goal.returns-then-branch-clause-obeys
-returns-then-branch-clause-obeys g c clean =
+pub returns-clause-obeys : goal.returns-clause-obeys
+returns-clause-obeys g c clean =
     let store = c.args.store.now in
     let falls1 = c.write.ensures.quiet.clean in
     let falls2 = c.are_kept.ensures.quiet.clean in
@@ -53,7 +54,7 @@ returns-then-branch-clause-obeys g c clean =
     let listed = g.met.S.Alter.listed store s.unbroken in
     let ordered = g.met.S.Store.ordered store s.unbroken in
     let advances = rw c.new-log.ensures at (c.in_ok-write.ensures.advances (omega arith)) in
-    let same = c.in_ok-are_kept.ensures.same clean in
-    let kept = rw c.if-branch.true at (c.in_ok-are_kept.ensures.ok clean) in
+    let same = c.in_ok-is_kept.ensures.same clean in
+    let kept = rw c.in_ok-sure.ensures.sound at (c.in_ok-is_kept.ensures.ok clean) in
     stands_again mid _ c.args.schema.now same
     (still_stands old c.args.schema.now s listed ordered mid _ advances (kept (rw c.as_slice-4.ensures (accounted old c.args.schema.now s listed ordered mid _ advances))))
