@@ -484,8 +484,8 @@ BODY
 
 rule 'says that a write failed' lines '(^|[^a-z_])failed = |(^|[^a-z_])sent ([-+*|&]?=|[<>!])|[|][|] sent|sent [|][|]' <<'PLACES'
 # What `send` says of the writer, and its flush.
-kt_cli/src/output/line_output.rt: self.failed = hand_on(&mut self.held, &mut self.out);
-kt_cli/src/output/line_output.rt: self.failed = hand_on(&mut self.held, &mut self.out);
+kt_cli/src/output/line_output.rt: self.failed = self.held.hand_on(&mut self.out);
+kt_cli/src/output/line_output.rt: self.failed = self.held.hand_on(&mut self.out);
 # How much a writer took, in `send` itself.
 kt_base/src/emission.rt: let mut sent = 0;
 kt_base/src/emission.rt: while sent < bytes.len() {
@@ -515,8 +515,8 @@ BODY
 rule 'writes to a writer of its own' own_writers <<'PLACES'
 # The writers that these hold, or were lent for the errors.
 kt_cli/src/output/line_output.rt: flush_own(&mut self.out)
-kt_cli/src/output/line_output.rt: hand_on(&mut self.held, &mut self.out)
-kt_cli/src/output/line_output.rt: hand_on(&mut self.held, &mut self.out)
+kt_cli/src/output/line_output.rt: hand_on(&mut self.out)
+kt_cli/src/output/line_output.rt: hand_on(&mut self.out)
 kt_cli/src/host/performing.rt: print_command_fault(fault, errors)
 kt_cli/src/host/performing.rt: reject(&fault, out, errors)
 kt_cli/src/host/command_line.rt: carry_out(outside, platform, command, out, errors)

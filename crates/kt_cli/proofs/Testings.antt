@@ -12,7 +12,7 @@ use Rattle.kt_cli.specs.Inner.Meaning.{asked_only, AsksOnly}
 use Rattle.kt_plan.specs.Planning.{Surveys, SurveysFirst, ArePlanned}
 use Rattle.kt_plan.proofs.LookLaws.{all_surveyed}
 use Rattle.kt_cli.specs.StopLines.{stop_line, stop_exit}
-use Rattle.kt_plan.specs.Told.{Told, Now}
+use Rattle.kt_plan.specs.Reply.{Reply, Now}
 use Rattle.kt_plan.proofs.QuestionChains.{chain_of_host}
 use Rattle.kt_store.specs.declared.result_store.Keeping as keeping
 use Rattle.kt_words.specs.declared.command.Command.TheVariants as command
@@ -26,15 +26,15 @@ printed_as was now f exit due bytes own s k e = record { failed = f; shows = s; 
 module _ {W : Type 0} (w : World W) where
   -- these cases were selected for a command, by questions whose answers lead from one world to the other
   abbrev HasSelected : Command → CaseOptions → W → Picked → W → Type 0
-  HasSelected c options old picked new = Answered (leads_by w.asks w.tells) old new (λ questions. SelectsOrShort (needs_case c) options questions (Ok picked))
+  HasSelected c options old picked new = Answered (leads_by w.asks w.replies) old new (λ questions. SelectsOrShort (needs_case c) options questions (Ok picked))
 
   -- a world is idle as before, after a question to its host
-  pub idle_after : ((s t : W) (q : Told) → w.tells s q t → (k : ℕ) (role : Role) → w.running t k role ≡ w.running s k role) → ((s t : W) (q : Told) → w.tells s q t → (k : ℕ) → w.pending t k ≡ w.pending s k)
-      → (mid new : W) (m : Told) → w.tells mid m new → IsIdle (w.running mid) (w.pending mid) → IsIdle (w.running new) (w.pending new)
+  pub idle_after : ((s t : W) (q : Reply) → w.replies s q t → (k : ℕ) (role : Role) → w.running t k role ≡ w.running s k role) → ((s t : W) (q : Reply) → w.replies s q t → (k : ℕ) → w.pending t k ≡ w.pending s k)
+      → (mid new : W) (m : Reply) → w.replies mid m new → IsIdle (w.running mid) (w.pending mid) → IsIdle (w.running new) (w.pending new)
   idle_after d e mid new m t j = record { runs = λ k role. d mid new m t k role ∙ j.runs k role; pends = λ k. e mid new m t k ∙ j.pends k }
 
   -- nothing was started
-  asks_only : (c : Command) (old new : W) (was now : Option (List ℕ)) (exit : ℕ) (questions : List Question) (bytes : List ℕ) (due : ℕ) → Chain (leads_by w.asks w.tells) old questions new
+  asks_only : (c : Command) (old new : W) (was now : Option (List ℕ)) (exit : ℕ) (questions : List Question) (bytes : List ℕ) (due : ℕ) → Chain (leads_by w.asks w.replies) old questions new
       → (q : Printed was now exit bytes due) → Means (asked_only questions) c bytes due ⊎ CutShort (asked_only questions) q.failed c bytes due
       → AsksOnly w c old new was now exit
   asks_only c old new was now exit questions bytes due p q m = record { seen = asked_only questions; course = record { begun = new; asked = p; ran = refl }; uncalled = refl; bytes = bytes; due = due; is = m; printed = q }
@@ -44,7 +44,7 @@ module _ {W : Type 0} (w : World W) where
 
   -- a fault of the steps ended the command
   pub stopped_only : (c : Command) (options : CaseOptions) (old new : W) (was now : Option (List ℕ)) (exit : ℕ) (fault : Stop) → cases_of c ≡ Some options
-      → Answered (leads_by w.asks w.tells) old new (λ questions. SelectsOrShort (needs_case c) options questions (Err fault))
+      → Answered (leads_by w.asks w.replies) old new (λ questions. SelectsOrShort (needs_case c) options questions (Err fault))
       → Printed was now exit (utf8 (stop_line fault)) (stop_exit fault) → AsksOnly w c old new was now exit
   stopped_only c options old new was now exit fault e a p =
       asks_only c old new was now exit a.asked (utf8 (stop_line fault)) (stop_exit fault) a.chain p (elim a.holds [
@@ -59,37 +59,37 @@ module _ {W : Type 0} (w : World W) where
   -- cases were selected, and nothing more was asked
   pub picked_only : (c : Command) (needed : Bool) (options : CaseOptions) (old new : W) (was now : Option (List ℕ)) (exit : ℕ) (picked : Picked) (bytes : List ℕ) (due : ℕ)
       → ((questions : List Question) → Selects needed options questions (Ok picked) → IsAskedOnly (asked_only questions) → Means (asked_only questions) c bytes due)
-      → Answered (leads_by w.asks w.tells) old new (λ questions. SelectsOrShort needed options questions (Ok picked)) → Printed was now exit bytes due → AsksOnly w c old new was now exit
+      → Answered (leads_by w.asks w.replies) old new (λ questions. SelectsOrShort needed options questions (Ok picked)) → Printed was now exit bytes due → AsksOnly w c old new was now exit
   picked_only c needed options old new was now exit picked bytes due means a p =
       asks_only c old new was now exit a.asked bytes due a.chain p (inl (means a.asked (picked_is needed options a.asked picked a.holds) (only_asked a.asked)))
 
   -- the selection, and the first questions about its cases
-  prepared_first : (needed : Bool) (options : CaseOptions) (questions : List Question) (answers : List Told) (picked : Picked) (cases : List Candidate) → SelectsOrShort needed options questions (Ok picked) → cases ≡ taken needed picked.chosen.cases
+  prepared_first : (needed : Bool) (options : CaseOptions) (questions : List Question) (answers : List Reply) (picked : Picked) (cases : List Candidate) → SelectsOrShort needed options questions (Ok picked) → cases ≡ taken needed picked.chosen.cases
       → SurveysFirst cases answers → AsksFirst needed options (questions ++ of_host answers)
   prepared_first needed options questions answers picked cases a same s =
       preparing questions picked answers (picked_is needed options questions picked a) (subst (λ (cs : List Candidate). SurveysFirst cs answers) same s)
 
   -- memory ran out before a plan was made
   pub short_only : (c : Command) (options : CaseOptions) (old mid new : W) (was now : Option (List ℕ)) (exit : ℕ) (picked : Picked) (cases : List Candidate) → cases_of c ≡ Some options
-      → HasSelected c options old picked mid → cases ≡ taken (needs_case c) picked.chosen.cases → Answered w.tells mid new (λ answers. SurveysFirst cases answers)
+      → HasSelected c options old picked mid → cases ≡ taken (needs_case c) picked.chosen.cases → Answered w.replies mid new (λ answers. SurveysFirst cases answers)
       → Printed was now exit (utf8 memory_line) 2 → AsksOnly w c old new was now exit
   short_only c options old mid new was now exit picked cases e a same b p =
-      asks_only c old new was now exit (a.asked ++ of_host b.asked) (utf8 memory_line) 2 (chain-append (leads_by w.asks w.tells) a.asked (of_host b.asked) old mid new a.chain (chain_of_host w.asks w.tells b.asked mid new b.chain)) p
+      asks_only c old new was now exit (a.asked ++ of_host b.asked) (utf8 memory_line) 2 (chain-append (leads_by w.asks w.replies) a.asked (of_host b.asked) old mid new a.chain (chain_of_host w.asks w.replies b.asked mid new b.chain)) p
       (inr (no_memory c options e (prepared_first (needs_case c) options a.asked b.asked picked cases a.holds same b.holds) (only_asked (a.asked ++ of_host b.asked))))
 
   -- what the host was asked for some cases, and their plan
-  abbrev pub Prepares : Picked → List Candidate → List Job → List Told → Type 0
+  abbrev pub Prepares : Picked → List Candidate → List Job → List Reply → Type 0
   Prepares picked cases plan answers = (host : Host) × Surveys cases answers host × ArePlanned picked.settings.config host 0 cases plan
 
   -- the questions for cases, for what these require, and then some more
-  asks_all : (before : List Question) (answers last : List Told) (old mid asked begun : W) → Chain (leads_by w.asks w.tells) old before mid
-      → Chain w.tells mid answers asked → Chain w.tells asked last begun → Chain (leads_by w.asks w.tells) old (before ++ (of_host answers ++ of_host last)) begun
+  asks_all : (before : List Question) (answers last : List Reply) (old mid asked begun : W) → Chain (leads_by w.asks w.replies) old before mid
+      → Chain w.replies mid answers asked → Chain w.replies asked last begun → Chain (leads_by w.asks w.replies) old (before ++ (of_host answers ++ of_host last)) begun
   asks_all before answers last old mid asked begun p q r =
-      chain-append (leads_by w.asks w.tells) before (of_host answers ++ of_host last) old mid begun p
-      (chain-append (leads_by w.asks w.tells) (of_host answers) (of_host last) mid asked begun
-      (chain_of_host w.asks w.tells answers mid asked q) (chain_of_host w.asks w.tells last asked begun r))
+      chain-append (leads_by w.asks w.replies) before (of_host answers ++ of_host last) old mid begun p
+      (chain-append (leads_by w.asks w.replies) (of_host answers) (of_host last) mid asked begun
+      (chain_of_host w.asks w.replies answers mid asked q) (chain_of_host w.asks w.replies last asked begun r))
 
-  prepared : (needed : Bool) (options : CaseOptions) (before : List Question) (answers last : List Told) (picked : Picked) (cases : List Candidate)
+  prepared : (needed : Bool) (options : CaseOptions) (before : List Question) (answers last : List Reply) (picked : Picked) (cases : List Candidate)
       (plan : List Job) (trace : Trace) (calls : List StoreCall) → SelectsOrShort needed options before (Ok picked) → Prepares picked cases plan answers
       → IsPrepared needed options (record { questions = before ++ (of_host answers ++ of_host last); plan = plan; trace = trace; calls = calls }) picked cases last
   prepared needed options before answers last picked cases plan trace calls s p =
@@ -98,11 +98,11 @@ module _ {W : Type 0} (w : World W) where
   -- one case was run for `debug`
   pub debug_only : (options : CaseOptions) (old mid begun new : W) (was now : Option (List ℕ)) (exit : ℕ) (picked : Picked) (first : Candidate) (others cases some : List Candidate) (plan : List Job) (failed : Bool) (totals : Totals) (due : ℕ)
       → HasSelected (command.Debug options) options old picked mid → cases ≡ picked.chosen.cases → cases ≡ first ∷ others → some ≡ take 1 cases
-      → Answered w.tells mid begun (Prepares picked some plan)
+      → Answered w.replies mid begun (Prepares picked some plan)
       → Debugged (launcher_of w) plan begun new was now failed (Ok totals) → due ≡ (if totals.bad == 0 then 0 else 1) → exit ≡ (if failed then 2 else due)
       → AsksOnly w (command.Debug options) old new was now exit
   debug_only options old mid begun new was now exit picked first others cases some plan failed totals due a x n s b d k e =
-      let one : Answered w.tells mid begun (Prepares picked (first ∷ []) plan) = subst (λ (xs : List Candidate). Answered w.tells mid begun (Prepares picked xs plan)) (s ∙ ap (λ (xs : List Candidate). take 1 xs) n) b in
+      let one : Answered w.replies mid begun (Prepares picked (first ∷ []) plan) = subst (λ (xs : List Candidate). Answered w.replies mid begun (Prepares picked xs plan)) (s ∙ ap (λ (xs : List Candidate). take 1 xs) n) b in
       record {
         seen = record { questions = a.asked ++ (of_host one.asked ++ []); plan = plan; trace = d.trace; calls = [] };
         course = record { begun = begun; asked = asks_all a.asked one.asked [] old mid begun begun a.chain one.chain refl; ran = d.leads };
@@ -116,15 +116,15 @@ module _ {W : Type 0} (w : World W) where
 
   -- memory ran out before the case was started
   pub debug_short : (options : CaseOptions) (old mid begun new : W) (was between now : Option (List ℕ)) (exit : ℕ) (picked : Picked) (some : List Candidate) (plan : List Job) (f g : Bool) (fault : RunFault)
-      → Answered (leads_by w.asks w.tells) old mid (λ questions. SelectsOrShort true options questions (Ok picked))
-      → some ≡ take 1 picked.chosen.cases → Answered w.tells mid begun (Prepares picked some plan) → Debugged (launcher_of w) plan begun new was between f (Err fault) → Says between f now g (utf8 (run_line fault)) → exit ≡ (if g then 2 else 2)
+      → Answered (leads_by w.asks w.replies) old mid (λ questions. SelectsOrShort true options questions (Ok picked))
+      → some ≡ take 1 picked.chosen.cases → Answered w.replies mid begun (Prepares picked some plan) → Debugged (launcher_of w) plan begun new was between f (Err fault) → Says between f now g (utf8 (run_line fault)) → exit ≡ (if g then 2 else 2)
       → AsksOnly w (command.Debug options) old new was now exit
   debug_short options old mid begun new was between now exit picked some plan f g (SinkFailed why) a same b d s e = absurd d.ends
   debug_short options old mid begun new was between now exit picked some plan f g (NoMemory refusal) a same b d s e =
       let q = d.ends in
       record {
         seen = record { questions = a.asked ++ of_host b.asked; plan = plan; trace = d.trace; calls = [] };
-        course = record { begun = begun; asked = chain-append (leads_by w.asks w.tells) a.asked (of_host b.asked) old mid begun a.chain (chain_of_host w.asks w.tells b.asked mid begun b.chain); ran = d.leads };
+        course = record { begun = begun; asked = chain-append (leads_by w.asks w.replies) a.asked (of_host b.asked) old mid begun a.chain (chain_of_host w.asks w.replies b.asked mid begun b.chain); ran = d.leads };
         uncalled = refl;
         bytes = utf8 memory_line;
         due = 2;
@@ -148,10 +148,10 @@ module _ {W : Type 0} (w : World W) where
     -- a plan was run
     pub did_test : (old new : Scene W R) (options : CaseOptions) (file : List ℕ) (mid asked begun : W) (picked : Picked) (cases : List Candidate) (plan : List Job) (moment exit : ℕ)
         → HasSelected (command.Test options file) options old.world picked mid → cases ≡ picked.chosen.cases
-        → Answered w.tells mid asked (Prepares picked cases plan) → w.tells asked (Now moment) begun
+        → Answered w.replies mid asked (Prepares picked cases plan) → w.replies asked (Now moment) begun
         → RanPlan (launcher_of w) keep (run_for plan options picked moment) (scene begun old.store old.held) new exit → Did w keep (command.Test options file) old new exit
     did_test old new options file mid asked begun picked cases plan moment exit a same parts t r =
-        let b : Answered w.tells mid asked (Prepares picked picked.chosen.cases plan) = subst (λ (xs : List Candidate). Answered w.tells mid asked (Prepares picked xs plan)) same parts in
+        let b : Answered w.replies mid asked (Prepares picked picked.chosen.cases plan) = subst (λ (xs : List Candidate). Answered w.replies mid asked (Prepares picked xs plan)) same parts in
         let seen : Seen = record { questions = a.asked ++ (of_host b.asked ++ of_host (Now moment ∷ [])); plan = plan; trace = r.trace; calls = r.calls } in
         let ready = prepared false options a.asked b.asked (Now moment ∷ []) picked picked.chosen.cases plan r.trace r.calls a.holds b.holds in
         record {

@@ -1,7 +1,7 @@
 -- What a command is answered over a machine and a system.
 use Rattle.std.specs.Prelude.{ℕ, Bool, false, ◌≡◌, ◌≤◌, ◌++◌, List, length, Option, Some, None, Result, Err, IfOk, bytes_eq, codes}
 use Rattle.std.proofs.Common.{ap}
-use Rattle.kt_cli.specs.Types.{Asked, Call, Ended, HostWorld, Job, Now, ReadFault, Role, StartAnswer, Told, utf8}
+use Rattle.kt_cli.specs.Types.{Asked, Call, Ended, HostWorld, Job, Now, ReadFault, Role, StartAnswer, Reply, utf8}
 use Rattle.kt_child.specs.Driving.ChildrenState.{is_among, shown_in}
 use Rattle.kt_child.specs.Driving.DriverSteps.{DriverLists, DriverStarts, DriverWaits}
 use Rattle.kt_child.specs.declared.system.os.Os as system
@@ -9,7 +9,7 @@ use Rattle.kt_cli.specs.declared.host.machine.Machine as machine
 use Rattle.kt_cli.specs.Machines.{MachineAnswer, FrontOf, IsFile, IsThere, HasMoment, AtPath, IsSought, read_limit}
 use Rattle.kt_cli.specs.Scenes.{World}
 use Rattle.kt_metadata.specs.declared.host.Need.TheVariants.{File, Program}
-use Rattle.kt_plan.specs.Told.{ReadConfig, Lists, Finds, IsRoot, HasMemory, HasDisk}
+use Rattle.kt_plan.specs.Reply.{ReadConfig, Lists, Finds, IsRoot, HasMemory, HasDisk}
 use Rattle.kt_suite.specs.Answers.{Read, Exists}
 use Rattle.kt_suite.specs.declared.tree.ReadFault.TheVariants.{Failed}
 
@@ -45,7 +45,7 @@ module _ {M O : Type 0} (answers : M → MachineAnswer → M → Type 0) where
 
   -- a list moves the driver, and every other question asks only the machine, or nobody: a configuration file and a required file are asked
   -- for at their paths as they stand, a program as it is sought; memory and disk space are unknown
-  abbrev pub IsHostAnswer : (O → Call → O → Type 0) → HostWorld M O → Told → HostWorld M O → Type 0
+  abbrev pub IsHostAnswer : (O → Call → O → Type 0) → HostWorld M O → Reply → HostWorld M O → Type 0
   IsHostAnswer leads old (ReadConfig path answer) new = Asks old (λ m n. answers m (FrontOf (utf8 path) answer) n) new × IsShort answer
   IsHostAnswer leads old (Lists program variables answer) new =
       DriverLists leads old.driver program.path variables answer new.driver × (new.machine ≡ old.machine) × (new.directory ≡ old.directory) × (new.around ≡ old.around)
@@ -75,7 +75,7 @@ module _ {M O : Type 0} where
     starts = HostStarts o.leads;
     waits = HostWaits o.leads;
     asks = IsLook m.answers;
-    tells = IsHostAnswer m.answers o.leads;
+    replies = IsHostAnswer m.answers o.leads;
   }
 
   -- no question changes what runs
@@ -86,7 +86,7 @@ module _ {M O : Type 0} where
   look_kept answers old new (Read path answer) h = asked_kept old new h.0.0
   look_kept answers old new (Exists path answer) h = asked_kept old new h.0
 
-  pub running_kept : (answers : M → MachineAnswer → M → Type 0) (leads : O → Call → O → Type 0) (old new : HostWorld M O) (answer : Told) → IsHostAnswer answers leads old answer new
+  pub running_kept : (answers : M → MachineAnswer → M → Type 0) (leads : O → Call → O → Type 0) (old new : HostWorld M O) (answer : Reply) → IsHostAnswer answers leads old answer new
       → new.driver.running ≡ old.driver.running
   running_kept answers leads old new (ReadConfig path answer) h = asked_kept old new h.0.0
   running_kept answers leads old new (Lists program variables answer) h = h.0.1

@@ -1,6 +1,6 @@
 -- What a command means: by the answers of its world and of its store, the bytes and the exit.
 use Rattle.std.specs.Prelude.{ℕ, Bool, true, false, List, [], ◌∷◌, ◌++◌, ◌≡◌, ◌⊎◌, Some, Ok, Err, take, flat_map, if◌then◌else◌}
-use Rattle.kt_cli.specs.Types.{Candidate, CaseOptions, Chain, Command, Entry, Job, Kind, Leads, NoEvent, Now, Picked, Question, Stop, StoreCall, Told, Trace, cases_of, leads_by, needs_case, utf8}
+use Rattle.kt_cli.specs.Types.{Candidate, CaseOptions, Chain, Command, Entry, Job, Kind, Leads, NoEvent, Now, Picked, Question, Stop, StoreCall, Reply, Trace, cases_of, leads_by, needs_case, utf8}
 use Rattle.kt_metadata.specs.declared.host.Host.{Host}
 use Rattle.kt_store.specs.declared.result_store.Keeping as keeping
 use Rattle.kt_plan.specs.declared.cases.Chosen.{Chosen}
@@ -32,7 +32,7 @@ pub record Seen : Type 0 where
 -- these answers lead the world through the command
 pub record Course {W : Type 0} (w : World W) (seen : Seen) (old new : W) : Type 0 where
   pub begun : W
-  pub asked : Chain (leads_by w.asks w.tells) old seen.questions begun
+  pub asked : Chain (leads_by w.asks w.replies) old seen.questions begun
   pub ran : Leads w.starts w.waits seen.plan seen.trace begun new
 
 -- a line for each selected case, and a warning for each filter that selects none
@@ -44,10 +44,10 @@ abbrev pub listing_exit : Chosen → ℕ
 listing_exit chosen = if all_matched chosen.unmatched then 0 else 1
 
 -- these cases were selected, the host was asked for what they require, and then these questions; the plan is theirs
-pub record IsPrepared (needed : Bool) (options : CaseOptions) (seen : Seen) (picked : Picked) (cases : List Candidate) (last : List Told) : Type 0 where
+pub record IsPrepared (needed : Bool) (options : CaseOptions) (seen : Seen) (picked : Picked) (cases : List Candidate) (last : List Reply) : Type 0 where
   pub before : List Question
   pub selects : Selects needed options before (Ok picked)
-  pub answers : List Told
+  pub answers : List Reply
   pub host : Host
   pub surveys : Surveys cases answers host
   pub asked : seen.questions ≡ before ++ (of_host answers ++ of_host last)
@@ -90,7 +90,7 @@ taken true cases = take 1 cases
 -- the first questions of a command over test cases for which memory ran out: for its cases, and then for what they require
 pub data AsksFirst (needed : Bool) (options : CaseOptions) : List Question → Type 0 where
   selecting : (questions : List Question) → SelectsFirst needed options questions → AsksFirst needed options questions
-  preparing : (before : List Question) (picked : Picked) (answers : List Told) → Selects needed options before (Ok picked)
+  preparing : (before : List Question) (picked : Picked) (answers : List Reply) → Selects needed options before (Ok picked)
       → SurveysFirst (taken needed picked.chosen.cases) answers → AsksFirst needed options (before ++ of_host answers)
 
 -- how a command ends if memory or the store cuts it short, or a failed writer, after which a report asks the store for no more

@@ -91,7 +91,7 @@ module _ {M O R : Type 0} (m : machine.Ghosts M) (o : system.Ghosts O) (r : keep
 
 -- a world that answers nothing
 abbrev pub no_world : World (Unit {0})
-no_world = record { running = λ w k role. None; pending = λ w k. false; starts = λ w job role answer v. ⊥; waits = λ w ended v. ⊥; asks = λ w asked v. ⊥; tells = λ w answer v. ⊥ }
+no_world = record { running = λ w k role. None; pending = λ w k. false; starts = λ w job role answer v. ⊥; waits = λ w ended v. ⊥; asks = λ w asked v. ⊥; replies = λ w answer v. ⊥ }
 
 module _ {M O P S R : Type 0} (p : Program M O P S) (r : keeping.Ghosts R) where
   -- a command was executed over a store: a report by itself; a command over test cases with what was found around the process and a driver of

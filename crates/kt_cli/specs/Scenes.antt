@@ -1,6 +1,6 @@
 -- What a command finds and leaves, and the relations of its world.
 use Rattle.std.specs.Prelude.{ℕ, Bool, List, Option}
-use Rattle.kt_cli.specs.Types.{Asked, Ended, Job, Role, StartAnswer, Told}
+use Rattle.kt_cli.specs.Types.{Asked, Ended, Job, Role, StartAnswer, Reply}
 use Rattle.kt_sched.specs.declared.launcher.Launcher as launcher
 use Rattle.kt_sched.specs.Children.{Child}
 use Rattle.kt_suite.specs.declared.tree.Tree as tree
@@ -32,12 +32,12 @@ World W = record {
   starts : W → Job → Role → StartAnswer → W → Type 0;
   waits : W → Ended → W → Type 0;
   asks : W → Asked → W → Type 0;
-  tells : W → Told → W → Type 0;
+  replies : W → Reply → W → Type 0;
 }
 
 -- the relations of a world, from those of its three traits
 abbrev pub world_of : {W : Type 0} → tree.Ghosts W → launcher.Ghosts W → world.Ghosts W → World W
-world_of t l w = record { running = l.running; pending = l.pending; starts = l.starts; waits = l.waits; asks = t.asks; tells = w.tells }
+world_of t l w = record { running = l.running; pending = l.pending; starts = l.starts; waits = l.waits; asks = t.asks; replies = w.replies }
 
 -- the launcher of a world
 abbrev pub launcher_of : {W : Type 0} → World W → launcher.Ghosts W

@@ -12,7 +12,7 @@ pub use Rattle.kt_child.specs.System.Calls.{Call}
 pub use Rattle.kt_child.specs.declared.driving.driver.DriverFault.{DriverFault}
 pub use Rattle.kt_child.specs.declared.driving.driver.DriverFault.TheVariants.{NoWorkDirectory}
 pub use Rattle.kt_plan.specs.Questions.{Question, leads_by}
-pub use Rattle.kt_plan.specs.Told.{Now, Told}
+pub use Rattle.kt_plan.specs.Reply.{Now, Reply}
 pub use Rattle.kt_plan.specs.declared.cases.Candidate.{Candidate}
 pub use Rattle.kt_plan.specs.declared.cases.Picked.{Picked}
 pub use Rattle.kt_plan.specs.declared.stop.Stop.{Stop}

@@ -1,6 +1,6 @@
 -- What a world was asked for the tree and then for the lists, and what came of it.
 use Rattle.std.proofs.Common.{Result, Ok, Err, Bool, not, filter, ◌+◌, IfErr, IfOk, List, OnOk, [], ap, arith, inl, inr, length, refl, subst, sym, ℕ, ◌<◌, ◌∙◌, ◌≡◌, ◌≤◌, ◌⊎◌}
-use Rattle.kt_plan.proofs.Common.{Asked, Answered, NoMemory, most_items, is_selected, SuiteFault, Filter, Program, Candidate, Chosen, Settings, Stop, CollectsOrShort, Collected, item_of, selected_cases, chosen_of, Offers, OffersFirst, Collects, unloaded, too_many, chosen, loading, offering, LoadsOrShort, RanShort, Loads, by_tree, RanOut, IsShort, Told}
+use Rattle.kt_plan.proofs.Common.{Asked, Answered, NoMemory, most_items, is_selected, SuiteFault, Filter, Program, Candidate, Chosen, Settings, Stop, CollectsOrShort, Collected, item_of, selected_cases, chosen_of, Offers, OffersFirst, Collects, unloaded, too_many, chosen, loading, offering, LoadsOrShort, RanShort, Loads, by_tree, RanOut, IsShort, Reply}
 use Rattle.std.proofs.lemmas.List.Filters.{length-filter_both}
 use Rattle.kt_base.specs.declared.no_memory.NoMemory.{NoMemory as OutOfMemory}
 use Rattle.kt_suite.specs.Faults.{IsNoMemory}
@@ -24,11 +24,11 @@ few_chosen filters found (Ok c) e few =
     subst (λ (x : Chosen). length x.cases ≤ most_items) (sym e) less
 few_chosen filters found (Err why) e few = tt
 
-module _ {W : Type 0} (asks : W → Asked → W → Type 0) (tells : W → Told → W → Type 0) (settings : Settings) (kyuafile : List ℕ) (old mid : W) where
+module _ {W : Type 0} (asks : W → Asked → W → Type 0) (replies : W → Reply → W → Type 0) (settings : Settings) (kyuafile : List ℕ) (old mid : W) where
   -- the tree was not loaded
   pub tree_stopped : (fault : SuiteFault) (why : Stop) → Answered asks old mid (λ asked. LoadsOrShort kyuafile asked (Err fault))
       → ((refusal : OutOfMemory) × (why ≡ stop.NoMemory refusal) × (fault.cause ≡ NoMemory refusal)) ⊎ ((why ≡ stop.Tree fault) × (IsNoMemory fault → ⊥))
-      → Collected asks tells settings kyuafile old mid (Err why)
+      → Collected asks replies settings kyuafile old mid (Err why)
   tree_stopped fault why a t = record { asked = a.asked; answers = []; loaded = mid; chain = a.chain; lists = refl; holds = by t a.holds }
     where
       by : ((refusal : OutOfMemory) × (why ≡ stop.NoMemory refusal) × (fault.cause ≡ NoMemory refusal)) ⊎ ((why ≡ stop.Tree fault) × (IsNoMemory fault → ⊥)) → LoadsOrShort kyuafile a.asked (Err fault)
@@ -43,8 +43,8 @@ module _ {W : Type 0} (asks : W → Asked → W → Type 0) (tells : W → Told 
     loads = loaded_all programs a.asked kyuafile a.holds
 
     -- memory ran out while the programs were listed
-    pub lists_stopped : (shown : List Program) (r : Result Chosen Stop) (why : Stop) → shown ≡ programs → Answered tells mid new (λ answers. OffersFirst settings.config settings.filters shown answers) → r ≡ Err why → RanOut why
-        → Collected asks tells settings kyuafile old new r
+    pub lists_stopped : (shown : List Program) (r : Result Chosen Stop) (why : Stop) → shown ≡ programs → Answered replies mid new (λ answers. OffersFirst settings.config settings.filters shown answers) → r ≡ Err why → RanOut why
+        → Collected asks replies settings kyuafile old new r
     lists_stopped shown r why same b e short = record {
       asked = a.asked;
       answers = b.asked;
@@ -58,8 +58,8 @@ module _ {W : Type 0} (asks : W → Asked → W → Type 0) (tells : W → Told 
     }
 
     module _ (shown : List Program) (filters : List Filter) (found : List Candidate) (same : shown ≡ programs) (own : filters ≡ settings.filters)
-        (b : Answered tells mid new (λ answers. Offers settings.config settings.filters shown answers found)) where
-      collected : (r : Result Chosen Stop) → CollectsOrShort settings kyuafile a.asked b.asked r → Collected asks tells settings kyuafile old new r
+        (b : Answered replies mid new (λ answers. Offers settings.config settings.filters shown answers found)) where
+      collected : (r : Result Chosen Stop) → CollectsOrShort settings kyuafile a.asked b.asked r → Collected asks replies settings kyuafile old new r
       collected r h = record { asked = a.asked; answers = b.asked; loaded = mid; chain = a.chain; lists = b.chain; holds = h }
 
       offers : Offers settings.config settings.filters programs b.asked found
@@ -67,9 +67,9 @@ module _ {W : Type 0} (asks : W → Asked → W → Type 0) (tells : W → Told 
 
       -- the filters selected, or there were too many cases
       pub all_chosen : (r : Result Chosen Stop) → IfOk r (λ c. c ≡ chosen_of filters found) → OnOk r (length found ≤ most_items) → IfErr r (λ why. RanOut why ⊎ ((why ≡ stop.TooManyCases) × (most_items < length found)))
-          → Collected asks tells settings kyuafile old new r
+          → Collected asks replies settings kyuafile old new r
       all_chosen (Ok c) e few s =
           let right : c ≡ chosen_of settings.filters found = e ∙ ap (λ (fs : List Filter). chosen_of fs found) own in
           collected (Ok c) (inr (subst (λ (x : Chosen). Collects settings kyuafile a.asked b.asked (Ok x)) (sym right) (chosen a.asked b.asked programs found loads offers few)))
-      all_chosen (Err why) e few (inl short) = collected (Err why) (inl (short, offering a.asked b.asked programs loads (all_first tells settings.config settings.filters programs b.asked found offers)))
+      all_chosen (Err why) e few (inl short) = collected (Err why) (inl (short, offering a.asked b.asked programs loads (all_first replies settings.config settings.filters programs b.asked found offers)))
       all_chosen (Err why) e few (inr s) = collected (Err why) (inr (subst (λ (w : Stop). Collects settings kyuafile a.asked b.asked (Err w)) (sym s.0) (too_many a.asked b.asked programs found loads offers s.1)))

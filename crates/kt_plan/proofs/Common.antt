@@ -32,4 +32,4 @@ pub use Rattle.kt_plan.specs.Planning.{ArePlanned, IsDecided, IsJobOf, LooksFor,
 pub use Rattle.kt_plan.specs.Questions.{AreFirst, leads_by, of_host, of_tree}
 pub use Rattle.kt_plan.specs.StopWords.{quoted_words}
 pub use Rattle.kt_plan.specs.Stops.{IsShort, RanOut}
-pub use Rattle.kt_plan.specs.Told.{Finds, HasDisk, HasMemory, IsRoot, Lists, ReadConfig, Told}
+pub use Rattle.kt_plan.specs.Reply.{Finds, HasDisk, HasMemory, IsRoot, Lists, ReadConfig, Reply}

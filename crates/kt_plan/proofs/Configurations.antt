@@ -1,6 +1,6 @@
 -- What a command is configured with, word by word.
 use Rattle.std.proofs.Common.{Option, Some, None, Result, Ok, Err, IsErrAnd, ◌≡◌, ℕ, List, [], ◌∷◌, ◌++◌, refl, sym, ap, ◌∙◌, subst, inl, inr, append_assoc}
-use Rattle.kt_plan.proofs.Common.{err_from_is_err_and, Definition, ConfigFault, Values, Answered, Configured, OrShort, GivesMore, GivesOne, Gives, unread_stop, Configures, ReadsFirst, before_file, after_file, IsConfiguration, ReadsConfig, behind, in_front, defined, failed, missing, none, read, refused, seen, stopped, unread, word_meaning, words_meaning, CaseOptions, IsShort, Told, ReadConfig, Stop}
+use Rattle.kt_plan.proofs.Common.{err_from_is_err_and, Definition, ConfigFault, Values, Answered, Configured, OrShort, GivesMore, GivesOne, Gives, unread_stop, Configures, ReadsFirst, before_file, after_file, IsConfiguration, ReadsConfig, behind, in_front, defined, failed, missing, none, read, refused, seen, stopped, unread, word_meaning, words_meaning, CaseOptions, IsShort, Reply, ReadConfig, Stop}
 use Rattle.kt_config.specs.Holding.{Holds}
 use Rattle.kt_plan.proofs.Chains.{answered-as, answered-once}
 use Rattle.kt_config.specs.Reading.{IsDue, IsRead}
@@ -17,13 +17,13 @@ behind-in_front before one (Err fault) = refl
 -- ---- the configuration file
 
 -- all that is asked for it is what is asked first
-pub file_first : (path : Option (List ℕ)) (answers : List Told) (meant : Result (List Definition) Stop) → ReadsConfig path answers meant → ReadsFirst path answers
+pub file_first : (path : Option (List ℕ)) (answers : List Reply) (meant : Result (List Definition) Stop) → ReadsConfig path answers meant → ReadsFirst path answers
 file_first _ _ _ none = before_file None
 file_first _ _ _ (unread path fault u) = after_file path (Err fault)
 file_first _ _ _ (seen path bytes meant c) = after_file path (Ok bytes)
 
 -- and so for the configuration
-pub configuration_first : (options : CaseOptions) (answers : List Told) (meant : Result (List Definition) Stop) → Configures options answers meant → ReadsFirst options.config answers
+pub configuration_first : (options : CaseOptions) (answers : List Reply) (meant : Result (List Definition) Stop) → Configures options answers meant → ReadsFirst options.config answers
 configuration_first options answers _ (stopped fault r) = file_first options.config answers (Err fault) r
 configuration_first options answers _ (defined before r) = file_first options.config answers (Ok before) r
 
@@ -39,19 +39,19 @@ refused_config_file bytes fault d = record { meant = Err (stop.Configuration fau
 pub none_given : (path : Option (List ℕ)) (config : Values) → path ≡ None → Holds config [] → Configured (ReadsConfig path []) (Ok config)
 none_given path config e h = record { meant = Ok []; means = subst (λ (p : Option (List ℕ)). ReadsConfig p [] (Ok [])) (sym e) none; gives = h }
 
-module _ {W : Type 0} (tells : W → Told → W → Type 0) (old new : W) where
+module _ {W : Type 0} (replies : W → Reply → W → Type 0) (old new : W) where
   -- the configuration is that of a path, or memory ran out
   abbrev pub Reads : Option (List ℕ) → Result Values Stop → Type 0
-  Reads path outcome = Answered tells old new (λ answers. OrShort outcome path answers (Configured (ReadsConfig path answers) outcome))
+  Reads path outcome = Answered replies old new (λ answers. OrShort outcome path answers (Configured (ReadsConfig path answers) outcome))
 
   -- the configuration of a command, or memory ran out
   abbrev pub Configuration : CaseOptions → Result Values Stop → Type 0
-  Configuration options outcome = Answered tells old new (λ answers. OrShort outcome options.config answers (Configured (Configures options answers) outcome))
+  Configuration options outcome = Answered replies old new (λ answers. OrShort outcome options.config answers (Configured (Configures options answers) outcome))
 
   -- it can't be read
-  pub file_unread : (path : List ℕ) (answer : Result (List ℕ) ReadFault) (fault : ReadFault) → tells old (ReadConfig path answer) new → answer ≡ Err fault → Reads (Some path) (Err (unread_stop fault))
+  pub file_unread : (path : List ℕ) (answer : Result (List ℕ) ReadFault) (fault : ReadFault) → replies old (ReadConfig path answer) new → answer ≡ Err fault → Reads (Some path) (Err (unread_stop fault))
   file_unread path answer fault t e =
-      answered-once (ReadConfig path (Err fault)) (subst (λ (a : Result (List ℕ) ReadFault). tells old (ReadConfig path a) new) e t) (by fault)
+      answered-once (ReadConfig path (Err fault)) (subst (λ (a : Result (List ℕ) ReadFault). replies old (ReadConfig path a) new) e t) (by fault)
     where
       by : (f : ReadFault) → OrShort {T = Values} (Err (unread_stop f)) (Some path) (ReadConfig path (Err f) ∷ []) (Configured (ReadsConfig (Some path) (ReadConfig path (Err f) ∷ [])) (Err (unread_stop f)))
       by Missing = inr (record { meant = Err stop.UnreadConfiguration; means = unread path Missing missing; gives = refl })
@@ -59,14 +59,14 @@ module _ {W : Type 0} (tells : W → Told → W → Type 0) (old new : W) where
       by (Memory refusal) = inl ((refusal, refl), after_file path (Err (Memory refusal)))
 
   -- memory ran out after the answer
-  pub file_short : (path : List ℕ) (answer : Result (List ℕ) ReadFault) (outcome : Result Values Stop) → tells old (ReadConfig path answer) new → IsShort outcome → Reads (Some path) outcome
+  pub file_short : (path : List ℕ) (answer : Result (List ℕ) ReadFault) (outcome : Result Values Stop) → replies old (ReadConfig path answer) new → IsShort outcome → Reads (Some path) outcome
   file_short path answer outcome t s = answered-once (ReadConfig path answer) t (inl (s, after_file path answer))
 
   -- it is read
-  pub file_seen : (path bytes : List ℕ) (answer : Result (List ℕ) ReadFault) (outcome : Result Values Stop) → tells old (ReadConfig path answer) new → answer ≡ Ok bytes
+  pub file_seen : (path bytes : List ℕ) (answer : Result (List ℕ) ReadFault) (outcome : Result Values Stop) → replies old (ReadConfig path answer) new → answer ≡ Ok bytes
       → Configured (IsConfiguration bytes) outcome → Reads (Some path) outcome
   file_seen path bytes answer outcome t e c =
-      answered-once (ReadConfig path (Ok bytes)) (subst (λ (a : Result (List ℕ) ReadFault). tells old (ReadConfig path a) new) e t)
+      answered-once (ReadConfig path (Ok bytes)) (subst (λ (a : Result (List ℕ) ReadFault). replies old (ReadConfig path a) new) e t)
       (inr (record { meant = c.meant; means = seen path bytes c.meant c.means; gives = c.gives }))
 
   -- the file's stop is the whole step's
@@ -77,28 +77,28 @@ module _ {W : Type 0} (tells : W → Told → W → Type 0) (old new : W) where
       answered-as a (λ answers h. subst (λ (o : Result Values Stop). OrShort o options.config answers (Configured (Configures options answers) o)) (sym (p.1 ∙ ap (λ (x : Stop). Err x) p.2))
       (by answers (subst (λ (o : Result Values Stop). OrShort o options.config answers (Configured (ReadsConfig options.config answers) o)) e h)))
     where
-      meant : (answers : List Told) (m : Result (List Definition) Stop) → ReadsConfig options.config answers m → Gives (Err fault) m → Configured (Configures options answers) (Err fault)
+      meant : (answers : List Reply) (m : Result (List Definition) Stop) → ReadsConfig options.config answers m → Gives (Err fault) m → Configured (Configures options answers) (Err fault)
       meant answers (Ok definitions) m g = absurd g
       meant answers (Err f) m g = record { meant = Err f; means = stopped f m; gives = g }
 
-      by : (answers : List Told) → OrShort {T = Values} (Err fault) options.config answers (Configured (ReadsConfig options.config answers) (Err fault))
+      by : (answers : List Reply) → OrShort {T = Values} (Err fault) options.config answers (Configured (ReadsConfig options.config answers) (Err fault))
           → OrShort {T = Values} (Err fault) options.config answers (Configured (Configures options answers) (Err fault))
       by answers (inl s) = inl s
       by answers (inr c) = inr (meant answers c.meant c.means c.gives)
 
   -- the definitions that were found, and what follows from them
-  pub with_definitions : {found : Result Values Stop} {config : Values} {path : Option (List ℕ)} {P : List Told → Type 0}
-      (Means : List Told → Result (List Definition) Stop → Type 0) → found ≡ Ok config
-      → Answered tells old new (λ answers. OrShort found path answers (Configured (Means answers) found))
-      → ((answers : List Told) (definitions : List Definition) → Means answers (Ok definitions) → Gives (Ok config) (Ok definitions) → P answers) → Answered tells old new P
+  pub with_definitions : {found : Result Values Stop} {config : Values} {path : Option (List ℕ)} {P : List Reply → Type 0}
+      (Means : List Reply → Result (List Definition) Stop → Type 0) → found ≡ Ok config
+      → Answered replies old new (λ answers. OrShort found path answers (Configured (Means answers) found))
+      → ((answers : List Reply) (definitions : List Definition) → Means answers (Ok definitions) → Gives (Ok config) (Ok definitions) → P answers) → Answered replies old new P
   with_definitions {config = config} {path = path} {P = P} Means e a f =
       answered-as a (λ answers h. by answers (subst (λ (o : Result Values Stop). OrShort o path answers (Configured (Means answers) o)) e h))
     where
-      meant : (answers : List Told) (m : Result (List Definition) Stop) → Means answers m → Gives (Ok config) m → P answers
+      meant : (answers : List Reply) (m : Result (List Definition) Stop) → Means answers m → Gives (Ok config) m → P answers
       meant answers (Ok definitions) m g = f answers definitions m g
       meant answers (Err fault) m g = absurd g
 
-      by : (answers : List Told) → OrShort {T = Values} (Ok config) path answers (Configured (Means answers) (Ok config)) → P answers
+      by : (answers : List Reply) → OrShort {T = Values} (Ok config) path answers (Configured (Means answers) (Ok config)) → P answers
       by answers (inl s) = absurd s.0
       by answers (inr c) = meant answers c.meant c.means c.gives
 

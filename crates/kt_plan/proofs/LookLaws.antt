@@ -1,13 +1,13 @@
 -- What the host is asked for, and what is noted of its answers.
 use Rattle.std.proofs.Common.{Bool, true, false, Option, ◌≡◌, ℕ, List, [], ◌∷◌, ◌++◌, ◌&&◌, ◌||◌, refl, sym, ap, ◌∙◌, subst, append_assoc, append-nil}
-use Rattle.kt_plan.proofs.Common.{Answered, is_found, is_same_need, IsNoted, Host, Need, Candidate, Notes, finds, needs_of, LooksFor, nothing, asked, Surveys, SurveysFirst, AreFirst, Told, Finds, IsRoot, HasMemory, HasDisk}
+use Rattle.kt_plan.proofs.Common.{Answered, is_found, is_same_need, IsNoted, Host, Need, Candidate, Notes, finds, needs_of, LooksFor, nothing, asked, Surveys, SurveysFirst, AreFirst, Reply, Finds, IsRoot, HasMemory, HasDisk}
 use Rattle.kt_plan.proofs.Chains.{answered-as, answered-once, answered-then}
 use Rattle.std.specs.List.{list_any}
 use Rattle.std.proofs.lemmas.List.Folds.{list_any-append}
 use Rattle.std.proofs.Math.Bool.{or-false, and-true, and-false, or_assoc}
 
 -- more was asked
-notes_more : (answers more : List Told) (a b d : Host) → Notes answers a b → Notes more b d → Notes (answers ++ more) a d
+notes_more : (answers more : List Reply) (a b d : Host) → Notes answers a b → Notes more b d → Notes (answers ++ more) a d
 notes_more answers more a b d h k = record {
   found = λ need word.
       k.found need word ∙ ap (λ (x : Bool). x || list_any (finds need word) more) (h.found need word)
@@ -37,55 +37,55 @@ notes_there need name old new k = record {
 }
 
 -- questions, and others after them
-looks_append : (some after : List (Need × List ℕ)) (answers more : List Told) → LooksFor some answers → LooksFor after more → LooksFor (some ++ after) (answers ++ more)
+looks_append : (some after : List (Need × List ℕ)) (answers more : List Reply) → LooksFor some answers → LooksFor after more → LooksFor (some ++ after) (answers ++ more)
 looks_append _ after _ more nothing k = k
 looks_append _ after _ more (asked need word needs answer answers h) k = asked need word (needs ++ after) answer (answers ++ more) (looks_append needs after answers more h k)
 
 -- there are questions about any needs
-asks_all : (needs : List (Need × List ℕ)) → (answers : List Told) × LooksFor needs answers
+asks_all : (needs : List (Need × List ℕ)) → (answers : List Reply) × LooksFor needs answers
 asks_all [] = ([], nothing)
 asks_all (first ∷ needs) = let rest = asks_all needs in (Finds first.0 first.1 false ∷ rest.0, asked first.0 first.1 needs false rest.0 rest.1)
 
 -- some questions, more, and others after them
-rejoined : (a b d e : List Told) → a ++ ((b ++ d) ++ e) ≡ (a ++ b) ++ (d ++ e)
-rejoined a b d e = ap (λ (ts : List Told). a ++ ts) (append_assoc b d e) ∙ sym (append_assoc a b (d ++ e))
+rejoined : (a b d e : List Reply) → a ++ ((b ++ d) ++ e) ≡ (a ++ b) ++ (d ++ e)
+rejoined a b d e = ap (λ (ts : List Reply). a ++ ts) (append_assoc b d e) ∙ sym (append_assoc a b (d ++ e))
 
 -- all questions to the host are the first ones
-pub all_surveyed : (cases : List Candidate) (answers : List Told) (host : Host) → Surveys cases answers host → SurveysFirst cases answers
+pub all_surveyed : (cases : List Candidate) (answers : List Reply) (host : Host) → Surveys cases answers host → SurveysFirst cases answers
 all_surveyed cases answers host s = record {
   root = host.root;
   memory = host.memory;
   disk = host.disk;
   looked = s.looked;
   asked = s.asked;
-  first = ([], subst (λ (ts : List Told). LooksFor (needs_of cases) ts) (sym (append-nil s.looked)) s.all);
+  first = ([], subst (λ (ts : List Reply). LooksFor (needs_of cases) ts) (sym (append-nil s.looked)) s.all);
 }
 
-module _ {W : Type 0} (tells : W → Told → W → Type 0) where
+module _ {W : Type 0} (replies : W → Reply → W → Type 0) where
   -- a required file or program isn't there
-  pub word_missing : (need : Need) (name : List ℕ) (old new : W) (host : Host) (answer : Bool) → answer ≡ false → tells old (Finds need name answer) new
-      → Answered tells old new (λ answers. LooksFor ((need, name) ∷ []) answers × Notes answers host host)
+  pub word_missing : (need : Need) (name : List ℕ) (old new : W) (host : Host) (answer : Bool) → answer ≡ false → replies old (Finds need name answer) new
+      → Answered replies old new (λ answers. LooksFor ((need, name) ∷ []) answers × Notes answers host host)
   word_missing need name old new host answer missing h =
-      answered-once (Finds need name false) (subst (λ (b : Bool). tells old (Finds need name b) new) missing h) (asked need name [] false [] nothing, notes_missing need name host)
+      answered-once (Finds need name false) (subst (λ (b : Bool). replies old (Finds need name b) new) missing h) (asked need name [] false [] nothing, notes_missing need name host)
 
   -- it is there
-  pub word_there : (need : Need) (name : List ℕ) (old new : W) (was now : Host) (answer : Bool) → answer ≡ true → tells old (Finds need name answer) new → IsNoted need name was now
-      → Answered tells old new (λ answers. LooksFor ((need, name) ∷ []) answers × Notes answers was now)
+  pub word_there : (need : Need) (name : List ℕ) (old new : W) (was now : Host) (answer : Bool) → answer ≡ true → replies old (Finds need name answer) new → IsNoted need name was now
+      → Answered replies old new (λ answers. LooksFor ((need, name) ∷ []) answers × Notes answers was now)
   word_there need name old new was now answer there h n =
-      answered-once (Finds need name true) (subst (λ (b : Bool). tells old (Finds need name b) new) there h) (asked need name [] true [] nothing, notes_there need name was now n)
+      answered-once (Finds need name true) (subst (λ (b : Bool). replies old (Finds need name b) new) there h) (asked need name [] true [] nothing, notes_there need name was now n)
 
   -- memory ran out after a question about a word
-  pub word_asked : (need : Need) (name : List ℕ) (old new : W) (answer : Bool) → tells old (Finds need name answer) new → Answered tells old new (λ answers. AreFirst (LooksFor ((need, name) ∷ [])) answers)
+  pub word_asked : (need : Need) (name : List ℕ) (old new : W) (answer : Bool) → replies old (Finds need name answer) new → Answered replies old new (λ answers. AreFirst (LooksFor ((need, name) ∷ [])) answers)
   word_asked need name old new answer h = answered-once (Finds need name answer) h ([], asked need name [] answer [] nothing)
 
   module _ (needs : List (Need × List ℕ)) (old : W) (was : Host) where
     -- the questions so far, and what was noted
     abbrev pub Looking : List (Need × List ℕ) → W → Host → Type 0
     Looking rest new now =
-        Answered tells old new (λ answers. ((more : List Told) → LooksFor rest more → LooksFor needs (answers ++ more)) × Notes answers was now)
+        Answered replies old new (λ answers. ((more : List Reply) → LooksFor rest more → LooksFor needs (answers ++ more)) × Notes answers was now)
 
     pub looking_next : (rest some after : List (Need × List ℕ)) (mid new : W) (then now : Host) → rest ≡ some ++ after → Looking rest mid then
-        → Answered tells mid new (λ answers. LooksFor some answers × Notes answers then now) → Looking after new now
+        → Answered replies mid new (λ answers. LooksFor some answers × Notes answers then now) → Looking after new now
     looking_next rest some after mid new then now e l a = answered-then l a (λ answers own g h. (
       λ more k. rw append_assoc (g.0 (own ++ more) (rw e (looks_append some after own more h.0 k))),
       notes_more answers own was then now g.1 h.1,
@@ -93,21 +93,21 @@ module _ {W : Type 0} (tells : W → Told → W → Type 0) where
 
     -- memory ran out
     pub looking_stopped : (rest some after : List (Need × List ℕ)) (mid new : W) (then : Host) → rest ≡ some ++ after → Looking rest mid then
-        → Answered tells mid new (λ answers. AreFirst (LooksFor some) answers) → Answered tells old new (λ answers. AreFirst (LooksFor needs) answers)
+        → Answered replies mid new (λ answers. AreFirst (LooksFor some) answers) → Answered replies old new (λ answers. AreFirst (LooksFor needs) answers)
     looking_stopped rest some after mid new then e l a =
         let others = asks_all after in
         answered-then l a (λ answers own g h. (
           h.0 ++ others.0,
-          subst (λ (ts : List Told). LooksFor needs ts) (rejoined answers own h.0 others.0) (g.0 ((own ++ h.0) ++ others.0) (rw e (looks_append some after (own ++ h.0) others.0 h.1 others.1))),
+          subst (λ (ts : List Reply). LooksFor needs ts) (rejoined answers own h.0 others.0) (g.0 ((own ++ h.0) ++ others.0) (rw e (looks_append some after (own ++ h.0) others.0 h.1 others.1))),
         ))
 
-    pub looking_all : (rest : List (Need × List ℕ)) (new : W) (now : Host) → rest ≡ [] → Looking rest new now → Answered tells old new (λ answers. LooksFor needs answers × Notes answers was now)
+    pub looking_all : (rest : List (Need × List ℕ)) (new : W) (now : Host) → rest ≡ [] → Looking rest new now → Answered replies old new (λ answers. LooksFor needs answers × Notes answers was now)
     looking_all rest new now e l = answered-as l (λ answers g. (rw append-nil at (g.0 [] (rw e nothing)), g.1))
 
   -- all that the host was asked
   pub surveyed : (cases : List Candidate) (old a b d new : W) (was now : Host) (root : Bool) (memory disk : Option ℕ) → was.root ≡ root → was.memory ≡ memory → was.disk ≡ disk
-      → ((need : Need) (word : List ℕ) → is_found need was word ≡ false) → tells old (IsRoot root) a → tells a (HasMemory memory) b → tells b (HasDisk disk) d
-      → Answered tells d new (λ answers. LooksFor (needs_of cases) answers × Notes answers was now) → Answered tells old new (λ answers. Surveys cases answers now)
+      → ((need : Need) (word : List ℕ) → is_found need was word ≡ false) → replies old (IsRoot root) a → replies a (HasMemory memory) b → replies b (HasDisk disk) d
+      → Answered replies d new (λ answers. LooksFor (needs_of cases) answers × Notes answers was now) → Answered replies old new (λ answers. Surveys cases answers now)
   surveyed cases old a b d new was now root memory disk r m k none x y z h = record {
     asked = IsRoot root ∷ HasMemory memory ∷ HasDisk disk ∷ h.asked;
     chain = (a, x, (b, y, (d, z, h.chain)));
@@ -120,8 +120,8 @@ module _ {W : Type 0} (tells : W → Told → W → Type 0) where
   }
 
   -- memory ran out as the host was asked
-  pub survey_stopped : (cases : List Candidate) (old a b d new : W) (root : Bool) (memory disk : Option ℕ) → tells old (IsRoot root) a → tells a (HasMemory memory) b → tells b (HasDisk disk) d
-      → Answered tells d new (λ answers. AreFirst (LooksFor (needs_of cases)) answers) → Answered tells old new (λ answers. SurveysFirst cases answers)
+  pub survey_stopped : (cases : List Candidate) (old a b d new : W) (root : Bool) (memory disk : Option ℕ) → replies old (IsRoot root) a → replies a (HasMemory memory) b → replies b (HasDisk disk) d
+      → Answered replies d new (λ answers. AreFirst (LooksFor (needs_of cases)) answers) → Answered replies old new (λ answers. SurveysFirst cases answers)
   survey_stopped cases old a b d new root memory disk x y z h = record {
     asked = IsRoot root ∷ HasMemory memory ∷ HasDisk disk ∷ h.asked;
     chain = (a, x, (b, y, (d, z, h.chain)));

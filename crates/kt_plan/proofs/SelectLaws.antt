@@ -1,50 +1,50 @@
 -- What a command selects, step by step.
 use Rattle.std.proofs.Common.{Ok, Err, Bool, ℕ, List, ◌++◌, inl, inr}
-use Rattle.kt_plan.proofs.Common.{Chain, Asked, Answered, CaseOptions, Chosen, Settings, Stop, CollectsOrShort, Collected, Collects, SettlesOrShort, Settles, leads_by, of_tree, of_host, Told, chain-append}
+use Rattle.kt_plan.proofs.Common.{Chain, Asked, Answered, CaseOptions, Chosen, Settings, Stop, CollectsOrShort, Collected, Collects, SettlesOrShort, Settles, leads_by, of_tree, of_host, Reply, chain-append}
 use Rattle.kt_plan.specs.Selecting.{SelectsOrShort, collecting, selected, settling, uncollected, unsettled}
 use Rattle.kt_plan.proofs.QuestionChains.{chain_of_host, chain_of_tree}
 
-module _ {W : Type 0} (asks : W → Asked → W → Type 0) (tells : W → Told → W → Type 0) where
+module _ {W : Type 0} (asks : W → Asked → W → Type 0) (replies : W → Reply → W → Type 0) where
   -- the settings were refused
   pub unsettled_answer : (needed : Bool) (options : CaseOptions) (old new : W) (fault : Stop)
-      → Answered tells old new (λ answers. SettlesOrShort needed options answers (Err fault))
-      → Answered (leads_by asks tells) old new (λ questions. SelectsOrShort needed options questions (Err fault))
+      → Answered replies old new (λ answers. SettlesOrShort needed options answers (Err fault))
+      → Answered (leads_by asks replies) old new (λ questions. SelectsOrShort needed options questions (Err fault))
   unsettled_answer needed options old new fault a = record {
     asked = of_host a.asked;
-    chain = chain_of_host asks tells a.asked old new a.chain;
+    chain = chain_of_host asks replies a.asked old new a.chain;
     holds = elim a.holds [ inl s ↦ inl (s.0, settling a.asked s.1) | inr s ↦ inr (unsettled a.asked fault s) ];
   }
 
-  settled_is : (needed : Bool) (options : CaseOptions) (answers : List Told) (settings : Settings) → SettlesOrShort needed options answers (Ok settings) → Settles needed options answers (Ok settings)
+  settled_is : (needed : Bool) (options : CaseOptions) (answers : List Reply) (settings : Settings) → SettlesOrShort needed options answers (Ok settings) → Settles needed options answers (Ok settings)
   settled_is needed options answers settings (inl s) = absurd s.0
   settled_is needed options answers settings (inr s) = s
 
-  chain_to : (answers : List Told) (asked : List Asked) (lists : List Told) (a b d e : W) → Chain tells a answers b → Chain asks b asked d → Chain tells d lists e
-      → Chain (leads_by asks tells) a (of_host answers ++ (of_tree asked ++ of_host lists)) e
+  chain_to : (answers : List Reply) (asked : List Asked) (lists : List Reply) (a b d e : W) → Chain replies a answers b → Chain asks b asked d → Chain replies d lists e
+      → Chain (leads_by asks replies) a (of_host answers ++ (of_tree asked ++ of_host lists)) e
   chain_to answers asked lists a b d e x y z =
-      chain-append (leads_by asks tells) (of_host answers) (of_tree asked ++ of_host lists) a b e (chain_of_host asks tells answers a b x)
-      (chain-append (leads_by asks tells) (of_tree asked) (of_host lists) b d e (chain_of_tree asks tells asked b d y) (chain_of_host asks tells lists d e z))
+      chain-append (leads_by asks replies) (of_host answers) (of_tree asked ++ of_host lists) a b e (chain_of_host asks replies answers a b x)
+      (chain-append (leads_by asks replies) (of_tree asked) (of_host lists) b d e (chain_of_tree asks replies asked b d y) (chain_of_host asks replies lists d e z))
 
   -- the tree was refused, or its cases
   pub uncollected_answer : (needed : Bool) (options : CaseOptions) (old mid new : W) (settings : Settings) (fault : Stop)
-      → Answered tells old mid (λ answers. SettlesOrShort needed options answers (Ok settings))
-      → Collected asks tells settings options.kyuafile mid new (Err fault)
-      → Answered (leads_by asks tells) old new (λ questions. SelectsOrShort needed options questions (Err fault))
+      → Answered replies old mid (λ answers. SettlesOrShort needed options answers (Ok settings))
+      → Collected asks replies settings options.kyuafile mid new (Err fault)
+      → Answered (leads_by asks replies) old new (λ questions. SelectsOrShort needed options questions (Err fault))
   uncollected_answer needed options old mid new settings fault a c = record {
     asked = of_host a.asked ++ (of_tree c.asked ++ of_host c.answers);
     chain = chain_to a.asked c.asked c.answers old mid c.loaded new a.chain c.chain c.lists;
     holds = elim c.holds [ inl s ↦ inl (s.0, collecting a.asked settings c.asked c.answers (settled_is needed options a.asked settings a.holds) s.1) | inr s ↦ inr (uncollected a.asked settings c.asked c.answers fault (settled_is needed options a.asked settings a.holds) s) ];
   }
 
-  collects_is : (settings : Settings) (kyuafile : List ℕ) (asked : List Asked) (lists : List Told) (chosen : Chosen) → CollectsOrShort settings kyuafile asked lists (Ok chosen) → Collects settings kyuafile asked lists (Ok chosen)
+  collects_is : (settings : Settings) (kyuafile : List ℕ) (asked : List Asked) (lists : List Reply) (chosen : Chosen) → CollectsOrShort settings kyuafile asked lists (Ok chosen) → Collects settings kyuafile asked lists (Ok chosen)
   collects_is settings kyuafile asked lists chosen (inl s) = absurd s.0
   collects_is settings kyuafile asked lists chosen (inr s) = s
 
   -- cases were selected
   pub selected_answer : (needed : Bool) (options : CaseOptions) (old mid new : W) (settings : Settings) (chosen : Chosen)
-      → Answered tells old mid (λ answers. SettlesOrShort needed options answers (Ok settings))
-      → Collected asks tells settings options.kyuafile mid new (Ok chosen)
-      → Answered (leads_by asks tells) old new (λ questions. SelectsOrShort needed options questions (Ok (record { settings = settings; chosen = chosen })))
+      → Answered replies old mid (λ answers. SettlesOrShort needed options answers (Ok settings))
+      → Collected asks replies settings options.kyuafile mid new (Ok chosen)
+      → Answered (leads_by asks replies) old new (λ questions. SelectsOrShort needed options questions (Ok (record { settings = settings; chosen = chosen })))
   selected_answer needed options old mid new settings chosen a c = record {
     asked = of_host a.asked ++ (of_tree c.asked ++ of_host c.answers);
     chain = chain_to a.asked c.asked c.answers old mid c.loaded new a.chain c.chain c.lists;

@@ -24,5 +24,5 @@ pub use Rattle.kt_plan.specs.Planning.{ArePlanned, IsDecided, IsJobOf, LooksFor,
 pub use Rattle.kt_plan.specs.Questions.{AreFirst, leads_by}
 pub use Rattle.kt_plan.specs.Selecting.{SelectsOrShort}
 pub use Rattle.kt_plan.specs.Stops.{IsShort, RanOut}
-pub use Rattle.kt_plan.specs.Told.{Finds, HasDisk, HasMemory, IsRoot, Lists, Now, ReadConfig, Told}
+pub use Rattle.kt_plan.specs.Reply.{Finds, HasDisk, HasMemory, IsRoot, Lists, Now, ReadConfig, Reply}
 pub use Rattle.kt_plan.specs.declared.cases.Candidate.{Candidate}

@@ -13,7 +13,7 @@ use Rattle.kt_config.specs.Reading.{outcome_of, IsDue}
 use Rattle.kt_suite.specs.Disjoint.{overlap_fault, IsDisjoint}
 use Rattle.kt_suite.specs.Filters.{filter_meaning}
 use Rattle.kt_plan.specs.declared.stop.Stop.TheVariants as stop
-use Rattle.kt_plan.specs.Told.{Told, ReadConfig}
+use Rattle.kt_plan.specs.Reply.{Reply, ReadConfig}
 
 -- ---- words in order
 
@@ -62,14 +62,14 @@ pub data IsConfiguration (bytes : List ℕ) : Result (List Definition) Stop → 
   read : (stmts : List Stmt) (definitions : List Definition) → Spells bytes stmts → outcome_of stmts ≡ Ok definitions → IsConfiguration bytes (Ok definitions)
 
 -- what the configuration file defines, if one is given, or why it stops the command
-pub data ReadsConfig : Option (List ℕ) → List Told → Result (List Definition) Stop → Type 0 where
+pub data ReadsConfig : Option (List ℕ) → List Reply → Result (List Definition) Stop → Type 0 where
   none : ReadsConfig None [] (Ok [])
   unread : (path : List ℕ) (fault : ReadFault) → IsUnread fault → ReadsConfig (Some path) (ReadConfig path (Err fault) ∷ []) (Err stop.UnreadConfiguration)
   seen : (path bytes : List ℕ) (meant : Result (List Definition) Stop) → IsConfiguration bytes meant
       → ReadsConfig (Some path) (ReadConfig path (Ok bytes) ∷ []) meant
 
 -- what the configuration file and then the words of `-v` define, or the stop at the first fault
-pub data Configures (options : CaseOptions) (answers : List Told) : Result (List Definition) Stop → Type 0 where
+pub data Configures (options : CaseOptions) (answers : List Reply) : Result (List Definition) Stop → Type 0 where
   stopped : (fault : Stop) → ReadsConfig options.config answers (Err fault) → Configures options answers (Err fault)
   defined : (before : List Definition) → ReadsConfig options.config answers (Ok before) → Configures options answers (behind before (words_meaning options.variables))
 
@@ -112,7 +112,7 @@ pub data Filters (needs_case : Bool) (words : List (List ℕ)) : Result (List Fi
 -- ---- the whole step
 
 -- the settings of a command, or the stop at the first fault: its configuration file, the words of `-v`, its filters
-pub data Settles (needs_case : Bool) (options : CaseOptions) (answers : List Told) : Result Settings Stop → Type 0 where
+pub data Settles (needs_case : Bool) (options : CaseOptions) (answers : List Reply) : Result Settings Stop → Type 0 where
   unconfigured : (fault : Stop) → Configures options answers (Err fault) → Settles needs_case options answers (Err fault)
   unfiltered : (definitions : List Definition) (fault : Stop) → Configures options answers (Ok definitions) → Filters needs_case options.filters (Err fault)
       → Settles needs_case options answers (Err fault)
@@ -120,6 +120,6 @@ pub data Settles (needs_case : Bool) (options : CaseOptions) (answers : List Tol
       → Filters needs_case options.filters (Ok settings.filters) → Settles needs_case options answers (Ok settings)
 
 -- the first questions for the configuration file: it is asked for, or not yet
-pub data ReadsFirst : Option (List ℕ) → List Told → Type 0 where
+pub data ReadsFirst : Option (List ℕ) → List Reply → Type 0 where
   before_file : (path : Option (List ℕ)) → ReadsFirst path []
   after_file : (path : List ℕ) (answer : Result (List ℕ) ReadFault) → ReadsFirst (Some path) (ReadConfig path answer ∷ [])

@@ -8,5 +8,5 @@ pub mod Questions
 pub mod Selecting
 pub mod StopWords
 pub mod Stops
-pub mod Told
+pub mod Reply
 pub mod Types

@@ -13,7 +13,7 @@ use Rattle.kt_metadata.specs.Requirements.{all_needs, first_reason, is_found, is
 use Rattle.kt_metadata.specs.declared.meta.Meta.{Meta}
 use Rattle.kt_plan.specs.Collecting.{variables_for}
 use Rattle.kt_plan.specs.Questions.{AreFirst}
-use Rattle.kt_plan.specs.Told.{Told, Finds, IsRoot, HasMemory, HasDisk}
+use Rattle.kt_plan.specs.Reply.{Reply, Finds, IsRoot, HasMemory, HasDisk}
 
 -- the effective properties of a case
 abbrev pub meta_in : Candidate → Meta
@@ -39,30 +39,30 @@ needs_of [] = []
 needs_of (candidate ∷ candidates) = needs_by candidate.case.fault (meta_in candidate) ++ needs_of candidates
 
 -- the host is asked whether each of these is found, in their order
-pub data LooksFor : List (Need × List ℕ) → List Told → Type 0 where
+pub data LooksFor : List (Need × List ℕ) → List Reply → Type 0 where
   nothing : LooksFor [] []
-  asked : (need : Need) (word : List ℕ) (needs : List (Need × List ℕ)) (answer : Bool) (answers : List Told) → LooksFor needs answers
+  asked : (need : Need) (word : List ℕ) (needs : List (Need × List ℕ)) (answer : Bool) (answers : List Reply) → LooksFor needs answers
       → LooksFor ((need, word) ∷ needs) (Finds need word answer ∷ answers)
 
 -- an answer says that this is there
-abbrev pub finds : Need → List ℕ → Told → Bool
+abbrev pub finds : Need → List ℕ → Reply → Bool
 finds need word (Finds other_need other answer) = is_same_need other_need other need word && answer
 finds need word other = false
 
 -- the host is asked whether the runner is root, for its memory and its disk space, and for what the cases require to be found; it is there
 -- if one of the answers says so
-pub record Surveys (candidates : List Candidate) (answers : List Told) (host : Host) : Type 0 where
-  pub looked : List Told
+pub record Surveys (candidates : List Candidate) (answers : List Reply) (host : Host) : Type 0 where
+  pub looked : List Reply
   pub asked : answers ≡ IsRoot host.root ∷ HasMemory host.memory ∷ HasDisk host.disk ∷ looked
   pub all : LooksFor (needs_of candidates) looked
   pub found : (need : Need) (word : List ℕ) → is_found need host word ≡ list_any (finds need word) looked
 
 -- the first questions to the host, if memory ran out: those for files and programs come last
-pub record SurveysFirst (candidates : List Candidate) (answers : List Told) : Type 0 where
+pub record SurveysFirst (candidates : List Candidate) (answers : List Reply) : Type 0 where
   pub root : Bool
   pub memory : Option ℕ
   pub disk : Option ℕ
-  pub looked : List Told
+  pub looked : List Reply
   pub asked : answers ≡ IsRoot root ∷ HasMemory memory ∷ HasDisk disk ∷ looked
   pub first : AreFirst (LooksFor (needs_of candidates)) looked
 

@@ -5,22 +5,22 @@ use Rattle.kt_plan.specs.Collecting.{Collects, CollectsFirst}
 use Rattle.kt_plan.specs.Configuring.{ReadsFirst, Settles}
 use Rattle.kt_plan.specs.Questions.{Question, of_tree, of_host}
 use Rattle.kt_plan.specs.Stops.{IsShort}
-use Rattle.kt_plan.specs.Told.{Told}
+use Rattle.kt_plan.specs.Reply.{Reply}
 
 -- what the options of a command select, by these questions, or the first fault that stops it: the configuration and the filters, and then the tree
 -- and its lists
 pub data Selects (needed : Bool) (options : CaseOptions) : List Question → Result Picked Stop → Type 0 where
-  unsettled : (answers : List Told) (fault : Stop) → Settles needed options answers (Err fault) → Selects needed options (of_host answers) (Err fault)
-  uncollected : (answers : List Told) (settings : Settings) (asked : List Asked) (lists : List Told) (fault : Stop) → Settles needed options answers (Ok settings)
+  unsettled : (answers : List Reply) (fault : Stop) → Settles needed options answers (Err fault) → Selects needed options (of_host answers) (Err fault)
+  uncollected : (answers : List Reply) (settings : Settings) (asked : List Asked) (lists : List Reply) (fault : Stop) → Settles needed options answers (Ok settings)
       → Collects settings options.kyuafile asked lists (Err fault) → Selects needed options (of_host answers ++ (of_tree asked ++ of_host lists)) (Err fault)
-  selected : (answers : List Told) (settings : Settings) (asked : List Asked) (lists : List Told) (chosen : Chosen) → Settles needed options answers (Ok settings)
+  selected : (answers : List Reply) (settings : Settings) (asked : List Asked) (lists : List Reply) (chosen : Chosen) → Settles needed options answers (Ok settings)
       → Collects settings options.kyuafile asked lists (Ok chosen)
       → Selects needed options (of_host answers ++ (of_tree asked ++ of_host lists)) (Ok (record { settings = settings; chosen = chosen }))
 
 -- the first questions for a selection, if memory ran out
 pub data SelectsFirst (needed : Bool) (options : CaseOptions) : List Question → Type 0 where
-  settling : (answers : List Told) → ReadsFirst options.config answers → SelectsFirst needed options (of_host answers)
-  collecting : (answers : List Told) (settings : Settings) (asked : List Asked) (lists : List Told) → Settles needed options answers (Ok settings)
+  settling : (answers : List Reply) → ReadsFirst options.config answers → SelectsFirst needed options (of_host answers)
+  collecting : (answers : List Reply) (settings : Settings) (asked : List Asked) (lists : List Reply) → Settles needed options answers (Ok settings)
       → CollectsFirst settings options.kyuafile asked lists → SelectsFirst needed options (of_host answers ++ (of_tree asked ++ of_host lists))
 
 -- a selection, or memory ran out after the first questions for it

@@ -14,12 +14,16 @@ pub struct Sched {
     alloc: Global,
     cases: Vec<Case>,
     order: Vec<u32>,
+    /// The place in the order of the next case to start.
     turn: usize,
     active: u32,
     width: u32,
+    /// The case whose cleanup is to be started.
     pending: Option<u32>,
+    /// The case to put.
     ready: Option<u32>,
     asked: Next,
+    /// Whether a put failed.
     failed: bool,
 }
 

@@ -16,7 +16,7 @@ pub enum Stage {
     Cleaning(EndedBody),
     /// It is over.
     Finished(CaseRecord),
-    /// Its entry was taken.
+    /// Its entry was taken, or its stage is being replaced.
     Taken,
 }
 

@@ -52,29 +52,24 @@ impl<S: Past> Platform for Host<'_, S> {
     }
 }
 
-/// Carries out the words of the process on the host, over a platform.
-fn run_over<P: Platform>(rt: &HostRuntime, platform: &mut P) -> u8 {
+/// Carries out the words of the process on the host, whatever `S` the files of results held.
+fn run<S: Past>(rt: &HostRuntime, past: PhantomData<S>) -> ExitCode {
     let outside = Outside {
         alloc: rt.alloc(),
         machine: HostMachine { rt },
         os: HostOs::new(rt),
     };
+    let mut host = Host { rt, past };
     // Line by line for `test`: `carry_out_words` sets that.
     let mut out = LineOutput::new(io::writer(rt), false);
     let (status, _outside) = carry_out_words(
         outside,
-        platform,
+        &mut host,
         env::args(rt),
         &mut out,
         &mut rt.stderr(),
     );
-    status
-}
-
-/// The program, whatever `S` the files of results held.
-fn run<S: Past>(rt: &HostRuntime, past: PhantomData<S>) -> ExitCode {
-    let mut host = Host { rt, past };
-    ExitCode::from(run_over(rt, &mut host))
+    ExitCode::from(status)
 }
 
 /// In bytes. The C library lets blocks of at most twice this size count.

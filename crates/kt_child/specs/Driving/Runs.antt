@@ -10,15 +10,15 @@ use Rattle.kt_child.specs.Driving.DriverSteps.{DriverStarts, DriverWaits}
 -- for the jobs of this plan, whose programs lie in the directory `source`, and whose work directories below `root`
 module _ (plan : List Job) (source root : List ℕ) where
   -- an answer with its own calls, from one board to another: a start of the plan's job, or an end
-  abbrev pub Answers : Board → List Call → Event → Board → Type 0
-  Answers old calls (Start i role answer) new = (job : Job) × (slice_get plan i ≡ Some job) × Starts source root old job role calls answer new
-  Answers old calls (End ended) new = Ends old calls ended new
+  abbrev pub Responds : Board → List Call → Event → Board → Type 0
+  Responds old calls (Start i role answer) new = (job : Job) × (slice_get plan i ≡ Some job) × Starts source root old job role calls answer new
+  Responds old calls (End ended) new = Ends old calls ended new
 
   -- a trace with its calls, which are those of the answers, one after the other
   abbrev pub Runs : Board → Trace → List Call → Board → Type 0
   Runs old NoEvent calls new = (calls ≡ []) × (new ≡ old)
   Runs old (Then T event) calls new =
-      (mid : Board) × (before : List Call) × (asked : List Call) × (calls ≡ before ++ asked) × Runs old T before mid × Answers mid asked event new
+      (mid : Board) × (before : List Call) × (asked : List Call) × (calls ≡ before ++ asked) × Runs old T before mid × Responds mid asked event new
 
 -- over a system whose calls are related so
 module _ {O : Type 0} (leads : O → Call → O → Type 0) where

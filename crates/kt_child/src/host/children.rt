@@ -124,9 +124,9 @@ fn has_new_end<P: OpenProcess + Drop>(children: &mut Children<P>, from: usize) -
     false
 }
 
-/// Rests until a child has ended, at the latest after a pause, and returns whether one was seen; at its end it doesn't look,
-/// since each child is polled then. Between its slices it looks at the newest children, and now and then at all. So many pauses
-/// went by since an end.
+/// Rests until a child has ended, at the latest after a pause, and returns whether one was seen. Between its slices it looks at
+/// the newest children, and now and then at all; after the last it doesn't look, since each child is polled then. `pauses` counts
+/// the pauses since an end was seen.
 pub(crate) fn await_end<P: OpenProcess + Drop, R: Files + Clock + AllocGlobal>(
     children: &mut Children<P>,
     removals: &mut Option<Removals>,

@@ -21,8 +21,8 @@ const TURNS_OF_A_LOOK: u32 = 8;
 
 /// The system itself: the processes, files and clocks of the standard library.
 ///
-/// A pause is over when a child ends, or after 10 milliseconds. A poll whose answer `running` would be early sleeps
-/// first. The first directory is the root of all others. A long removal goes on in pauses and at later removals.
+/// A pause is over when a child ends, or after 10 milliseconds. If it is too early to answer `running`, a poll sleeps first.
+/// The first directory is the root of all others. A long removal goes on in pauses and at later removals.
 ///
 /// An end is reported only of a child with a process, by the wait status of that process. The environment of a child is the
 /// runner's own with the changes of its plan. A read goes on from one place and ends at its limit or its first fault.
@@ -40,7 +40,7 @@ pub struct HostOs<R: Processes> {
     last: Option<(Child, HostChild<R::Started>)>,
     /// The pauses since a child was last seen to end.
     quiet: u32,
-    /// Whether some child is heard late, once a poll has looked.
+    /// Whether some child is heard late (`IsLate`), once a poll has looked.
     late: Option<bool>,
 }
 

@@ -14,25 +14,35 @@ use kt_words::CaseOptions;
 use std::alloc::Global;
 use std::io::Write;
 
-/// Runs a plan, `width` cases at once at most, and records and prints each entry. Returns how it
-/// ended, and whether all lines could be written.
-fn record_cases<L: Launcher, R: ResultStore, O: Write>(
-    alloc: Global,
+/// A plan that is run under the number of its run, `width` cases at once at most.
+#[derive(Drop)]
+struct NumberedPlan {
     plan: Items<Job>,
     width: u32,
+    number: u64,
+}
+
+/// Runs a plan, and records and prints each entry. Returns how it ended, and whether all lines could be written.
+fn record_cases<L: Launcher, R: ResultStore, O: Write>(
+    alloc: Global,
+    numbered: NumberedPlan,
     launcher: &mut L,
     results: &mut R,
-    number: u64,
     out: &mut O,
 ) -> (Result<Totals, RunFault>, Result<(), OutputFault>)
-    requires plan { IsPlan plan }
-    requires width { IsWidth width }
+    requires plan { IsPlan numbered.plan }
+    requires width { IsWidth numbered.width }
     requires idle { IsIdle (L.running launcher.old) (L.pending launcher.old) }
-    ensures records { Records L.Launcher R.Keeping plan width number
+    ensures records { Records L.Launcher R.Keeping numbered.plan numbered.width numbered.number
         (scene launcher.old results.old (O.contents out.old))
         (scene launcher.new results.new (O.contents out.new)) result.0 (is_err result.1) }
     ensures idle { IsIdle (L.running launcher.new) (L.pending launcher.new) }
 {
+    let NumberedPlan {
+        plan,
+        width,
+        number,
+    } = numbered;
     let mut recorder = Recorder {
         results,
         out,
@@ -124,7 +134,12 @@ fn run_plan<L: Launcher, R: ResultStore, O: Write>(
         Err(fault) => return ended(write_refusal(fault, out), FAILED),
     };
     let width = picked.settings.config.parallelism();
-    let (answer, written) = record_cases(alloc, plan, width, launcher, results, number, out);
+    let numbered = NumberedPlan {
+        plan,
+        width,
+        number,
+    };
+    let (answer, written) = record_cases(alloc, numbered, launcher, results, out);
     match answer {
         Err(fault) => ended(write_run_fault(written, fault, out), FAILED),
         Ok(totals) => match results.finish(number) {

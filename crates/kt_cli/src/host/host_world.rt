@@ -67,7 +67,7 @@ impl<M: Machine + Drop, O: Os + Drop> World for HostWorld<M, O> {
     ghost use Rattle.std.specs.Prelude.{◌≡◌};
     ghost use Rattle.kt_cli.specs.Common.{ap, ChildrenState, is_among, shown_in, IsHostAnswer, look_kept, running_kept};
 
-    ghost tells = { IsHostAnswer M.answers O.leads };
+    ghost replies = { IsHostAnswer M.answers O.leads };
 
     fn config(&mut self, path: &Text) -> Result<Bytes, ReadFault> {
         self.machine.front(path.as_str())
@@ -107,9 +107,9 @@ impl<M: Machine + Drop, O: Os + Drop> World for HostWorld<M, O> {
     ghost pends_on = { λ s t q h k. ap (λ (b : ChildrenState). is_among b.pending k)
         (look_kept M.answers s t q h) };
 
-    ghost runs_told = { λ s t q h k r. ap (λ (b : ChildrenState). shown_in b k r)
+    ghost runs_by_reply = { λ s t q h k r. ap (λ (b : ChildrenState). shown_in b k r)
         (running_kept M.answers O.leads s t q h) };
 
-    ghost pends_told = { λ s t q h k. ap (λ (b : ChildrenState). is_among b.pending k)
+    ghost pends_by_reply = { λ s t q h k. ap (λ (b : ChildrenState). is_among b.pending k)
         (running_kept M.answers O.leads s t q h) };
 }

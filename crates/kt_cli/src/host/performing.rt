@@ -88,7 +88,7 @@ fn perform_in_file<M: Machine + Drop, O: Os + Drop, P: Platform, W: Write>(
 }
 
 /// Performs a command of the program: over this machine, this system and the results that the platform opens and
-/// closes, or, for `list` and `debug`, over none in memory. At its end all its text is handed on.
+/// closes, or, for `list` and `debug`, over an empty store in memory. At its end all its text is handed on.
 pub fn perform<M: Machine + Drop, O: Os + Drop, P: Platform, W: Write>(
     outside: Outside<M, O>,
     platform: &mut P,

@@ -1,5 +1,8 @@
-ghost use Rattle.std.specs.Prelude.{◌≡◌, ◌≤◌, ◌+◌, ◌++◌, [], length, drop};
+ghost use Rattle.std.specs.Prelude.{◌≡◌, ◌<◌, ◌≤◌, ◌+◌, ◌++◌, [], true, false, length};
+ghost use Rattle.std.specs.Io.KnownBytes.{Keeps, append_known};
 
+use kt_base::send;
+use std::io::Write;
 use std::marker::Model;
 
 /// How many bytes are held at the most.
@@ -41,13 +44,6 @@ impl HeldBytes {
         self.count
     }
 
-    /// The bytes as a slice.
-    pub fn as_slice(&self) -> &[u8]
-        ensures { result.now ≡ self.now }
-    {
-        &self.room[..self.count]
-    }
-
     /// Appends bytes that fit.
     pub fn append(&mut self, more: &[u8])
         requires { length self.old + length more.now ≤ 65536 }
@@ -58,13 +54,17 @@ impl HeldBytes {
         self.count = count + more.len();
     }
 
-    /// Drops the first bytes, and moves the rest to the front.
-    pub fn let_go(&mut self, amount: usize)
-        requires { amount ≤ length self.old }
-        ensures { self.new ≡ drop amount self.old }
+    /// Hands the bytes to a writer, and returns whether a write failed. What it leaves unwritten stays, from the front on.
+    pub fn hand_on<W: Write>(&mut self, out: &mut W) -> bool
+        ensures bytes { Keeps (append_known (W.contents out.old) self.old)
+            (append_known (W.contents out.new) self.new) }
+        ensures all { result ≡ false → self.new ≡ [] }
+        ensures short { result ≡ true → 0 < length self.new }
     {
         let count = self.count;
-        self.room.copy_within(amount..count, 0);
-        self.count = count - amount;
+        let (sent, failed) = send(&self.room[..count], out);
+        self.room.copy_within(sent..count, 0);
+        self.count = count - sent;
+        failed
     }
 }

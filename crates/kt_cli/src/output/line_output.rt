@@ -1,11 +1,9 @@
-ghost use Rattle.std.specs.Prelude.{◌≡◌, ◌<◌, [], true, false, length};
-ghost use Rattle.std.specs.Io.KnownBytes.{Keeps, append_known};
+ghost use Rattle.std.specs.Prelude.{◌≡◌, ◌<◌, true, false, length};
 
 use crate::Exit;
 use crate::output::exit::FAILED;
 use crate::output::flushing::{FlushFault, flush_own};
 use crate::output::held_bytes::{HeldBytes, ROOM};
-use kt_base::send;
 use std::io;
 use std::io::{ErrorKind, Write};
 
@@ -28,18 +26,6 @@ pub struct LineOutput<W> {
 /// The error of a call after one that failed.
 fn broken() -> io::Error {
     io::Error::from(ErrorKind::BrokenPipe)
-}
-
-/// Writes what is held, and returns whether a write failed. What it leaves unwritten stays so.
-fn hand_on<W: Write>(held: &mut HeldBytes, out: &mut W) -> bool
-    ensures bytes { Keeps (append_known (W.contents out.old) held.old)
-        (append_known (W.contents out.new) held.new) }
-    ensures all { result ≡ false → held.new ≡ [] }
-    ensures short { result ≡ true → 0 < length held.new }
-{
-    let (sent, failed) = send(held.as_slice(), out);
-    held.let_go(sent);
-    failed
 }
 
 impl<W: Write> LineOutput<W> {
@@ -113,7 +99,7 @@ impl<W: Write> Write for LineOutput<W> {
         if self.held.len() < ROOM && !has_line {
             return Ok(taken);
         }
-        self.failed = hand_on(&mut self.held, &mut self.out);
+        self.failed = self.held.hand_on(&mut self.out);
         Ok(taken)
     }
 
@@ -127,7 +113,7 @@ impl<W: Write> Write for LineOutput<W> {
         if self.is_broken() {
             return Err(broken());
         }
-        self.failed = hand_on(&mut self.held, &mut self.out);
+        self.failed = self.held.hand_on(&mut self.out);
         if self.failed {
             return Err(broken());
         }

@@ -7,7 +7,7 @@ use Rattle.kt_suite.specs.Registered.{Outcome}
 use Rattle.kt_suite.specs.Selecting.{places, is_selected}
 use Rattle.kt_plan.specs.Listings.{Loads, LoadsFirst}
 use Rattle.kt_plan.specs.Stops.{IsShort}
-use Rattle.kt_plan.specs.Told.{Told, Lists}
+use Rattle.kt_plan.specs.Reply.{Reply, Lists}
 use Rattle.kt_plan.specs.Collecting.{Collects, CollectsFirst, item_of, variables_for}
 
 -- memory ran out while a tree was loaded
@@ -23,20 +23,20 @@ abbrev pub places_from : List Filter → ℕ → List Candidate → List ℕ
 places_from filters place cases = places (is_selected filters) place (map item_of cases)
 
 -- the first question for the cases of a program, if memory ran out: its list is asked for, or not yet
-pub data ListsFirst (config : Values) (program : Program) : List Told → Type 0 where
+pub data ListsFirst (config : Values) (program : Program) : List Reply → Type 0 where
   before_list : ListsFirst config program []
   after_list : (listing : Listing) → ListsFirst config program (Lists program (variables_for config program.suite) listing ∷ [])
 
 -- the selected cases, or memory ran out after the first questions for them
-abbrev pub CollectsOrShort : Settings → List ℕ → List Asked → List Told → Result Chosen Stop → Type 0
+abbrev pub CollectsOrShort : Settings → List ℕ → List Asked → List Reply → Result Chosen Stop → Type 0
 CollectsOrShort settings kyuafile asked answers result = (IsShort result × CollectsFirst settings kyuafile asked answers) ⊎ Collects settings kyuafile asked answers result
 
-module _ {W : Type 0} (asks : W → Asked → W → Type 0) (tells : W → Told → W → Type 0) where
+module _ {W : Type 0} (asks : W → Asked → W → Type 0) (replies : W → Reply → W → Type 0) where
   -- a world was asked for the tree and then for the lists, and this came of it
   pub record Collected (settings : Settings) (kyuafile : List ℕ) (old new : W) (result : Result Chosen Stop) : Type 0 where
     pub asked : List Asked
-    pub answers : List Told
+    pub answers : List Reply
     pub loaded : W
     pub chain : Chain asks old asked loaded
-    pub lists : Chain tells loaded answers new
+    pub lists : Chain replies loaded answers new
     pub holds : CollectsOrShort settings kyuafile asked answers result

@@ -6,7 +6,7 @@ use Rattle.kt_suite.specs.declared.filter.FilterFault.TheVariants.{Repeated, Not
 use Rattle.kt_suite.specs.Disjoint.{IsDisjoint}
 use Rattle.kt_plan.specs.declared.stop.Stop.TheVariants as stop
 use Rattle.kt_plan.specs.Stops.{IsShort}
-use Rattle.kt_plan.specs.Told.{Told}
+use Rattle.kt_plan.specs.Reply.{Reply}
 use Rattle.kt_plan.specs.Configuring.{IsClash, ReadsFirst, Settles, behind, in_front}
 
 -- why a command stops whose configuration file can't be read
@@ -53,9 +53,9 @@ pub data ChecksTogether (words : List (List ℕ)) (filters : List Filter) : Opti
   shared : (word : List ℕ) (fault : FilterFault) → IsClash words filters word fault → ChecksTogether words filters (Some (stop.Filter word fault))
 
 -- this holds of what was asked, or memory ran out after the first questions
-abbrev pub OrShort : {T : Type 0} → Result T Stop → Option (List ℕ) → List Told → Type 0 → Type 0
+abbrev pub OrShort : {T : Type 0} → Result T Stop → Option (List ℕ) → List Reply → Type 0 → Type 0
 OrShort result path answers fact = (IsShort result × ReadsFirst path answers) ⊎ fact
 
 -- the settings, or memory ran out
-abbrev pub SettlesOrShort : Bool → CaseOptions → List Told → Result Settings Stop → Type 0
+abbrev pub SettlesOrShort : Bool → CaseOptions → List Reply → Result Settings Stop → Type 0
 SettlesOrShort needs_case options answers result = OrShort result options.config answers (Settles needs_case options answers result)

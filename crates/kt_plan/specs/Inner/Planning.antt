@@ -4,10 +4,10 @@ use Rattle.std.specs.List.{list_any}
 use Rattle.kt_plan.specs.Types.{Host, Need}
 use Rattle.kt_metadata.specs.Requirements.{is_found}
 use Rattle.kt_plan.specs.Planning.{finds}
-use Rattle.kt_plan.specs.Told.{Told}
+use Rattle.kt_plan.specs.Reply.{Reply}
 
 -- what is there by these answers was added to what was found, and nothing else has changed
-pub record Notes (answers : List Told) (old new : Host) : Type 0 where
+pub record Notes (answers : List Reply) (old new : Host) : Type 0 where
   pub found : (need : Need) (word : List ℕ) → is_found need new word ≡ (is_found need old word || list_any (finds need word) answers)
   pub root : new.root ≡ old.root
   pub memory : new.memory ≡ old.memory

@@ -81,7 +81,7 @@ pub fn collect<W: World>(
     world: &mut W,
 ) -> Result<Chosen, Stop>
     requires { IsIdle (W.running world.old) (W.pending world.old) }
-    ensures collected { Collected W.asks W.tells settings.now kyuafile.now
+    ensures collected { Collected W.asks W.replies settings.now kyuafile.now
         world.old world.new result }
     ensures few { IfOk result (λ chosen. length chosen.cases ≤ most_items) }
     ensures idle { IsIdle (W.running world.new) (W.pending world.new) }
@@ -103,7 +103,7 @@ pub fn select_cases<W: World>(
     world: &mut W,
 ) -> Result<Picked, Stop>
     requires { IsIdle (W.running world.old) (W.pending world.old) }
-    ensures selects { Answered (leads_by W.asks W.tells) world.old world.new
+    ensures selects { Answered (leads_by W.asks W.replies) world.old world.new
         (λ questions. SelectsOrShort needed options.now questions result) }
     ensures few { IfOk result (λ picked. length picked.chosen.cases ≤ most_items) }
     ensures idle { IsIdle (W.running world.new) (W.pending world.new) }

@@ -17,7 +17,7 @@ fn listed_cases<W: World>(
     world: &mut W,
 ) -> Result<Items<CaseDef>, NoMemory>
     requires { IsIdle (W.running world.old) (W.pending world.old) }
-    ensures offers { Answered W.tells world.old world.new (λ answers. MatchResult result
+    ensures offers { Answered W.replies world.old world.new (λ answers. MatchResult result
         (ListsCases config.now program.now answers)
         (λ _. ListsFirst config.now program.now answers)) }
     ensures idle { IsIdle (W.running world.new) (W.pending world.new) }
@@ -36,7 +36,7 @@ fn own_cases<W: World>(
     world: &mut W,
 ) -> Result<Items<CaseDef>, NoMemory>
     requires { IsIdle (W.running world.old) (W.pending world.old) }
-    ensures offers { Answered W.tells world.old world.new (λ answers. MatchResult result
+    ensures offers { Answered W.replies world.old world.new (λ answers. MatchResult result
         (λ cases. OffersOne settings.now.config settings.now.filters program.now answers
         (candidates_of program.now cases))
         (λ _. OffersFirst settings.now.config settings.now.filters (program.now ∷ []) answers)) }
@@ -91,7 +91,7 @@ pub fn offered<W: World>(
     world: &mut W,
 ) -> Result<Items<Candidate>, NoMemory>
     requires { IsIdle (W.running world.old) (W.pending world.old) }
-    ensures offers { Answered W.tells world.old world.new (λ answers. MatchResult result
+    ensures offers { Answered W.replies world.old world.new (λ answers. MatchResult result
         (Offers settings.now.config settings.now.filters programs.now answers)
         (λ _. OffersFirst settings.now.config settings.now.filters programs.now answers)) }
     ensures idle { IsIdle (W.running world.new) (W.pending world.new) }

@@ -66,7 +66,7 @@ fn unread_stop(fault: ReadFault) -> Stop
 
 /// Reads the configuration file.
 fn read_config<W: World>(alloc: Global, path: &Text, world: &mut W) -> Result<Config, Stop>
-    ensures { Answered W.tells world.old world.new (λ answers. OrShort result (Some path.now)
+    ensures { Answered W.replies world.old world.new (λ answers. OrShort result (Some path.now)
         answers (Configured (ReadsConfig (Some path.now) answers) result)) }
 {
     match world.config(path) {
@@ -81,7 +81,7 @@ fn config_given<W: World>(
     options: &CaseOptions,
     world: &mut W,
 ) -> Result<Config, Stop>
-    ensures { Answered W.tells world.old world.new (λ answers. OrShort result
+    ensures { Answered W.replies world.old world.new (λ answers. OrShort result
         options.now.config answers (Configured (ReadsConfig options.now.config answers) result)) }
 {
     match &options.config {
@@ -105,7 +105,7 @@ fn set_words(config: Config, words: &[Text]) -> Result<Result<Config, Stop>, NoM
 
 /// The configuration of a command: its file, and then the words of `-v`.
 fn configure<W: World>(alloc: Global, options: &CaseOptions, world: &mut W) -> Result<Config, Stop>
-    ensures { Answered W.tells world.old world.new (λ answers. OrShort result
+    ensures { Answered W.replies world.old world.new (λ answers. OrShort result
         options.now.config answers (Configured (Configures options.now answers) result)) }
 {
     let config = config_given(alloc, options, world)?;
@@ -121,7 +121,7 @@ pub fn settle<W: World>(
     world: &mut W,
 ) -> Result<Settings, Stop>
     requires { IsIdle (W.running world.old) (W.pending world.old) }
-    ensures settled { Answered W.tells world.old world.new
+    ensures settled { Answered W.replies world.old world.new
         (λ answers. SettlesOrShort needs_case options.now answers result) }
     ensures idle { IsIdle (W.running world.new) (W.pending world.new) }
 {

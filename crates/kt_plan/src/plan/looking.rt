@@ -8,7 +8,7 @@ use std::alloc::Global;
 
 /// Asks whether something that is required is found.
 fn is_found<W: World>(need: Need, word: &Text, world: &mut W) -> bool
-    ensures { W.tells world.old (Finds need word.now result) world.new }
+    ensures { W.replies world.old (Finds need word.now result) world.new }
 {
     match need {
         Need::File => world.file_exists(word),
@@ -23,7 +23,7 @@ fn look_for_word<W: World>(
     world: &mut W,
     host: &mut Host,
 ) -> Result<(), NoMemory>
-    ensures { Answered W.tells world.old world.new (λ answers. MatchResult result
+    ensures { Answered W.replies world.old world.new (λ answers. MatchResult result
         (λ _. LooksFor ((need, word.now) ∷ []) answers × Notes answers host.old host.new)
         (λ _. AreFirst (LooksFor ((need, word.now) ∷ [])) answers)) }
 {
@@ -41,7 +41,7 @@ fn look_for_words<W: World>(
     world: &mut W,
     host: &mut Host,
 ) -> Result<(), NoMemory>
-    ensures { Answered W.tells world.old world.new (λ answers. MatchResult result
+    ensures { Answered W.replies world.old world.new (λ answers. MatchResult result
         (λ _. LooksFor (needs_in need words.now) answers × Notes answers host.old host.new)
         (λ _. AreFirst (LooksFor (needs_in need words.now)) answers)) }
 {
@@ -68,7 +68,7 @@ fn look_for_case<W: World>(
     world: &mut W,
     host: &mut Host,
 ) -> Result<(), NoMemory>
-    ensures { Answered W.tells world.old world.new (λ answers. MatchResult result
+    ensures { Answered W.replies world.old world.new (λ answers. MatchResult result
         (λ _. LooksFor (needs_by candidate.now.case.fault (meta_in candidate.now)) answers
         × Notes answers host.old host.new)
         (λ _. AreFirst (LooksFor (needs_by candidate.now.case.fault (meta_in candidate.now)))
@@ -87,7 +87,7 @@ fn look_for_all<W: World>(
     world: &mut W,
     host: &mut Host,
 ) -> Result<(), NoMemory>
-    ensures { Answered W.tells world.old world.new (λ answers. MatchResult result
+    ensures { Answered W.replies world.old world.new (λ answers. MatchResult result
         (λ _. LooksFor (needs_of cases.now) answers × Notes answers host.old host.new)
         (λ _. AreFirst (LooksFor (needs_of cases.now)) answers)) }
 {
@@ -104,7 +104,7 @@ fn look_for_all<W: World>(
 /// asked for by each; if the answers differ, it counts as found.
 pub fn survey<W: World>(alloc: Global, cases: &[Candidate], world: &mut W) -> Result<Host, NoMemory>
     requires { IsIdle (W.running world.old) (W.pending world.old) }
-    ensures surveyed { Answered W.tells world.old world.new (λ answers. MatchResult result
+    ensures surveyed { Answered W.replies world.old world.new (λ answers. MatchResult result
         (Surveys cases.now answers) (λ _. SurveysFirst cases.now answers)) }
     ensures idle { IsIdle (W.running world.new) (W.pending world.new) }
 {

@@ -110,25 +110,6 @@ fn job_at(
     job_of(position, candidate, vars, &meta, decided)
 }
 
-/// Appends the job of a case, with a copy of the variables of its suite.
-fn plan_case(
-    alloc: Global,
-    config: &Config,
-    host: &Host,
-    position: u32,
-    candidate: &Candidate,
-    vars: &Variables,
-    plan: &mut Items<Job>,
-) -> Result<(), NoMemory>
-    requires { vars.now ≡ variables_for config.now candidate.now.suite }
-    ensures { OnOk result ((job : Planned) × (plan.new ≡ plan.old ++ job ∷ [])
-        × IsJobOf config.now host.now position candidate.now job) }
-{
-    let vars = vars.copy()?;
-    plan.push(job_at(alloc, config, host, position, candidate, vars)?)?;
-    Ok(())
-}
-
 /// The plan of some cases, at most 100,000: one job a case, in order. A case whose list has a fault
 /// is broken before it is started, and one with an unmet requirement is skipped; the list is looked
 /// at first. The host isn't asked again while the plan runs, so a file that a case makes meets no
@@ -148,15 +129,8 @@ pub fn make_plan(
     let mut shared = SharedVariables::of(alloc, config, &Text::new(alloc))?;
     for candidate in cases {
         shared = shared.next(alloc, config, &candidate.suite)?;
-        plan_case(
-            alloc,
-            config,
-            host,
-            position,
-            candidate,
-            &shared.variables,
-            &mut plan,
-        )?;
+        let vars = shared.variables.copy()?;
+        plan.push(job_at(alloc, config, host, position, candidate, vars)?)?;
         position += 1;
     }
     Ok(plan)
@@ -171,7 +145,7 @@ pub fn prepare<W: World>(
 ) -> Result<Items<Job>, NoMemory>
     requires few { length cases.now ≤ most_items }
     requires idle { IsIdle (W.running world.old) (W.pending world.old) }
-    ensures planned { Answered W.tells world.old world.new (λ answers. MatchResult result
+    ensures planned { Answered W.replies world.old world.new (λ answers. MatchResult result
         (λ plan. (host : Surveyed) × Surveys cases.now answers host
         × ArePlanned config.now host 0 cases.now plan) (λ _. SurveysFirst cases.now answers)) }
     ensures plan { IfOk result (λ plan. IsPlan plan × (length plan ≡ length cases.now)) }

@@ -19,9 +19,9 @@ returns-in-Err-prepare-clause-did g c =
 
 pub run_plan-requires-clause-idle : goal.run_plan-requires-clause-idle
 run_plan-requires-clause-idle g c =
-    idle_after (world_of g.W.Tree g.W.Launcher g.W.World) g.met.W.World.runs_told g.met.W.World.pends_told _ _ _ c.now-moment.ensures.told c.in-Ok-prepare.ensures.idle
+    idle_after (world_of g.W.Tree g.W.Launcher g.W.World) g.met.W.World.runs_by_reply g.met.W.World.pends_by_reply _ _ _ c.now-moment.ensures.reply c.in-Ok-prepare.ensures.idle
 
 pub returns-clause-did : goal.returns-clause-did
 returns-clause-did g c =
     did_test (world_of g.W.Tree g.W.Launcher g.W.World) g.R.Keeping _ _ c.args.options.now c.args.file.now _ _ _ c.in-Ok.picked c.as_slice-cases.result.now
-    c.in-Ok-prepare.plan _ _ c.in-Ok.ensures.selects (search rules) c.in-Ok-prepare.ensures.planned c.now-moment.ensures.told c.run_plan.ensures.ran
+    c.in-Ok-prepare.plan _ _ c.in-Ok.ensures.selects (search rules) c.in-Ok-prepare.ensures.planned c.now-moment.ensures.reply c.run_plan.ensures.ran

@@ -5,26 +5,26 @@ use Rattle.kt_plan.proofs.options.configuring.settle.Goals as goal
 
 pub returns-in_err-config-clause-settled : goal.returns-in_err-config-clause-settled
 returns-in_err-config-clause-settled g c =
-    not_configured g.W.World.tells _ _ c.args.needs_case c.args.options.now c.configure.result _ _ (search rules) c.from_residual.ensures.1 c.configure.ensures
+    not_configured g.W.World.replies _ _ c.args.needs_case c.args.options.now c.configure.result _ _ (search rules) c.from_residual.ensures.1 c.configure.ensures
 
 pub returns-in_err-config-clause-idle : goal.returns-in_err-config-clause-idle
 returns-in_err-config-clause-idle g c =
-    idle_after g.W.World.tells g.W.Launcher.running g.W.Launcher.pending g.met.W.World.runs_told g.met.W.World.pends_told _ _ c.configure.ensures.asked c.configure.ensures.chain c.requires
+    idle_after g.W.World.replies g.W.Launcher.running g.W.Launcher.pending g.met.W.World.runs_by_reply g.met.W.World.pends_by_reply _ _ c.configure.ensures.asked c.configure.ensures.chain c.requires
 
 pub returns-in_err-filters-clause-settled : goal.returns-in_err-filters-clause-settled
 returns-in_err-filters-clause-settled g c =
-    not_filtered g.W.World.tells _ _ c.args.needs_case c.args.options.now c.configure.result c.in_ok-config.config (search rules) c.configure.ensures
+    not_filtered g.W.World.replies _ _ c.args.needs_case c.args.options.now c.configure.result c.in_ok-config.config (search rules) c.configure.ensures
     c.read_filters.result _ _ (search rules) c.from_residual-in_err-filters.ensures.1 (search rules)
 
 pub returns-in_err-filters-clause-idle : goal.returns-in_err-filters-clause-idle
 returns-in_err-filters-clause-idle g c =
-    idle_after g.W.World.tells g.W.Launcher.running g.W.Launcher.pending g.met.W.World.runs_told g.met.W.World.pends_told _ _ c.configure.ensures.asked c.configure.ensures.chain c.requires
+    idle_after g.W.World.replies g.W.Launcher.running g.W.Launcher.pending g.met.W.World.runs_by_reply g.met.W.World.pends_by_reply _ _ c.configure.ensures.asked c.configure.ensures.chain c.requires
 
 pub returns-clause-settled : goal.returns-clause-settled
 returns-clause-settled g c =
-    all_settled g.W.World.tells _ _ c.args.needs_case c.args.options.now c.configure.result c.in_ok-config.config (search rules) c.configure.ensures
+    all_settled g.W.World.replies _ _ c.args.needs_case c.args.options.now c.configure.result c.in_ok-config.config (search rules) c.configure.ensures
     c.read_filters.result c.in_ok-filters.filters (search rules) (search rules)
 
 pub returns-clause-idle : goal.returns-clause-idle
 returns-clause-idle g c =
-    idle_after g.W.World.tells g.W.Launcher.running g.W.Launcher.pending g.met.W.World.runs_told g.met.W.World.pends_told _ _ c.configure.ensures.asked c.configure.ensures.chain c.requires
+    idle_after g.W.World.replies g.W.Launcher.running g.W.Launcher.pending g.met.W.World.runs_by_reply g.met.W.World.pends_by_reply _ _ c.configure.ensures.asked c.configure.ensures.chain c.requires

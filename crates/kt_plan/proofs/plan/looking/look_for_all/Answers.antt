@@ -9,15 +9,15 @@ pub returns-in_err-look_for_case : goal.returns-in_err-look_for_case
 returns-in_err-look_for_case g c =
     let p = err_from_is_err_and c.from_residual.result c.from_residual.ensures.1 in
     let e : drop c.loop-candidate.candidate-index c.args.cases.now ≡ c.candidate-item.result ∷ drop (c.loop-candidate.candidate-index + 1) c.args.cases.now = grind (arith, common_steps) in
-    asked_short g.W.World.tells c.args.world.now c.look_for_case.new.world _ _ c.from_residual.result p.0 p.1
-    (looking_stopped g.W.World.tells (needs_of c.args.cases.now) c.args.world.now c.args.host.now (needs_of (drop c.loop-candidate.candidate-index c.args.cases.now)) (needs_by c.candidate-item.result.case.fault (meta_in c.candidate-item.result)) (needs_of (drop (c.loop-candidate.candidate-index + 1) c.args.cases.now)) c.loop-candidate.world c.look_for_case.new.world c.loop-candidate.host (ap needs_of e) c.loop-candidate.invariant c.in_err-look_for_case.ensures)
+    asked_short g.W.World.replies c.args.world.now c.look_for_case.new.world _ _ c.from_residual.result p.0 p.1
+    (looking_stopped g.W.World.replies (needs_of c.args.cases.now) c.args.world.now c.args.host.now (needs_of (drop c.loop-candidate.candidate-index c.args.cases.now)) (needs_by c.candidate-item.result.case.fault (meta_in c.candidate-item.result)) (needs_of (drop (c.loop-candidate.candidate-index + 1) c.args.cases.now)) c.loop-candidate.world c.look_for_case.new.world c.loop-candidate.host (ap needs_of e) c.loop-candidate.invariant c.in_err-look_for_case.ensures)
 
 pub loop-candidate-preserved : goal.loop-candidate-preserved
 loop-candidate-preserved g c =
     let e : drop c.loop-candidate.candidate-index c.args.cases.now ≡ c.candidate-item.result ∷ drop (c.loop-candidate.candidate-index + 1) c.args.cases.now = grind (arith, common_steps) in
-    looking_next g.W.World.tells (needs_of c.args.cases.now) c.args.world.now c.args.host.now (needs_of (drop c.loop-candidate.candidate-index c.args.cases.now)) (needs_by c.candidate-item.result.case.fault (meta_in c.candidate-item.result)) (needs_of (drop (c.loop-candidate.candidate-index + 1) c.args.cases.now)) c.loop-candidate.world c.look_for_case.new.world c.loop-candidate.host c.look_for_case.new.host (ap needs_of e) c.loop-candidate.invariant c.in_ok-look_for_case.ensures
+    looking_next g.W.World.replies (needs_of c.args.cases.now) c.args.world.now c.args.host.now (needs_of (drop c.loop-candidate.candidate-index c.args.cases.now)) (needs_by c.candidate-item.result.case.fault (meta_in c.candidate-item.result)) (needs_of (drop (c.loop-candidate.candidate-index + 1) c.args.cases.now)) c.loop-candidate.world c.look_for_case.new.world c.loop-candidate.host c.look_for_case.new.host (ap needs_of e) c.loop-candidate.invariant c.in_ok-look_for_case.ensures
 
 pub returns : goal.returns
 returns g c =
     let none : length (drop c.loop-candidate.candidate-index c.args.cases.now) ≡ 0 = grind (arith, common_steps) in
-    looking_all g.W.World.tells (needs_of c.args.cases.now) c.args.world.now c.args.host.now (needs_of (drop c.loop-candidate.candidate-index c.args.cases.now)) c.loop-candidate.world c.loop-candidate.host (ap needs_of (nil_from_length (drop c.loop-candidate.candidate-index c.args.cases.now) none)) c.loop-candidate.invariant
+    looking_all g.W.World.replies (needs_of c.args.cases.now) c.args.world.now c.args.host.now (needs_of (drop c.loop-candidate.candidate-index c.args.cases.now)) c.loop-candidate.world c.loop-candidate.host (ap needs_of (nil_from_length (drop c.loop-candidate.candidate-index c.args.cases.now) none)) c.loop-candidate.invariant

@@ -17,9 +17,9 @@ returns-in_err-look_for_words g c =
     let kinds = c.kinds_of-need-items.result.now in
     let meta = meta_in c.args.candidate.now in
     let i = c.loop-need.need-index in
-    asked_short g.W.World.tells c.args.world.now c.look_for_words.new.world _ _ c.from_residual.result p.0 p.1
-    (subst (λ (needs : List (Need × List ℕ)). Answered g.W.World.tells c.args.world.now c.look_for_words.new.world (λ answers. AreFirst (LooksFor needs) answers)) c.kinds_of-need-items.ensures
-    (looking_stopped g.W.World.tells (needs_among kinds meta) c.args.world.now c.args.host.now (needs_among (drop i kinds) meta) _ (needs_among (drop (i + 1) kinds) meta) c.loop-need.world c.look_for_words.new.world c.loop-need.host
+    asked_short g.W.World.replies c.args.world.now c.look_for_words.new.world _ _ c.from_residual.result p.0 p.1
+    (subst (λ (needs : List (Need × List ℕ)). Answered g.W.World.replies c.args.world.now c.look_for_words.new.world (λ answers. AreFirst (LooksFor needs) answers)) c.kinds_of-need-items.ensures
+    (looking_stopped g.W.World.replies (needs_among kinds meta) c.args.world.now c.args.host.now (needs_among (drop i kinds) meta) _ (needs_among (drop (i + 1) kinds) meta) c.loop-need.world c.look_for_words.new.world c.loop-need.host
     (among_next kinds i _ meta _ c.loop-need-test.true c.needed.ensures) c.loop-need.invariant c.in_err-look_for_words.ensures))
 
 pub loop-need-preserved : goal.loop-need-preserved
@@ -27,7 +27,7 @@ loop-need-preserved g c =
     let kinds = c.kinds_of-need-items.result.now in
     let meta = meta_in c.args.candidate.now in
     let i = c.loop-need.need-index in
-    looking_next g.W.World.tells (needs_among kinds meta) c.args.world.now c.args.host.now (needs_among (drop i kinds) meta) _ (needs_among (drop (i + 1) kinds) meta) c.loop-need.world c.look_for_words.new.world c.loop-need.host c.look_for_words.new.host
+    looking_next g.W.World.replies (needs_among kinds meta) c.args.world.now c.args.host.now (needs_among (drop i kinds) meta) _ (needs_among (drop (i + 1) kinds) meta) c.loop-need.world c.look_for_words.new.world c.loop-need.host c.look_for_words.new.host
     (among_next kinds i _ meta _ c.loop-need-test.true c.needed.ensures) c.loop-need.invariant c.in_ok-look_for_words.ensures
 
 pub returns : goal.returns
@@ -36,5 +36,5 @@ returns g c =
     let meta = meta_in c.args.candidate.now in
     let left = drop c.loop-need.need-index kinds in
     let none : length left ≡ 0 = grind (arith, common_steps) in
-    subst (λ (needs : List (Need × List ℕ)). Answered g.W.World.tells c.args.world.now c.loop-need.world (λ answers. LooksFor needs answers × Notes answers c.args.host.now c.loop-need.host)) c.kinds_of-need-items.ensures
-    (looking_all g.W.World.tells (needs_among kinds meta) c.args.world.now c.args.host.now (needs_among left meta) c.loop-need.world c.loop-need.host (ap (λ (needs : List Need). needs_among needs meta) (nil_from_length left none)) c.loop-need.invariant)
+    subst (λ (needs : List (Need × List ℕ)). Answered g.W.World.replies c.args.world.now c.loop-need.world (λ answers. LooksFor needs answers × Notes answers c.args.host.now c.loop-need.host)) c.kinds_of-need-items.ensures
+    (looking_all g.W.World.replies (needs_among kinds meta) c.args.world.now c.args.host.now (needs_among left meta) c.loop-need.world c.loop-need.host (ap (λ (needs : List Need). needs_among needs meta) (nil_from_length left none)) c.loop-need.invariant)

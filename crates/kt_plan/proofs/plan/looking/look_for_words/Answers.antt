@@ -9,15 +9,15 @@ pub returns-in_err-look_for_word : goal.returns-in_err-look_for_word
 returns-in_err-look_for_word g c =
     let p = err_from_is_err_and c.from_residual.result c.from_residual.ensures.1 in
     let e : drop c.loop-word.word-index c.args.words.now ≡ c.word-item.result ∷ drop (c.loop-word.word-index + 1) c.args.words.now = grind (arith, common_steps) in
-    asked_short g.W.World.tells c.args.world.now c.look_for_word.new.world _ _ c.from_residual.result p.0 p.1
-    (looking_stopped g.W.World.tells (needs_in c.args.need c.args.words.now) c.args.world.now c.args.host.now (needs_in c.args.need (drop c.loop-word.word-index c.args.words.now)) ((c.args.need, c.word-item.result) ∷ []) (needs_in c.args.need (drop (c.loop-word.word-index + 1) c.args.words.now)) c.loop-word.world c.look_for_word.new.world c.loop-word.host (ap (needs_in c.args.need) e) c.loop-word.invariant c.in_err-look_for_word.ensures)
+    asked_short g.W.World.replies c.args.world.now c.look_for_word.new.world _ _ c.from_residual.result p.0 p.1
+    (looking_stopped g.W.World.replies (needs_in c.args.need c.args.words.now) c.args.world.now c.args.host.now (needs_in c.args.need (drop c.loop-word.word-index c.args.words.now)) ((c.args.need, c.word-item.result) ∷ []) (needs_in c.args.need (drop (c.loop-word.word-index + 1) c.args.words.now)) c.loop-word.world c.look_for_word.new.world c.loop-word.host (ap (needs_in c.args.need) e) c.loop-word.invariant c.in_err-look_for_word.ensures)
 
 pub loop-word-preserved : goal.loop-word-preserved
 loop-word-preserved g c =
     let e : drop c.loop-word.word-index c.args.words.now ≡ c.word-item.result ∷ drop (c.loop-word.word-index + 1) c.args.words.now = grind (arith, common_steps) in
-    looking_next g.W.World.tells (needs_in c.args.need c.args.words.now) c.args.world.now c.args.host.now (needs_in c.args.need (drop c.loop-word.word-index c.args.words.now)) ((c.args.need, c.word-item.result) ∷ []) (needs_in c.args.need (drop (c.loop-word.word-index + 1) c.args.words.now)) c.loop-word.world c.look_for_word.new.world c.loop-word.host c.look_for_word.new.host (ap (needs_in c.args.need) e) c.loop-word.invariant c.in_ok-look_for_word.ensures
+    looking_next g.W.World.replies (needs_in c.args.need c.args.words.now) c.args.world.now c.args.host.now (needs_in c.args.need (drop c.loop-word.word-index c.args.words.now)) ((c.args.need, c.word-item.result) ∷ []) (needs_in c.args.need (drop (c.loop-word.word-index + 1) c.args.words.now)) c.loop-word.world c.look_for_word.new.world c.loop-word.host c.look_for_word.new.host (ap (needs_in c.args.need) e) c.loop-word.invariant c.in_ok-look_for_word.ensures
 
 pub returns : goal.returns
 returns g c =
     let none : length (drop c.loop-word.word-index c.args.words.now) ≡ 0 = grind (arith, common_steps) in
-    looking_all g.W.World.tells (needs_in c.args.need c.args.words.now) c.args.world.now c.args.host.now (needs_in c.args.need (drop c.loop-word.word-index c.args.words.now)) c.loop-word.world c.loop-word.host (ap (needs_in c.args.need) (nil_from_length (drop c.loop-word.word-index c.args.words.now) none)) c.loop-word.invariant
+    looking_all g.W.World.replies (needs_in c.args.need c.args.words.now) c.args.world.now c.args.host.now (needs_in c.args.need (drop c.loop-word.word-index c.args.words.now)) c.loop-word.world c.loop-word.host (ap (needs_in c.args.need) (nil_from_length (drop c.loop-word.word-index c.args.words.now) none)) c.loop-word.invariant
