@@ -5,8 +5,8 @@ pub mod Inner
 pub mod Listings
 pub mod Planning
 pub mod Questions
+pub mod Reply
 pub mod Selecting
 pub mod StopWords
 pub mod Stops
-pub mod Reply
 pub mod Types

@@ -14,13 +14,13 @@ pub struct Sched {
     alloc: Global,
     cases: Vec<Case>,
     order: Vec<u32>,
-    /// The place in the order of the next case to start.
+    /// The place in `order` of the case that has its turn: to start, or to put if it is decided.
     turn: usize,
     active: u32,
     width: u32,
     /// The case whose cleanup is to be started.
     pending: Option<u32>,
-    /// The case to put.
+    /// The case whose entry is to be put.
     ready: Option<u32>,
     asked: Next,
     /// Whether a put failed.

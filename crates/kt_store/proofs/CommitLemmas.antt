@@ -1,5 +1,5 @@
 -- Statements of a transaction, one after the other, and what their commit leaves.
-use Rattle.kt_store.proofs.Common.{Commits, CommitsLater, Database, Error, ExecutesInside, Fails, FailsToCommit, Ghosts, HasCleanDisk, Held, WhileOpen, IsDatabase, IsRolledBack, IsSettled, IsTrue, Keeps, KeepsCommit, Leaves, List, MayCommit, Result, Row, Run, RunInTurn, RunsOne, StandsFor, State, Statement, Survives, Tables, Trees, Undoes, Variable, [], ap, arith, begun, both_ways, cases_Bool, drop, drop-cons, drop_more, false, get_or, inl, inr, inside_keeps, keeps_then, length, map, pair_statement, pair_statements, plain_statements, refl, state, subst, suc, survives_begin, survives_then, survives_weaker, sym, ℕ, ◌+◌, ◌<◌, ◌∙◌, ◌∷◌, ◌≡◌}
+use Rattle.kt_store.proofs.Common.{Commits, CommitsLater, Database, Error, ExecutesInside, Fails, FailsToCommit, Ghosts, HasCleanDisk, Held, IsSettledWhileOpen, IsDatabase, IsRolledBack, IsSettled, IsTrue, Keeps, KeepsCommit, Leaves, List, MayCommit, Result, Row, Run, RunInTurn, RunsOne, StandsFor, State, Statement, Survives, Tables, Trees, Undoes, Variable, [], ap, arith, begun, both_ways, cases_Bool, drop, drop-cons, drop_more, false, get_or, inl, inr, inside_keeps, keeps_then, length, map, pair_statement, pair_statements, plain_statements, refl, state, subst, suc, survives_begin, survives_then, survives_weaker, sym, ℕ, ◌+◌, ◌<◌, ◌∙◌, ◌∷◌, ◌≡◌}
 use Rattle.kt_store.proofs.StepLemmas.{undone_settled}
 
 module _ {S : Type 0} (g : Ghosts S) where
@@ -69,7 +69,7 @@ module _ {S : Type 0} (g : Ghosts S) (old left new : Held S) where
       (λ clean db is. (left, ran (omega (arith, clean, commit.clean)), is)) inside commit)
 
 -- what was undone holds what it held
-pub undone_holds : {S : Type 0} (g : Ghosts S) (P : Database → Type 0) (old new : Held S) → WhileOpen P (state g old) → (HasCleanDisk (state g new) → HasCleanDisk (state g old)) → (HasCleanDisk (state g new) → Undoes g old new) → WhileOpen P (state g new)
+pub undone_holds : {S : Type 0} (g : Ghosts S) (P : Database → Type 0) (old new : Held S) → IsSettledWhileOpen P (state g old) → (HasCleanDisk (state g new) → HasCleanDisk (state g old)) → (HasCleanDisk (state g new) → Undoes g old new) → IsSettledWhileOpen P (state g new)
 undone_holds g P old new has earlier left clean opened = elim (left clean) [
   | inl same ↦ subst (λ h. HasCleanDisk (state g h) → IsTrue (state g h).is_open → IsSettled P (state g h)) (sym same) has clean opened
   | inr undone ↦ undone_settled P (state g old) (state g new) (has (earlier clean) (undone.was_open opened)) undone opened

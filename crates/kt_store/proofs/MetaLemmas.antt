@@ -1,5 +1,5 @@
 -- The number of the schema, as its query tells.
-use Rattle.kt_store.proofs.Common.{Asked, AsksNumber, Bool, Database, Ghosts, HasCleanDisk, Held, WhileOpen, Int, IsEmpty, IsPermutation, IsTrue, IsUnchanged, List, MayShow, None, Rests, Row, Run, SaysNumber, SaysSchema, Schema, Shown, Some, StandsFor, StandsInOld, State, Survives, Term, Text, Value, [], ap, arith, beside_meta, binary, codes, col, column, drop, entries_1, filter, holds, index_of, inl, list_all, lit, map, meta_1, meta_text, one_permutation, pos, props_1, reads_as, refl, runs_1, slice_get, state, subst, sym, true, understood, value_cmp, ℤ, ◌∙◌, ◌∷◌, ◌≡◌, ◌≢◌}
+use Rattle.kt_store.proofs.Common.{Asked, AsksNumber, Bool, Database, Ghosts, HasCleanDisk, Held, IsSettledWhileOpen, Int, IsEmpty, IsPermutation, IsTrue, IsUnchanged, List, MayShow, None, Rests, Row, Run, SaysNumber, SaysSchema, Schema, Shown, Some, StandsFor, StandsInOld, State, Survives, Term, Text, Value, [], ap, arith, beside_meta, binary, codes, col, column, drop, entries_1, filter, holds, index_of, inl, list_all, lit, map, meta_1, meta_text, one_permutation, pos, props_1, reads_as, refl, runs_1, slice_get, state, subst, sym, true, understood, value_cmp, ℤ, ◌∙◌, ◌∷◌, ◌≡◌, ◌≢◌}
 use Rattle.sqlite.specs.Given.{IsPlain}
 use Rattle.kt_store.proofs.AskLemmas.{asked_unchanged, asked_leaves}
 use Rattle.kt_store.proofs.StepLemmas.{same_settled}
@@ -113,7 +113,7 @@ module _ (old mid : State) (earlier : HasCleanDisk mid → HasCleanDisk old) (sa
       let has = says (earlier clean) it.0.was_open in
       says_then old mid n it.0.now_is has
 
-  pub still_holds : (P : Database → Type 0) → WhileOpen P old → WhileOpen P mid
+  pub still_holds : (P : Database → Type 0) → IsSettledWhileOpen P old → IsSettledWhileOpen P mid
   still_holds P has clean opened = same_settled P old mid (has (earlier clean) (same clean).0.was_open) (same clean)
 
   pub says_filled : (n : ℤ) → SaysSchema n old → HasCleanDisk mid → mid.now.schema.tables ≢ []

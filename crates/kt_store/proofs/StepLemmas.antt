@@ -1,5 +1,5 @@
 -- What a statement leaves of a connection that stands for runs.
-use Rattle.kt_store.proofs.Common.{Command, CommitsBy, Compiled, Database, Err, Error, FailsToQuery, FailsToShow, Ghosts, HasCleanDisk, Held, WhileOpen, IsDatabase, IsLive, IsNotRun, IsPlain, IsRolledBack, IsSettled, IsStore, IsTrue, IsUnchanged, IsUndone, Keeps, KeepsEither, KeepsOld, Leaves, List, None, Option, Rests, Row, Run, RunsCommand, Schema, Some, State, Survives, Tables, Trees, ap, append-nil, arith, command_of, inl, inr, state, statement_of, subst, subst₂, survives_then, sym, unchanged_then, understood, ℕ, ◌∙◌, ◌≡◌}
+use Rattle.kt_store.proofs.Common.{Command, CommitsBy, Compiled, Database, Err, Error, FailsToQuery, FailsToShow, Ghosts, HasCleanDisk, Held, IsSettledWhileOpen, IsDatabase, IsLive, IsNotRun, IsPlain, IsRolledBack, IsSettled, IsStore, IsTrue, IsUnchanged, IsUndone, Keeps, KeepsEither, KeepsOld, Leaves, List, None, Option, Rests, Row, Run, RunsCommand, Schema, Some, State, Survives, Tables, Trees, ap, append-nil, arith, command_of, inl, inr, state, statement_of, subst, subst₂, survives_then, sym, unchanged_then, understood, ℕ, ◌∙◌, ◌≡◌}
 use Rattle.sqlite_schema.specs.declared.command.Returning.{Returning}
 use Rattle.sqlite.specs.State.{MayCommit}
 
@@ -42,7 +42,7 @@ module _ (P : Database → Type 0) (old new : State) where
   }
 
   -- so a refusal changes nothing
-  pub rests_hold : WhileOpen P old → (HasCleanDisk new → HasCleanDisk old) → (HasCleanDisk new → Rests old new) → WhileOpen P new
+  pub rests_hold : IsSettledWhileOpen P old → (HasCleanDisk new → HasCleanDisk old) → (HasCleanDisk new → Rests old new) → IsSettledWhileOpen P new
   rests_hold has earlier left clean opened = elim (left clean) [
     | inl same ↦ same_settled (has (earlier clean) same.0.was_open) same
     | inr undone ↦ undone_settled (has (earlier clean) (undone.was_open opened)) (rolled_back old new undone) opened
@@ -90,5 +90,5 @@ either_left old new runs it left clean trees may = elim (it.crash clean trees ma
 
 -- an open database leaves its last commit
 module _ {S : Type 0} (g : Ghosts S) (s : Held S) (law : (db : Trees) → IsTrue (state g s).is_open → (state g s).may_leave db → db ≡ (state g s).committed.trees) where
-  pub leaves_held : (P : Database → Type 0) → IsLive (state g s) → WhileOpen P (state g s) → IsTrue (state g s).is_open → Leaves (state g s) (λ trees. (db : Database) × IsDatabase db × (trees ≡ db.trees) × P db)
+  pub leaves_held : (P : Database → Type 0) → IsLive (state g s) → IsSettledWhileOpen P (state g s) → IsTrue (state g s).is_open → Leaves (state g s) (λ trees. (db : Database) × IsDatabase db × (trees ≡ db.trees) × P db)
   leaves_held P live has opened clean trees may = ((state g s).now, (live opened).0, law trees opened may ∙ ap (λ (d : Database). d.trees) (has clean opened).settled, (has clean opened).tables)

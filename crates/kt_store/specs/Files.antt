@@ -16,7 +16,7 @@ use Rattle.sqlite_store.specs.declared.catalog.Wanted.{Wanted}
 use Rattle.sqlite_wal.specs.PageSize.{IsPageSize}
 use Rattle.kt_store.specs.Types.{FileStore, HasCleanDisk, Held, Image, IsClean, IsOpened, IsQuiet, PageMap, Recovers, Run, Trees, file_state, recovers, stored_size, view}
 
--- the two files, and the database file with no log, recover to a sound file with these trees, which are numbered if those of the store were
+-- the two files recover to a sound file with these trees, with the log and without it; the trees are numbered if `is_numbered` says so
 pub record HasWithoutLog (is_numbered : Bool) (trees : Trees) (image : Image) : Type 0 where
   pub size : ℕ
   pub pages : PageMap

@@ -15,8 +15,8 @@ pub record IsSettled (P : Database → Type 0) (s : State) : Type 0 where
   pub tables : P s.now
 
 -- the connection is settled with P, while the disk returns what was written and the connection is open
-abbrev pub WhileOpen : (Database → Type 0) → State → Type 0
-WhileOpen P s = HasCleanDisk s → IsTrue s.is_open → IsSettled P s
+abbrev pub IsSettledWhileOpen : (Database → Type 0) → State → Type 0
+IsSettledWhileOpen P s = HasCleanDisk s → IsTrue s.is_open → IsSettled P s
 
 -- the tables hold these runs
 abbrev pub IsStore : State → List Run → Type 0
@@ -24,7 +24,7 @@ IsStore s runs = IsSettled (λ db. Tables db runs) s
 
 -- while the disk returns what was written and the connection is open, the tables stand for these runs
 abbrev pub StandsFor : State → List Run → Type 0
-StandsFor s runs = WhileOpen (λ db. Tables db runs) s
+StandsFor s runs = IsSettledWhileOpen (λ db. Tables db runs) s
 
 -- what holds of the runs that the tables stood for before a call, if the disk returns what was written after it
 abbrev pub OnRuns : {S : Type 0} → Ghosts S → Held S → Held S → (List Run → Type 0) → Type 0
@@ -32,11 +32,11 @@ OnRuns g old new P = (runs : List Run) → StandsFor (state g old) runs → HasC
 
 -- while the disk returns what was written and the connection is open, the tables of schema 1 stand for these runs
 abbrev pub StandsInOld : State → List Run → Type 0
-StandsInOld s runs = WhileOpen (λ db. OldTables db runs) s
+StandsInOld s runs = IsSettledWhileOpen (λ db. OldTables db runs) s
 
 -- while the disk returns what was written and the connection is open, the database has no table
 abbrev pub IsEmpty : State → Type 0
-IsEmpty s = WhileOpen (λ db. db.schema ≡ no_schema) s
+IsEmpty s = IsSettledWhileOpen (λ db. db.schema ≡ no_schema) s
 
 -- a crash at this moment leaves trees with P
 abbrev pub Leaves : State → (Trees → Type 0) → Type 0

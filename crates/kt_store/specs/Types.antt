@@ -1,5 +1,5 @@
--- The names that most definitions of this crate cite, passed on from one place. Declares nothing.
-pub use Rattle.std.specs.List.{AllByRecursion, filter, find, list_any}
+-- The types and words that the definitions of this crate name, passed on from one place. Declares nothing.
+pub use Rattle.std.specs.List.{AllByRecursion, find, list_any}
 pub use Rattle.kt_base.specs.Limits.{last_run}
 pub use Rattle.kt_base.specs.Utf8.{utf8}
 pub use Rattle.kt_base.specs.declared.entry.Entry.{Entry}

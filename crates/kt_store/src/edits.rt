@@ -1,8 +1,7 @@
 //! Runs and entries that are written into the trees of a store, without a commit.
 
-ghost use Rattle.std.specs.Prelude.{◌≡◌, ◌⊎◌, ◌<◌, ◌≤◌, ◌^◌, [], ◌∷◌, map, suc, length, Some, None, Ok, Err, false, IfOk, IfErr, OnOk};
-ghost use Rattle.kt_store.specs.Common.{AllByRecursion, Began, CanAdd, Finished, IsBareIfPassed, IsComplete, IsMoment, IsPair, IsStorable, IsStoreFault, IsText, Looks, LooksThrough, Obeys, OnTrees, Put, PutsRows, Run, StandAt, Wrote, done_row, entry_row, finish_refusal, last_run, owned, pair_row, pair_rows_from, put_refusal, run_at, run_row, unnumbered};
-ghost use Rattle.sqlite_trees.specs.Tree.{Trees};
+ghost use Rattle.std.specs.Prelude.{◌≡◌, ◌⊎◌, ◌<◌, ◌≤◌, ◌^◌, map, suc, length, Some, None, false, IfOk, IfErr, OnOk};
+ghost use Rattle.kt_store.specs.Common.{AllByRecursion, Began, CanAdd, Finished, IsBareIfPassed, IsComplete, IsMoment, IsPair, IsStorable, IsStoreFault, IsText, Looks, LooksThrough, OnTrees, Put, Run, StandAt, Wrote, done_row, entry_row, finish_refusal, last_run, owned, pair_row, pair_rows_from, put_refusal, run_at, run_row, unnumbered};
 ghost use Rattle.sqlite_trees.specs.View.{IsClean};
 ghost use Rattle.sqlite_catalog.specs.Listing.{IsSound};
 

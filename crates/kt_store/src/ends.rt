@@ -2,8 +2,8 @@
 //! has the entries that it must have. So a page that the disk lost, or of an earlier moment, seldom hides a result,
 //! whatever the size of the file.
 
-ghost use Rattle.std.specs.Prelude.{◌≡◌, ◌<◌, ◌≤◌, ◌^◌, [], ◌∷◌, length, map, pos, true, IfOk, OnOk};
-ghost use Rattle.kt_store.specs.Common.{AllByRecursion, Entry as Stored, Int, IsAscending, Looks, LooksThrough, Run, head_of, last_run, outlined};
+ghost use Rattle.std.specs.Prelude.{◌≡◌, ◌<◌, [], ◌∷◌, length, map, pos, true, IfOk, OnOk};
+ghost use Rattle.kt_store.specs.Common.{AllByRecursion, Entry as Stored, Int, IsAscending, Looks, LooksThrough, Run, head_of, outlined};
 ghost use Rattle.kt_store.specs.Runs.{IsRun};
 ghost use Rattle.sqlite_trees.specs.View.{IsClean};
 
@@ -68,7 +68,7 @@ fn is_last_row_placed<S: Store>(
     Ok(count == 1)
 }
 
-/// The last place of the index of a table, whose last row has a place. Else the table is damaged.
+/// The run and the position of the last place of a table's index. The table is damaged if its last row has no place there.
 fn end_of<S: Store>(store: &mut S, alloc: Global, table: &Table) -> Result<Row, Trouble>
     ensures looks { Looks S.Store store.old store.new }
 {
@@ -146,7 +146,7 @@ fn last_head<S: Store>(
     stored_head(alloc, &row)
 }
 
-/// Asks whether the tables end with the last run, of which this is the number: before a run begins after it.
+/// Asks whether the tables end with the last run, by its number. This is asked before another run begins.
 pub(crate) fn check_last<S: Store>(
     store: &mut S,
     alloc: Global,

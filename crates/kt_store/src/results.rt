@@ -12,9 +12,10 @@ use sqlite::{Alter, Connection, FileFrom, FileStore, Start};
 use std::alloc::Global;
 use std::marker::Model;
 
-/// The runs that are kept in the tables of a database (docs/formats/store.md). The program opens files by it that are not of
-/// schema 2, and writes by `RunsFile`. A contract sees the connection; what is said of it holds while the disk returns what was written, nobody else
-/// writes the database, and the connection is open.
+/// The runs that are kept in the tables of a database (docs/formats/store.md). The program opens a file as `Results` if
+/// `open_known` doesn't take it, as a new file or one of schema 1, and then reads and writes it as a `RunsFile`. A contract
+/// sees the connection; what is said of it holds while the disk returns what was written, nobody else writes the database,
+/// and the connection is open.
 #[derive(Drop)]
 pub struct Results<S: Alter> {
     conn: Connection<S>,

@@ -1,4 +1,4 @@
-ghost use Rattle.std.specs.Prelude.{◌≡◌, false, IsTrue, IfOk, IfErr, IfSome};
+ghost use Rattle.std.specs.Prelude.{◌≡◌, false, IsTrue, IfOk, IfSome};
 ghost use Rattle.kt_store.specs.Common.{Ended};
 ghost use Rattle.sqlite_catalog.specs.Listing.{IsSound, Lists};
 ghost use Rattle.sqlite_schema.specs.declared.schema.Schema.{Schema as Tables};

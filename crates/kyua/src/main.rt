@@ -52,7 +52,7 @@ impl<S: Past> Platform for Host<'_, S> {
     }
 }
 
-/// Carries out the words of the process on the host, whatever `S` the files of results held.
+/// Carries out the words of the process on the host, whatever the results file held: `S` stands for that, in contracts alone.
 fn run<S: Past>(rt: &HostRuntime, past: PhantomData<S>) -> ExitCode {
     let outside = Outside {
         alloc: rt.alloc(),

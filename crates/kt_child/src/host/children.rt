@@ -124,9 +124,9 @@ fn has_new_end<P: OpenProcess + Drop>(children: &mut Children<P>, from: usize) -
     false
 }
 
-/// Rests until a child has ended, at the latest after a pause, and returns whether one was seen. Between its slices it looks at
-/// the newest children, and now and then at all; after the last it doesn't look, since each child is polled then. `pauses` counts
-/// the pauses since an end was seen.
+/// Rests until a child has ended, for one pause at the most, and returns whether an end was seen. A pause has slices. After each
+/// but the last it looks at the newest children, and now and then at all of them; after the last it doesn't look, since each
+/// child is polled then. `pauses` counts the pauses since an end was seen.
 pub(crate) fn await_end<P: OpenProcess + Drop, R: Files + Clock + AllocGlobal>(
     children: &mut Children<P>,
     removals: &mut Option<Removals>,

@@ -14,7 +14,7 @@ use kt_words::CaseOptions;
 use std::alloc::Global;
 use std::io::Write;
 
-/// A plan that is run under the number of its run, `width` cases at once at most.
+/// The plan of a run that was begun, how many of its cases may be active at once, and the number of the run.
 #[derive(Drop)]
 struct NumberedPlan {
     plan: Items<Job>,

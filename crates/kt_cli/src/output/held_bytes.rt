@@ -54,7 +54,7 @@ impl HeldBytes {
         self.count = count + more.len();
     }
 
-    /// Hands the bytes to a writer, and returns whether a write failed. What it leaves unwritten stays, from the front on.
+    /// Hands the bytes to a writer, and returns whether a write failed. The bytes that weren't written stay, moved to the front.
     pub fn hand_on<W: Write>(&mut self, out: &mut W) -> bool
         ensures bytes { Keeps (append_known (W.contents out.old) self.old)
             (append_known (W.contents out.new) self.new) }

@@ -1,6 +1,5 @@
-ghost use Rattle.std.specs.Prelude.{◌≡◌, ◌≤◌, ◌&&◌, ◌++◌, ◌∷◌, [], length, IfOk, OnOk, MatchResult};
+ghost use Rattle.std.specs.Prelude.{◌≡◌, ◌≤◌, ◌&&◌, length, IfOk, MatchResult};
 ghost use Rattle.kt_plan.specs.Common.{Values, meta_in, first_reason, rows, variables_for, IsPlan, most_items, is_atf, ArePlanned, IsDecided, IsJobOf, IsIdle, Answered, Surveys, SurveysFirst};
-ghost use Rattle.kt_sched.specs.declared.job.Job.{Job as Planned};
 ghost use Rattle.kt_metadata.specs.declared.host.Host.{Host as Surveyed};
 
 use crate::plan::looking::survey;

@@ -29,7 +29,7 @@ pub record IsSettledStore (v : View) (schema : Schema) : Type 0 where
   pub sound : IsTrue v.is_open → IsSound schema v.committed
 
 module _ (schema : Schema) where
-  -- the table at a place of the schema lost these rows and got others, which are read from a column of these on
+  -- the table at a place of the schema lost the rows with these rowids and got others, each read from this column on
   abbrev pub PutsRows : ℕ → List ℤ → Rowids → ℕ → List Row → Trees → Trees → Type 0
   PutsRows place gone rowids from sources old new =
       (table : Table) → slice_get schema.tables place ≡ Some table → Writes schema Enforced old (edit_of old table gone rowids from sources) (Ok new)

@@ -20,14 +20,14 @@ abbrev pub IsFailure : Trouble → Type 0
 IsFailure (NoMemory shortage) = ⊥
 IsFailure (Failed statement) = ⊤
 
--- an error is a lack of memory if that is what SQLite says, and else a failed statement
+-- an error means that memory ran out if SQLite says so, and else that a statement failed
 abbrev pub IsOfError : Error → Trouble → Type 0
 IsOfError error trouble = (IsShort trouble × (error ≡ SqliteFailure code.OutOfMemory)) ⊎ (IsFailure trouble × (error ≢ SqliteFailure code.OutOfMemory))
 
--- an error of a tree is a lack of memory if that is what the tree says, and else a failed statement
+-- an error of a tree means that memory ran out if the tree says so, and else that a statement failed
 abbrev pub IsOfTreeError : StoreError → Trouble → Type 0
 IsOfTreeError error trouble = (IsShort trouble × (error ≡ OutOfMemory)) ⊎ (IsFailure trouble × (error ≢ OutOfMemory))
 
--- an error of a write is a lack of memory only if that is what a tree says
+-- an error of a write means that memory ran out only if a tree says so
 abbrev pub IsOfWriteError : WriteError → Trouble → Type 0
 IsOfWriteError error trouble = IsShort trouble → error ≡ write.Failed OutOfMemory

@@ -1,4 +1,4 @@
--- What a call leaves as it was, and what it changes.
+-- What a call leaves as it was, what it changes, and which databases have a number.
 use Rattle.std.specs.Prelude.{ℤ, List, ⊤}
 use Rattle.kt_store.specs.Ask.{Rests}
 use Rattle.kt_store.specs.Attaching.{Was, Blank}
@@ -6,7 +6,7 @@ use Rattle.kt_store.specs.Runs.{Keeps}
 use Rattle.kt_store.specs.Stands.{StandsFor, SaysSchema, HasTables, Leaves}
 use Rattle.kt_store.specs.Types.{Ghosts, HasCleanDisk, Held, IsUnchanged, Run, Survives, state}
 
--- tables that say a number
+-- the database was not blank: its tables say a number
 abbrev pub HasNumber : Was → Type 0
 HasNumber Blank = ⊥
 HasNumber _ = ⊤

@@ -41,10 +41,10 @@ abbrev pub AreNamed : Table → ℕ → List (List ℕ) → Type 0
 AreNamed table at [] = ⊤
 AreNamed table at (name ∷ names) = (column_named table name ≡ Some at) × AreNamed table (suc at) names
 
--- where they stand in schema 2
+-- where the tables of results stand in schema 2
 abbrev pub places_2 : Places
 places_2 = record { runs = record { at = 1; tree = 2 }; entries = record { at = 2; tree = 3 }; entry_keys = 4; props = record { at = 3; tree = 5 }; pair_keys = 6 }
 
--- the tables of a store that shows runs, and is not broken, stand there
+-- these places are those of schema 2, if the store shows runs and is not broken
 abbrev pub StandAt : Places → View → Type 0
 StandAt places v = IsClean v → v.is_broken ≡ false → (runs : List Run) → Keeps runs v.trees → places ≡ places_2

@@ -1,4 +1,4 @@
--- The statements of the calls that write more than one, which are run one after the other, in one commit.
+-- The statements of calls that run several, one after the other and in one commit.
 use Rattle.std.specs.Prelude.{◌≡◌, ◌⊎◌, ℕ, true, false, List, [], ◌∷◌, Ok, IsTrue, suc, codes}
 use Rattle.kt_store.specs.Runs.{IsText, entry_row, pair_row}
 use Rattle.kt_store.specs.Inner.Kept.{CommitsNothing}

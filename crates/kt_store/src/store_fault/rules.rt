@@ -16,6 +16,17 @@ use sqlite_trees::store::Alter;
 use sqlite_value::row::Row;
 use std::alloc::Global;
 
+/// An edit of the table at a place of the schema: the rows with the rowids `gone` are removed, and `sources` are added, each
+/// read from the column `from` on.
+#[derive(Clone, Copy)]
+pub(crate) struct TableEdit<'a> {
+    pub(crate) place: usize,
+    pub(crate) gone: &'a [i64],
+    pub(crate) rowids: Rowids,
+    pub(crate) from: usize,
+    pub(crate) sources: &'a [Row],
+}
+
 impl From<WriteError> for Trouble {
     ghost from_gives = { IsOfWriteError };
 
@@ -27,16 +38,6 @@ impl From<WriteError> for Trouble {
     }
 }
 
-/// What the table at a place of the schema loses, by rowid, and the rows that it gets, which are read from a column of these on.
-#[derive(Clone, Copy)]
-pub(crate) struct TableEdit<'a> {
-    pub(crate) place: usize,
-    pub(crate) gone: &'a [i64],
-    pub(crate) rowids: Rowids,
-    pub(crate) from: usize,
-    pub(crate) sources: &'a [Row],
-}
-
 /// The indexes of a schema.
 fn indexes_of(alloc: Global, schema: &Schema) -> Result<Vec<Index<'_>>, NoMemory>
     ensures { IfOk result (λ all. IsCatalogOf schema.now all.items) }
@@ -45,7 +46,7 @@ fn indexes_of(alloc: Global, schema: &Schema) -> Result<Vec<Index<'_>>, NoMemory
     Ok(all)
 }
 
-/// Edits a table. Each rule of the schema is tested. Nothing is committed.
+/// Applies an edit, and tests each rule of the schema. Nothing is committed.
 pub(crate) fn put_rows<S: Alter>(
     store: &mut S,
     alloc: Global,

@@ -1,4 +1,4 @@
-ghost use Rattle.std.specs.Prelude.{◌≡◌, ◌++◌, ◌<◌, ◌^◌, ℕ, ℤ, pos, List, [], ◌∷◌, map, length, true, false, Some, None, IsSome, IsTrue, IfOk, OnOk, OnErr};
+ghost use Rattle.std.specs.Prelude.{◌≡◌, ◌++◌, ◌<◌, ℕ, ℤ, pos, List, [], ◌∷◌, map, length, true, false, Some, None, IsSome, IsTrue, IfOk, OnOk, OnErr};
 ghost use Rattle.kt_store.specs.Common.{Blob, column, Int, AreWide, IsStoreFault, IsOfTreeError, FindsUnder, Goes, Looks, LooksThrough, ShowsUnder, CountsUnder, in_columns};
 ghost use Rattle.sqlite_exec.specs.Calls.{OnlyReads};
 ghost use Rattle.sqlite_exec.specs.Loops.{left_of};
@@ -270,8 +270,8 @@ fn rows_behind<S: Store>(
     Err(FAULTY)
 }
 
-/// The rows that `rows_behind` finds, after the last place was read that begins with the key `before` or less, and its row: it
-/// may be one of these that was damaged.
+/// The rows that `rows_behind` finds. Before, the last place that begins with the key `before` or less is read, and its row: it
+/// may be one of these, damaged.
 pub(crate) fn rows_after<S: Store>(
     store: &mut S,
     alloc: Global,
