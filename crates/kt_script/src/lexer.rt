@@ -1,7 +1,7 @@
 //! Where a text's tokens and comments begin and end.
 
 ghost use Rattle.std.specs.Prelude.{◌≡◌, ℕ, ◌≤◌, length, IfOk, ◌+◌, ◌==◌, IfSome};
-ghost use Rattle.kt_script.specs.Common.{prefix_len, is_space, mark_of, marked, piece_at, closes_at, comment_at, is_level};
+ghost use Rattle.kt_script.specs.Common.{prefix_len, is_space, mark_of, piece_at, closes_at, comment_at, is_level};
 
 use crate::quotation::quoted;
 use crate::token::{Flaw, Kind, Piece};
@@ -85,15 +85,6 @@ fn mark(c: u8) -> Option<Kind>
     }
 }
 
-fn marked(text: &[u8], c: u8) -> Piece
-    ensures { result ≡ marked text.now (mark_of c) }
-{
-    match mark(c) {
-        None => Piece::broken(text, Flaw::Bad),
-        Some(kind) => Piece::token(1, kind),
-    }
-}
-
 /// The piece at the beginning of a text: white space, a comment or a token.
 #[tactic(auto, unfolding(crate::specs::Inner::Tokens::piece_at))]
 pub fn next_piece(alloc: Global, text: &str) -> Result<Piece, NoMemory>
@@ -118,5 +109,8 @@ pub fn next_piece(alloc: Global, text: &str) -> Result<Piece, NoMemory>
     if *c == b'-' {
         return Ok(comment(bytes));
     }
-    Ok(marked(bytes, *c))
+    Ok(match mark(*c) {
+        None => Piece::broken(bytes, Flaw::Bad),
+        Some(kind) => Piece::token(1, kind),
+    })
 }

@@ -1,8 +1,8 @@
 //! The reader of tokens.
 
-ghost use Rattle.std.specs.Prelude.{◌≡◌, ℕ, List, [], ◌∷◌, ◌++◌, None, IfOk, OnOk, IfErr};
-ghost use Rattle.kt_script.specs.Inner.Automaton.{next, IsResting};
-ghost use Rattle.kt_script.specs.Faults.{IfFault, fault_of, last, after_bracket, end_fault};
+ghost use Rattle.std.specs.Prelude.{◌≡◌, ℕ, List, [], ◌++◌, IfOk, OnOk, IfErr};
+ghost use Rattle.kt_script.specs.Inner.Automaton.{IsResting};
+ghost use Rattle.kt_script.specs.Faults.{IfFault, last, after_bracket, end_fault};
 
 use crate::place::Place;
 use crate::token::{Kind, Token};
@@ -33,7 +33,7 @@ pub struct Parser {
 }
 
 impl Parser {
-    ghost use Rattle.kt_script.specs.Common.{HasRead, IsWithin, Start, Token};
+    ghost use Rattle.kt_script.specs.Common.{HasRead, IsMisfit, IsWithin, Start, Token, tokens_in};
 
     pub fn new(alloc: Global) -> Self
         ensures { HasRead Start result [] }
@@ -44,15 +44,24 @@ impl Parser {
         }
     }
 
-    /// Reads one more token at a place. Returns the place where it leads.
-    pub fn feed(&mut self, alloc: Global, place: Place, token: Token) -> Result<Place, ScriptFault>
+    /// Reads the token of a piece at a place, if the piece is one. Returns the place where it leads.
+    pub fn feed(
+        &mut self,
+        alloc: Global,
+        place: Place,
+        line: u32,
+        kind: Option<Kind>,
+    ) -> Result<Place, ScriptFault>
         ensures ok { IfOk result (λ after. (read : List Token) → HasRead place self.old read
-            → HasRead after self.new (read ++ token ∷ [])) }
-        ensures fault { IfFault result (λ fault. (fault ≡ fault_of token)
-            × (next place token ≡ None)) }
+            → HasRead after self.new (read ++ tokens_in line kind)) }
+        ensures fault { IfFault result (λ fault. IsMisfit place line kind fault) }
     {
+        let Some(kind) = kind else {
+            return Ok(place);
+        };
+        let token = Token { line, kind };
         let fault = token.fault();
-        follow(&mut self.brackets, token.line, &token.kind)?;
+        follow(&mut self.brackets, line, &token.kind)?;
         match place.next(alloc, token, &mut self.statements)? {
             None => Err(fault),
             Some(place) => Ok(place),

@@ -1,7 +1,7 @@
 //! The place in a script that the tokens read so far led to.
 
 ghost use Rattle.std.specs.Prelude.{◌≡◌, ◌++◌, IfOk, OnOk, MatchOption};
-ghost use Rattle.kt_script.specs.Inner.Automaton.{begin, go_on, next, place_of, ended_by, IsResting, IsWithin};
+ghost use Rattle.kt_script.specs.Inner.Automaton.{begin, next, place_of, ended_by, IsResting, IsWithin};
 
 use crate::Stmt;
 use crate::state::{State, Step};
@@ -29,21 +29,12 @@ impl Drop for Place {
     }
 }
 
+/// The place after the first token of a statement, if it is a name.
 fn begin(line: u32, kind: Kind) -> Option<Place>
     ensures { result ≡ place_of (begin line kind) }
 {
     match kind {
         Kind::Name(name) => Some(Place::Within(line, State::Named(name))),
-        _ => None,
-    }
-}
-
-fn go_on(line: u32, kind: Kind) -> Option<Place>
-    ensures { result ≡ place_of (go_on line kind) }
-{
-    match kind {
-        Kind::Name(name) => Some(Place::Within(line, State::Named(name))),
-        Kind::Semicolon => Some(Place::Start),
         _ => None,
     }
 }
@@ -70,18 +61,17 @@ impl Place {
         ensures ended { OnOk result (statements.new ≡ statements.old
             ++ ended_by (next self token)) }
     {
-        let (line, state) = match self {
-            Place::Start => return Ok(begin(token.line, token.kind)),
-            Place::Whole => return Ok(go_on(token.line, token.kind)),
-            Place::Within(line, state) => (line, state),
-        };
-        match state.step(alloc, token.kind)? {
-            None => Ok(None),
-            Some(Step::To(state)) => Ok(Some(Place::Within(line, state))),
-            Some(Step::Ends(action)) => {
-                statements.push(Stmt { line, action })?;
-                Ok(Some(Place::Whole))
-            }
+        match self {
+            Place::Whole if matches!(token.kind, Kind::Semicolon) => Ok(Some(Place::Start)),
+            Place::Start | Place::Whole => Ok(begin(token.line, token.kind)),
+            Place::Within(line, state) => match state.step(alloc, token.kind)? {
+                None => Ok(None),
+                Some(Step::To(state)) => Ok(Some(Place::Within(line, state))),
+                Some(Step::Ends(action)) => {
+                    statements.push(Stmt { line, action })?;
+                    Ok(Some(Place::Whole))
+                }
+            },
         }
     }
 }

@@ -1,12 +1,11 @@
 //! The reading of a script.
 
 ghost use Rattle.std.specs.Prelude.{◌≡◌, ◌+◌, ◌≤◌, ◌<◌, ◌^◌, ◌++◌, List, length, IfOk, Result};
-ghost use Rattle.kt_script.specs.Common.{IfFault, IsFaultOf, Script, tokens, tokens_in, line_past, IsTokens, limit, Spells, IsDue, Answers, Refuses, IsAnswer, ScriptFault, HasRead, IsMisfit, Stmt, Token};
+ghost use Rattle.kt_script.specs.Common.{IfFault, IsFaultOf, Script, tokens, line_past, IsTokens, limit, Spells, IsDue, Answers, Refuses, IsAnswer, ScriptFault, Stmt, Token};
 
 use crate::lexer::next_piece;
 use crate::parser::Parser;
 use crate::place::Place;
-use crate::token::{Kind, Token};
 use crate::{ScriptFault, Stmt};
 use kt_base::Items;
 use std::alloc::Global;
@@ -29,24 +28,6 @@ fn line_past(from: u32, text: &[u8]) -> u32
     line
 }
 
-/// Reads the token of a piece, if it is one. Returns the place where it leads.
-fn feed_piece(
-    alloc: Global,
-    parser: &mut Parser,
-    place: Place,
-    line: u32,
-    kind: Option<Kind>,
-) -> Result<Place, ScriptFault>
-    ensures ok { IfOk result (λ after. (read : List Token) → HasRead place parser.old read
-        → HasRead after parser.new (read ++ tokens_in line kind)) }
-    ensures fault { IfFault result (λ fault. IsMisfit place line kind fault) }
-{
-    match kind {
-        None => Ok(place),
-        Some(kind) => parser.feed(alloc, place, Token { line, kind }),
-    }
-}
-
 fn statements(alloc: Global, text: &str) -> Result<Items<Stmt>, ScriptFault>
     requires { length text.now ≤ limit }
     ensures ok { IfOk result (λ stmts. Script (tokens 1 0 text.now) stmts) }
@@ -59,7 +40,7 @@ fn statements(alloc: Global, text: &str) -> Result<Items<Stmt>, ScriptFault>
     while !rest.is_empty() {
         let piece = next_piece(alloc, rest)?;
         let (read, after) = rest.split_at(piece.length);
-        place = feed_piece(alloc, &mut parser, place, line, piece.kind)?;
+        place = parser.feed(alloc, place, line, piece.kind)?;
         line = line_past(line, read.as_bytes());
         rest = after;
     }

@@ -62,22 +62,54 @@ impl State {
     pub fn step(self, alloc: Global, kind: Kind) -> Result<Option<Step>, NoMemory>
         ensures { IfOk result (λ to. to ≡ step self kind) }
     {
-        match self {
-            State::Named(name) => after_name(alloc, name, kind),
-            State::Opened(name) => Ok(after_paren(alloc, name, kind)),
-            State::Closing(call) => Ok(after_arg(call, kind)),
-            State::Pairs(table) => Ok(after_comma(table, kind)),
-            State::KeyOpened(table) => Ok(after_key_opened(table, kind)),
-            State::KeyQuoted(table, key) => Ok(after_key_quoted(table, key, kind)),
-            State::Keyed(table, key) => Ok(after_key(table, key, kind)),
-            State::KeyEquals(table, key) => after_key_equals(table, key, kind),
-            State::Paired(table) => Ok(after_pair(table, kind)),
-            State::Dotted(path) => after_dot(path, kind),
-            State::PathOpened(path) => after_path_opened(path, kind),
-            State::PathQuoted(path) => Ok(after_path_quoted(path, kind)),
-            State::Path(path) => Ok(after_path(path, kind)),
-            State::PathEquals(path) => Ok(after_path_equals(path, kind)),
-        }
+        let to = match (self, kind) {
+            (State::Named(name), Kind::Quoted(text)) => Step::Ends(Action::Call(name, Arg::Value(Literal::Text(text)))),
+            (State::Named(name), Kind::OpenParen) => Step::To(State::Opened(name)),
+            (State::Named(name), Kind::OpenBrace) => Step::To(State::Pairs(Table::new(alloc, name, false))),
+            (State::Named(name), Kind::Dot) => Step::To(State::Dotted(single(alloc, name)?)),
+            (State::Named(name), Kind::OpenBracket) => Step::To(State::PathOpened(single(alloc, name)?)),
+            (State::Named(name), Kind::Equals) => Step::To(State::PathEquals(single(alloc, name)?)),
+            (State::Opened(name), Kind::OpenBrace) => Step::To(State::Pairs(Table::new(alloc, name, true))),
+            (State::Opened(name), kind) => match value(kind) {
+                None => return Ok(None),
+                Some(value) => Step::To(State::Closing(Action::Call(name, Arg::Value(value)))),
+            },
+            (State::Closing(call), Kind::CloseParen) => Step::Ends(call),
+            (State::Pairs(table), Kind::Name(name)) => Step::To(State::Keyed(table, name)),
+            (State::Pairs(table), Kind::OpenBracket) => Step::To(State::KeyOpened(table)),
+            (State::Pairs(table), Kind::CloseBrace) => table.close(),
+            (State::KeyOpened(table), Kind::Quoted(key)) => Step::To(State::KeyQuoted(table, key)),
+            (State::KeyQuoted(table, key), Kind::CloseBracket) => Step::To(State::Keyed(table, key)),
+            (State::Keyed(table, key), Kind::Equals) => Step::To(State::KeyEquals(table, key)),
+            (State::KeyEquals(table, name), kind) => match value(kind) {
+                None => return Ok(None),
+                Some(value) => {
+                    let mut table = table;
+                    table.pairs.push(Pair { name, value })?;
+                    Step::To(State::Paired(table))
+                }
+            },
+            (State::Paired(table), Kind::Comma | Kind::Semicolon) => Step::To(State::Pairs(table)),
+            (State::Paired(table), Kind::CloseBrace) => table.close(),
+            (State::Dotted(mut path), Kind::Name(name)) => {
+                path.push(name)?;
+                Step::To(State::Path(path))
+            }
+            (State::PathOpened(mut path), Kind::Quoted(text)) => {
+                path.push(text)?;
+                Step::To(State::PathQuoted(path))
+            }
+            (State::PathQuoted(path), Kind::CloseBracket) => Step::To(State::Path(path)),
+            (State::Path(path), Kind::Dot) => Step::To(State::Dotted(path)),
+            (State::Path(path), Kind::OpenBracket) => Step::To(State::PathOpened(path)),
+            (State::Path(path), Kind::Equals) => Step::To(State::PathEquals(path)),
+            (State::PathEquals(path), kind) => match value(kind) {
+                None => return Ok(None),
+                Some(value) => Step::Ends(Action::Assign(path, value)),
+            },
+            _ => return Ok(None),
+        };
+        Ok(Some(to))
     }
 }
 
@@ -99,51 +131,6 @@ fn single(alloc: Global, name: Text) -> Result<Items<Text>, NoMemory>
     let mut path = Items::new(alloc);
     path.push(name)?;
     Ok(path)
-}
-
-fn after_name(alloc: Global, name: Text, kind: Kind) -> Result<Option<Step>, NoMemory>
-    ensures { IfOk result (λ to. to ≡ step (State.Named name) kind) }
-{
-    let to = match kind {
-        Kind::Quoted(text) => Step::Ends(Action::Call(name, Arg::Value(Literal::Text(text)))),
-        Kind::OpenParen => Step::To(State::Opened(name)),
-        Kind::OpenBrace => Step::To(State::Pairs(Table::new(alloc, name, false))),
-        Kind::Dot => Step::To(State::Dotted(single(alloc, name)?)),
-        Kind::OpenBracket => Step::To(State::PathOpened(single(alloc, name)?)),
-        Kind::Equals => Step::To(State::PathEquals(single(alloc, name)?)),
-        _ => return Ok(None),
-    };
-    Ok(Some(to))
-}
-
-fn after_paren(alloc: Global, name: Text, kind: Kind) -> Option<Step>
-    ensures { result ≡ step (State.Opened name) kind }
-{
-    match kind {
-        Kind::OpenBrace => Some(Step::To(State::Pairs(Table::new(alloc, name, true)))),
-        Kind::Quoted(text) => Some(Step::To(State::Closing(Action::Call(
-            name,
-            Arg::Value(Literal::Text(text)),
-        )))),
-        Kind::Number(n) => Some(Step::To(State::Closing(Action::Call(
-            name,
-            Arg::Value(Literal::Number(n)),
-        )))),
-        Kind::Truth(b) => Some(Step::To(State::Closing(Action::Call(
-            name,
-            Arg::Value(Literal::Truth(b)),
-        )))),
-        _ => None,
-    }
-}
-
-fn after_arg(call: Action, kind: Kind) -> Option<Step>
-    ensures { result ≡ step (State.Closing call) kind }
-{
-    match kind {
-        Kind::CloseParen => Some(Step::Ends(call)),
-        _ => None,
-    }
 }
 
 impl Table {
@@ -168,113 +155,4 @@ impl Table {
             Step::Ends(call)
         }
     }
-}
-
-fn after_comma(table: Table, kind: Kind) -> Option<Step>
-    ensures { result ≡ step (State.Pairs table) kind }
-{
-    match kind {
-        Kind::Name(name) => Some(Step::To(State::Keyed(table, name))),
-        Kind::OpenBracket => Some(Step::To(State::KeyOpened(table))),
-        Kind::CloseBrace => Some(table.close()),
-        _ => None,
-    }
-}
-
-fn after_key_opened(table: Table, kind: Kind) -> Option<Step>
-    ensures { result ≡ step (State.KeyOpened table) kind }
-{
-    match kind {
-        Kind::Quoted(text) => Some(Step::To(State::KeyQuoted(table, text))),
-        _ => None,
-    }
-}
-
-fn after_key_quoted(table: Table, key: Text, kind: Kind) -> Option<Step>
-    ensures { result ≡ step (State.KeyQuoted table key) kind }
-{
-    match kind {
-        Kind::CloseBracket => Some(Step::To(State::Keyed(table, key))),
-        _ => None,
-    }
-}
-
-fn after_key(table: Table, key: Text, kind: Kind) -> Option<Step>
-    ensures { result ≡ step (State.Keyed table key) kind }
-{
-    match kind {
-        Kind::Equals => Some(Step::To(State::KeyEquals(table, key))),
-        _ => None,
-    }
-}
-
-fn after_key_equals(table: Table, key: Text, kind: Kind) -> Result<Option<Step>, NoMemory>
-    ensures { IfOk result (λ to. to ≡ step (State.KeyEquals table key) kind) }
-{
-    let Some(value) = value(kind) else {
-        return Ok(None);
-    };
-    let mut table = table;
-    table.pairs.push(Pair { name: key, value })?;
-    Ok(Some(Step::To(State::Paired(table))))
-}
-
-fn after_pair(table: Table, kind: Kind) -> Option<Step>
-    ensures { result ≡ step (State.Paired table) kind }
-{
-    match kind {
-        Kind::Comma | Kind::Semicolon => Some(Step::To(State::Pairs(table))),
-        Kind::CloseBrace => Some(table.close()),
-        _ => None,
-    }
-}
-
-fn after_dot(mut path: Items<Text>, kind: Kind) -> Result<Option<Step>, NoMemory>
-    ensures { IfOk result (λ to. to ≡ step (State.Dotted path) kind) }
-{
-    match kind {
-        Kind::Name(name) => {
-            path.push(name)?;
-            Ok(Some(Step::To(State::Path(path))))
-        }
-        _ => Ok(None),
-    }
-}
-
-fn after_path_opened(mut path: Items<Text>, kind: Kind) -> Result<Option<Step>, NoMemory>
-    ensures { IfOk result (λ to. to ≡ step (State.PathOpened path) kind) }
-{
-    match kind {
-        Kind::Quoted(text) => {
-            path.push(text)?;
-            Ok(Some(Step::To(State::PathQuoted(path))))
-        }
-        _ => Ok(None),
-    }
-}
-
-fn after_path_quoted(path: Items<Text>, kind: Kind) -> Option<Step>
-    ensures { result ≡ step (State.PathQuoted path) kind }
-{
-    match kind {
-        Kind::CloseBracket => Some(Step::To(State::Path(path))),
-        _ => None,
-    }
-}
-
-fn after_path(path: Items<Text>, kind: Kind) -> Option<Step>
-    ensures { result ≡ step (State.Path path) kind }
-{
-    match kind {
-        Kind::Dot => Some(Step::To(State::Dotted(path))),
-        Kind::OpenBracket => Some(Step::To(State::PathOpened(path))),
-        Kind::Equals => Some(Step::To(State::PathEquals(path))),
-        _ => None,
-    }
-}
-
-fn after_path_equals(path: Items<Text>, kind: Kind) -> Option<Step>
-    ensures { result ≡ step (State.PathEquals path) kind }
-{
-    value(kind).map(|value| Step::Ends(Action::Assign(path, value)))
 }

@@ -1,7 +1,7 @@
 //! Names and numbers.
 
 ghost use Rattle.std.specs.Prelude.{◌≡◌, ℕ, ◌+◌, ◌<◌, ◌≤◌, length, IfOk, take, drop};
-ghost use Rattle.kt_script.specs.Common.{prefix_len, is_letter, is_word, decimal_from, fits, word, begins_with_letter, name_at, number_at, is_space};
+ghost use Rattle.kt_script.specs.Common.{prefix_len, is_letter, is_word, word, name_at, number_at, is_space};
 
 use crate::token::{Flaw, Kind, Piece};
 use kt_base::{NoMemory, Text, decimal_up_to, digits_length, is_digit};
@@ -52,29 +52,16 @@ pub fn name(alloc: Global, text: &str) -> Result<Piece, NoMemory>
     Ok(Piece::token(length, word(alloc, &text[..length])?))
 }
 
-/// The value of decimal digits, if it is below 2^64.
-fn decimal(digits: &[u8]) -> Option<u64>
-    ensures { result ≡ fits (decimal_from 0 digits.now) }
-{
-    decimal_up_to(u64::MAX, digits)
-}
-
-fn begins_with_letter(text: &[u8]) -> bool
-    ensures { result ≡ begins_with_letter text.now }
-{
-    text.first().is_some_and(|c| is_letter(*c))
-}
-
 /// The number at the beginning of a text.
 pub fn number(text: &[u8]) -> Piece
     ensures { result ≡ number_at text.now }
 {
     let length = digits_length(text);
     let (digits, after) = text.split_at(length);
-    if begins_with_letter(after) {
+    if after.first().is_some_and(|c| is_letter(*c)) {
         return Piece::broken(text, Flaw::Bad);
     }
-    match decimal(digits) {
+    match decimal_up_to(u64::MAX, digits) {
         None => Piece::broken(text, Flaw::Bad),
         Some(value) => Piece::token(length, Kind::Number(value)),
     }
