@@ -37,19 +37,10 @@ fn next_stop(quote: u8, text: &[u8]) -> Stop
     if *c == quote {
         return Stop::Quote;
     }
-    if *c == b'\\' {
-        return escape_stop(after);
+    if *c != b'\\' {
+        return Stop::Flawed(Flaw::Endless);
     }
-    Stop::Flawed(Flaw::Endless)
-}
-
-fn escape_stop(text: &[u8]) -> Stop
-    ensures { result ≡ escape_at text.now }
-{
-    let Some((c, _)) = text.split_first() else {
-        return Stop::Flawed(Flaw::Bad);
-    };
-    match escape(*c) {
+    match after.first().and_then(|c| escape(*c)) {
         None => Stop::Flawed(Flaw::Bad),
         Some(c) => Stop::Escape(c),
     }
