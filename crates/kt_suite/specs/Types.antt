@@ -8,7 +8,7 @@ pub use Rattle.kt_suite.specs.declared.fault.SuiteFault.{SuiteFault}
 pub use Rattle.kt_suite.specs.declared.filter.Filter.{Filter}
 pub use Rattle.kt_suite.specs.declared.filter.FilterFault.{FilterFault}
 pub use Rattle.kt_suite.specs.declared.registry.Program.{Program}
-pub use Rattle.kt_suite.specs.declared.registry.ProgramTable.{ProgramTable}
+pub use Rattle.kt_suite.specs.declared.table.ProgramTable.{ProgramTable}
 pub use Rattle.kt_suite.specs.declared.selecting.Item.{Item}
 pub use Rattle.kt_suite.specs.declared.statement.Meaning.{Meaning}
 pub use Rattle.kt_suite.specs.declared.tree.ReadFault.{ReadFault}

@@ -74,31 +74,3 @@ pub enum Step {
     /// The file at this path, and then the next statement.
     Enter(Registry, Text),
 }
-
-/// What the table of a program declares.
-pub struct ProgramTable {
-    pub name: Option<Text>,
-    pub suite: Option<Text>,
-    pub props: Props,
-}
-
-/// Written out so that a drop is one call: what a table owns is taken apart only here.
-impl Drop for ProgramTable {
-    fn drop(self) {
-        let ProgramTable {
-            name: _,
-            suite: _,
-            props: _,
-        } = self;
-    }
-}
-
-impl ProgramTable {
-    /// The name, the suite and the properties.
-    pub fn into_parts(self) -> (Option<Text>, Option<Text>, Props)
-        ensures { result ≡ (self.name, self.suite, self.props) }
-    {
-        let ProgramTable { name, suite, props } = self;
-        (name, suite, props)
-    }
-}

@@ -1,10 +1,9 @@
-ghost use Rattle.std.specs.Prelude.{◌≡◌, IfOk, List, ℕ, Option};
-ghost use Rattle.kt_suite.specs.Meanings.{version_fault, opening_fault, suite_meaning, suited, named, program_meaning, include_meaning, meaning_of};
+ghost use Rattle.std.specs.Prelude.{◌≡◌, IfOk};
+ghost use Rattle.kt_suite.specs.Meanings.{opening_fault, suite_meaning, program_meaning, include_meaning, meaning_of};
 
 use crate::SuiteCause;
 use crate::call::{Call, call_of};
-use crate::paths::{leads_away, leads_down};
-use crate::registry::ProgramTable;
+use crate::paths::leads_down;
 use crate::table::read_table;
 use kt_base::{Interface, NoMemory, Text};
 use kt_metadata::Props;
@@ -27,25 +26,14 @@ pub enum Meaning {
 pub fn wrong_opening(action: &Action) -> Option<SuiteCause>
     ensures { result ≡ opening_fault action.now }
 {
-    match action {
-        Action::Call(name, arg) => match call_of(name) {
-            Call::Syntax => wrong_version(arg),
-            _ => Some(SuiteCause::NoSyntax),
-        },
-        Action::Assign(_, _) => Some(SuiteCause::NoSyntax),
-    }
-}
-
-fn wrong_version(arg: &Arg) -> Option<SuiteCause>
-    ensures { result ≡ version_fault arg.now }
-{
-    match arg {
-        Arg::Value(Literal::Number(n)) => if *n == 2 {
-            None
-        } else {
-            Some(SuiteCause::WrongSyntax(*n))
-        },
-        _ => Some(SuiteCause::BadValue),
+    let Action::Call(name, arg) = action else {
+        return Some(SuiteCause::NoSyntax);
+    };
+    match (call_of(name), arg) {
+        (Call::Syntax, Arg::Value(Literal::Number(2))) => None,
+        (Call::Syntax, Arg::Value(Literal::Number(n))) => Some(SuiteCause::WrongSyntax(*n)),
+        (Call::Syntax, _) => Some(SuiteCause::BadValue),
+        _ => Some(SuiteCause::NoSyntax),
     }
 }
 
@@ -64,53 +52,6 @@ fn read_suite(alloc: Global, arg: &Arg) -> Result<Meaning, NoMemory>
     }
 }
 
-fn with_suite(
-    interface: Interface,
-    name: Text,
-    file: &Option<Text>,
-    own: Option<Text>,
-    props: Props,
-) -> Result<Meaning, NoMemory>
-    ensures { IfOk result (λ found. found ≡ suited interface name file.now own props) }
-{
-    match own {
-        Some(suite) => {
-            if suite.is_empty() {
-                return Ok(Meaning::Wrong(SuiteCause::BadValue));
-            }
-            Ok(Meaning::Program(interface, name, suite, props))
-        }
-        None => match file {
-            None => Ok(Meaning::Wrong(SuiteCause::NoSuite)),
-            Some(suite) => Ok(Meaning::Program(interface, name, suite.copy()?, props)),
-        },
-    }
-}
-
-fn with_name(
-    alloc: Global,
-    interface: Interface,
-    file: &Option<Text>,
-    found: ProgramTable,
-) -> Result<Meaning, NoMemory>
-    ensures { IfOk result (λ meaning. meaning
-        ≡ named interface file.now found.suite found.props found.name) }
-{
-    let (name, suite, props) = found.into_parts();
-    match name {
-        None => Ok(Meaning::Wrong(SuiteCause::BadValue)),
-        Some(name) => {
-            if name.is_empty() {
-                return Ok(Meaning::Wrong(SuiteCause::BadValue));
-            }
-            if leads_away(&name) {
-                return Ok(Meaning::Wrong(SuiteCause::PathHasDirectory));
-            }
-            with_suite(interface, name, file, suite, props)
-        }
-    }
-}
-
 fn read_program(
     alloc: Global,
     interface: Interface,
@@ -123,7 +64,7 @@ fn read_program(
         Arg::Value(_) => Ok(Meaning::Wrong(SuiteCause::BadValue)),
         Arg::Table(pairs) => match read_table(alloc, pairs.as_slice())? {
             Err(cause) => Ok(Meaning::Wrong(cause)),
-            Ok(found) => with_name(alloc, interface, file, found),
+            Ok(found) => found.meaning(interface, file),
         },
     }
 }

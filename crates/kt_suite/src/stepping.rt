@@ -20,31 +20,6 @@ const FILE_LIMIT: usize = 10_000;
 /// The most files that are open at once, each included by the one before.
 const DEPTH_LIMIT: usize = 32;
 
-/// Registers a program, if it is there and not one too many.
-fn add<T: Tree>(
-    alloc: Global,
-    tree: &mut T,
-    file: &Text,
-    line: u32,
-    registry: Registry,
-    program: Program,
-) -> Result<Registry, SuiteFault>
-    ensures { Adds T.asks tree.old tree.new (record { file = file.now; line = line })
-        registry program result }
-{
-    let mut registry = registry;
-    if !tree.exists(&program.path) {
-        return Err(blame(file, alloc, line, SuiteCause::MissingProgram));
-    }
-    if registry.programs.len() >= PROGRAM_LIMIT {
-        return Err(blame(file, alloc, line, SuiteCause::TooMany));
-    }
-    match registry.programs.push(program) {
-        Err(refusal) => Err(no_memory(alloc, refusal)),
-        Ok(()) => Ok(registry),
-    }
-}
-
 fn is_among(files: &[Text], path: &Text) -> bool
     ensures { result ≡ list_any (bytes_eq path.now) files.now }
 {
@@ -107,7 +82,7 @@ fn include(
     }
 }
 
-/// Registers a program whose path is still its name in the directory of the file.
+/// Registers a program whose path is still its name in the directory of the file, if it is there and not one too many.
 fn register<T: Tree>(
     alloc: Global,
     tree: &mut T,
@@ -119,13 +94,22 @@ fn register<T: Tree>(
     ensures { Adds T.asks tree.old tree.new (record { file = file.now; line = line })
         registry (record named { path = beside file.now named.path }) result }
 {
-    match path_beside(alloc, file, &named.path) {
+    let path = match path_beside(alloc, file, &named.path) {
+        Err(refusal) => return Err(no_memory(alloc, refusal)),
+        Ok(path) => path,
+    };
+    if !tree.exists(&path) {
+        return Err(blame(file, alloc, line, SuiteCause::MissingProgram));
+    }
+    if registry.programs.len() >= PROGRAM_LIMIT {
+        return Err(blame(file, alloc, line, SuiteCause::TooMany));
+    }
+    let mut program = named;
+    program.path = path;
+    let mut registry = registry;
+    match registry.programs.push(program) {
         Err(refusal) => Err(no_memory(alloc, refusal)),
-        Ok(path) => {
-            let mut program = named;
-            program.path = path;
-            add(alloc, tree, file, line, registry, program)
-        }
+        Ok(()) => Ok(registry),
     }
 }
 

@@ -3,11 +3,61 @@ ghost use Rattle.kt_suite.specs.Common.{Variable, last_values, props_with, with_
 
 use crate::SuiteCause;
 use crate::call::{Key, key_of};
-use crate::registry::ProgramTable;
-use kt_base::{NoMemory, Text};
+use crate::paths::leads_away;
+use crate::statement::Meaning;
+use kt_base::{Interface, NoMemory, Text};
 use kt_metadata::{PropFault, Props};
 use kt_script::Pair;
 use std::alloc::Global;
+
+/// What the table of a program declares.
+pub struct ProgramTable {
+    pub name: Option<Text>,
+    pub suite: Option<Text>,
+    pub props: Props,
+}
+
+/// Written out so that a drop is one call: what a table owns is taken apart only here.
+impl Drop for ProgramTable {
+    fn drop(self) {
+        let ProgramTable {
+            name: _,
+            suite: _,
+            props: _,
+        } = self;
+    }
+}
+
+impl ProgramTable {
+    ghost use Rattle.kt_suite.specs.Meanings.{named};
+
+    /// The program that a table declares in a file that has named this suite so far.
+    pub fn meaning(self, interface: Interface, file: &Option<Text>) -> Result<Meaning, NoMemory>
+        ensures { IfOk result (λ meaning. meaning
+            ≡ named interface file.now self.suite self.props self.name) }
+    {
+        let ProgramTable { name, suite, props } = self;
+        let Some(name) = name else {
+            return Ok(Meaning::Wrong(SuiteCause::BadValue));
+        };
+        if name.is_empty() {
+            return Ok(Meaning::Wrong(SuiteCause::BadValue));
+        }
+        if leads_away(&name) {
+            return Ok(Meaning::Wrong(SuiteCause::PathHasDirectory));
+        }
+        match (suite, file) {
+            (Some(suite), _) => {
+                if suite.is_empty() {
+                    return Ok(Meaning::Wrong(SuiteCause::BadValue));
+                }
+                Ok(Meaning::Program(interface, name, suite, props))
+            }
+            (None, Some(suite)) => Ok(Meaning::Program(interface, name, suite.copy()?, props)),
+            (None, None) => Ok(Meaning::Wrong(SuiteCause::NoSuite)),
+        }
+    }
+}
 
 /// A table with one property more, or why it is refused.
 fn set_property(
