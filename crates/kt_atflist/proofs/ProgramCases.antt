@@ -1,5 +1,5 @@
 -- The test cases of a program, by its interface and by what its listing came to.
-use Rattle.std.proofs.Common.{Result, Ok, Err, ◌≡◌, List, [], ◌∷◌, Option, Some, map, sym, subst}
+use Rattle.std.proofs.Common.{Result, Ok, Err, ◌≡◌, ◌⊎◌, inl, inr, List, [], ◌∷◌, Option, Some, map, sym, subst}
 use Rattle.kt_atflist.proofs.Common.{Interface, Reason, Variable, over_program, main_case, list_case, AreCases, tap, plain, listed, unlisted, Lists, CaseDef, Listing}
 use Rattle.kt_base.specs.declared.child.Interface.TheVariants.{Atf, Tap, Plain}
 
@@ -11,12 +11,7 @@ pub unlisted_by : (props : List Variable) (listing : Listing) (found : Result (L
     → cases ≡ over_program props (list_case reason) ∷ [] → AreCases props Atf (Some listing) cases
 unlisted_by props listing found reason cases l e f = subst (AreCases props Atf (Some listing)) (sym f) (unlisted listing reason (subst (Lists listing) e l))
 
-pub tap_by : (props : List Variable) (interface : Interface) (listing : Option Listing) (cases : List CaseDef) → interface ≡ Tap → cases ≡ over_program props main_case ∷ []
-    → AreCases props interface listing cases
-tap_by props interface listing cases e f =
-    subst (λ (i : Interface). AreCases props i listing cases) (sym e) (subst (AreCases props Tap listing) (sym f) (tap listing))
-
-pub plain_by : (props : List Variable) (interface : Interface) (listing : Option Listing) (cases : List CaseDef) → interface ≡ Plain → cases ≡ over_program props main_case ∷ []
-    → AreCases props interface listing cases
-plain_by props interface listing cases e f =
-    subst (λ (i : Interface). AreCases props i listing cases) (sym e) (subst (AreCases props Plain listing) (sym f) (plain listing))
+pub main_by : (props : List Variable) (interface : Interface) (listing : Option Listing) (cases : List CaseDef) → (interface ≡ Tap) ⊎ (interface ≡ Plain)
+    → cases ≡ over_program props main_case ∷ [] → AreCases props interface listing cases
+main_by props interface listing cases (inl e) f = rw (e, f) (tap listing)
+main_by props interface listing cases (inr e) f = rw (e, f) (plain listing)

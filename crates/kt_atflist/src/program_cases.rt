@@ -15,8 +15,9 @@ const MAIN: &str = "main";
 /// The case that stands for a list that can't be used.
 const LIST: &str = "__test_cases_list__";
 
-fn with_program(props: &Props, case: CaseDef) -> Result<CaseDef, NoMemory>
-    ensures { IfOk result (λ whole. whole ≡ over_program props.now case) }
+/// Appends a case, whose properties are laid over the program's.
+fn add(cases: &mut Items<CaseDef>, props: &Props, case: CaseDef) -> Result<(), NoMemory>
+    ensures { OnOk result (cases.new ≡ cases.old ++ over_program props.now case ∷ []) }
 {
     let CaseDef {
         name,
@@ -24,14 +25,7 @@ fn with_program(props: &Props, case: CaseDef) -> Result<CaseDef, NoMemory>
         fault,
     } = case;
     let props = Props::overlay(props, &own)?;
-    Ok(CaseDef { name, props, fault })
-}
-
-fn add(cases: &mut Items<CaseDef>, props: &Props, case: CaseDef) -> Result<(), NoMemory>
-    ensures { OnOk result (cases.new ≡ cases.old ++ over_program props.now case ∷ []) }
-{
-    let whole = with_program(props, case)?;
-    cases.push(whole)
+    cases.push(CaseDef { name, props, fault })
 }
 
 fn each_with_program(
@@ -79,25 +73,13 @@ fn one_case(
     Ok(cases)
 }
 
-fn main_of(alloc: Global, props: &Props) -> Result<Items<CaseDef>, NoMemory>
-    ensures { IfOk result (λ cases. cases ≡ over_program props.now main_case ∷ []) }
-{
-    one_case(alloc, MAIN, props, None)
-}
-
-fn list_of(alloc: Global, props: &Props, reason: Reason) -> Result<Items<CaseDef>, NoMemory>
-    ensures { IfOk result (λ cases. cases ≡ over_program props.now (list_case reason) ∷ []) }
-{
-    one_case(alloc, LIST, props, Some(reason))
-}
-
 fn listed(alloc: Global, props: &Props, listing: &Listing) -> Result<Items<CaseDef>, NoMemory>
     ensures { IfOk result (λ cases. AreCases props.now Atf (Some listing.now) cases) }
 {
     let found = listed_cases(alloc, listing)?;
     match found {
         Ok(found) => all_with_program(alloc, props, found),
-        Err(reason) => list_of(alloc, props, reason),
+        Err(reason) => one_case(alloc, LIST, props, Some(reason)),
     }
 }
 
@@ -114,8 +96,7 @@ pub fn cases(
     ensures { IfOk result (λ cases. AreCases props.now interface listing.now cases) }
 {
     match interface {
-        Interface::Tap => main_of(alloc, props),
-        Interface::Plain => main_of(alloc, props),
+        Interface::Tap | Interface::Plain => one_case(alloc, MAIN, props, None),
         Interface::Atf => match listing {
             None => unreachable!(),
             Some(listing) => listed(alloc, props, listing),

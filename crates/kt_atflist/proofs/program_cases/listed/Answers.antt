@@ -1,4 +1,5 @@
 use Rattle.std.proofs.lemmas.Result.{IfOk-weaker}
+use Rattle.kt_atflist.proofs.Common.{chars}
 use Rattle.kt_atflist.proofs.ProgramCases.{listed_by, unlisted_by}
 use Rattle.kt_atflist.proofs.program_cases.listed.Goals as goal
 
@@ -8,6 +9,7 @@ returns-in-Ok c =
     (λ cases e. listed_by c.args.props.now c.args.listing.now c.in_ok-found.found c.in-Ok.found cases c.in_ok-found.ensures c.in-Ok.is e) c.all_with_program.ensures
 
 pub returns-in-Err : goal.returns-in-Err
+unfolding chars
 returns-in-Err c =
-    IfOk-weaker c.list_of.result _ _
-    (λ cases e. unlisted_by c.args.props.now c.args.listing.now c.in_ok-found.found c.in-Err.reason cases c.in_ok-found.ensures c.in-Err.is e) c.list_of.ensures
+    IfOk-weaker c.one_case.result _ _
+    (λ cases e. unlisted_by c.args.props.now c.args.listing.now c.in_ok-found.found c.in-Err.reason cases c.in_ok-found.ensures c.in-Err.is e) c.one_case.ensures
