@@ -63,13 +63,22 @@ impl State {
         ensures { IfOk result (λ to. to ≡ step self kind) }
     {
         let to = match (self, kind) {
-            (State::Named(name), Kind::Quoted(text)) => Step::Ends(Action::Call(name, Arg::Value(Literal::Text(text)))),
+            (State::Named(name), Kind::Quoted(text)) => Step::Ends(Action::Call(
+                name,
+                Arg::Value(Literal::Text(text)),
+            )),
             (State::Named(name), Kind::OpenParen) => Step::To(State::Opened(name)),
-            (State::Named(name), Kind::OpenBrace) => Step::To(State::Pairs(Table::new(alloc, name, false))),
+            (State::Named(name), Kind::OpenBrace) => Step::To(State::Pairs(Table::new(
+                alloc, name, false,
+            ))),
             (State::Named(name), Kind::Dot) => Step::To(State::Dotted(single(alloc, name)?)),
-            (State::Named(name), Kind::OpenBracket) => Step::To(State::PathOpened(single(alloc, name)?)),
+            (State::Named(name), Kind::OpenBracket) => Step::To(State::PathOpened(single(
+                alloc, name,
+            )?)),
             (State::Named(name), Kind::Equals) => Step::To(State::PathEquals(single(alloc, name)?)),
-            (State::Opened(name), Kind::OpenBrace) => Step::To(State::Pairs(Table::new(alloc, name, true))),
+            (State::Opened(name), Kind::OpenBrace) => Step::To(State::Pairs(Table::new(
+                alloc, name, true,
+            ))),
             (State::Opened(name), kind) => match value(kind) {
                 None => return Ok(None),
                 Some(value) => Step::To(State::Closing(Action::Call(name, Arg::Value(value)))),
@@ -79,7 +88,9 @@ impl State {
             (State::Pairs(table), Kind::OpenBracket) => Step::To(State::KeyOpened(table)),
             (State::Pairs(table), Kind::CloseBrace) => table.close(),
             (State::KeyOpened(table), Kind::Quoted(key)) => Step::To(State::KeyQuoted(table, key)),
-            (State::KeyQuoted(table, key), Kind::CloseBracket) => Step::To(State::Keyed(table, key)),
+            (State::KeyQuoted(table, key), Kind::CloseBracket) => Step::To(State::Keyed(
+                table, key,
+            )),
             (State::Keyed(table, key), Kind::Equals) => Step::To(State::KeyEquals(table, key)),
             (State::KeyEquals(table, name), kind) => match value(kind) {
                 None => return Ok(None),

@@ -1,4 +1,4 @@
-ghost use Rattle.std.specs.Prelude.{◌≡◌, ◌≤◌, ◌<◌, ◌+◌, ◌⊎◌, ◌∷◌, ◌++◌, List, ℕ, length, map, IfOk, IfErr, OnOk, MatchOption};
+ghost use Rattle.std.specs.Prelude.{◌≡◌, ◌≤◌, ◌<◌, ◌+◌, ◌⊎◌, ◌∷◌, ◌++◌, List, ℕ, length, map, IfOk, IfErr, OnOk};
 ghost use Rattle.kt_plan.specs.Common.{Filter, most_items, Candidate, item_of, selected_cases, chosen_of, places_from, RanOut};
 ghost use Rattle.kt_plan.specs.declared.stop.Stop.TheVariants as stop;
 
@@ -7,33 +7,17 @@ use kt_base::{Items, NoMemory};
 use kt_suite::{Filter, Item, SelectFault, select};
 use std::alloc::Global;
 
-/// A case as filters see it.
-fn item_of(candidate: &Candidate) -> Result<Item, NoMemory>
-    ensures { IfOk result (λ item. item ≡ item_of candidate.now) }
-{
-    Ok(Item {
-        path: candidate.path.copy()?,
-        case_name: candidate.case.name.copy()?,
-    })
-}
-
+/// The cases as filters see them.
 fn items_of(alloc: Global, candidates: &[Candidate]) -> Result<Vec<Item>, NoMemory>
     ensures { IfOk result (λ items. items.items ≡ map item_of candidates.now) }
 {
     let mut items = Vec::new(alloc);
     for candidate in candidates {
-        items.push(item_of(candidate)?)?;
+        let path = candidate.path.copy()?;
+        let case_name = candidate.case.name.copy()?;
+        items.push(Item { path, case_name })?;
     }
     Ok(items)
-}
-
-/// The places after this one, if it is the first of them.
-fn places_after<'a>(place: usize, places: &'a [usize]) -> Option<&'a [usize]>
-    ensures { MatchOption result ((after : List ℕ) → places.now ≡ place ∷ after → ⊥)
-        (λ after. places.now ≡ place ∷ after.now) }
-{
-    let (first, after) = places.split_first()?;
-    if *first == place { Some(after) } else { None }
 }
 
 /// Appends a case if the first of these places is its own, and returns the places that are left.
@@ -49,12 +33,12 @@ fn keep<'a>(
         × (cases.new ++ selected_cases filters rest
         ≡ cases.old ++ selected_cases filters (candidate ∷ rest))) }
 {
-    match places_after(place, places) {
-        None => Ok(places),
-        Some(after) => {
+    match places.split_first() {
+        Some((first, after)) if *first == place => {
             cases.push(candidate)?;
             Ok(after)
         }
+        _ => Ok(places),
     }
 }
 

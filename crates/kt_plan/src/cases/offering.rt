@@ -1,5 +1,5 @@
 ghost use Rattle.std.specs.Prelude.{◌≡◌, ◌++◌, ◌∷◌, [], IfOk, OnOk, MatchResult, ◌↔◌, IsTrue};
-ghost use Rattle.kt_plan.specs.Common.{IsIdle, Answered, ListsFirst, candidate_of, candidates_of, ListsCases, Offers, OffersFirst, OffersOne, IsWanted, Contains, Filter, MayMatch};
+ghost use Rattle.kt_plan.specs.Common.{IsIdle, Answered, ListsFirst, candidates_of, ListsCases, Offers, OffersFirst, OffersOne, IsWanted, Contains, Filter, MayMatch};
 
 use crate::options::configuring::variables_for;
 use crate::{Candidate, Settings, World};
@@ -57,19 +57,7 @@ fn own_cases<W: World>(
     }
 }
 
-/// A case of a program, with memory of its own.
-fn candidate_of(program: &Program, case: CaseDef) -> Result<Candidate, NoMemory>
-    ensures { IfOk result (λ candidate. candidate ≡ candidate_of program.now case) }
-{
-    Ok(Candidate {
-        interface: program.interface,
-        path: program.path.copy()?,
-        suite: program.suite.copy()?,
-        case,
-    })
-}
-
-/// Appends the cases of a program.
+/// Appends the cases of a program, each with memory of its own.
 fn add_candidates(
     program: &Program,
     cases: Items<CaseDef>,
@@ -78,7 +66,14 @@ fn add_candidates(
     ensures { OnOk result (found.new ≡ found.old ++ candidates_of program.now cases) }
 {
     for case in cases.into_vec() {
-        found.push(candidate_of(program, case)?)?;
+        let path = program.path.copy()?;
+        let suite = program.suite.copy()?;
+        found.push(Candidate {
+            interface: program.interface,
+            path,
+            suite,
+            case,
+        })?;
     }
     Ok(())
 }
