@@ -1,12 +1,12 @@
 //! Where a text's tokens and comments begin and end.
 
 ghost use Rattle.std.specs.Prelude.{◌≡◌, ℕ, ◌≤◌, length, IfOk, ◌+◌, ◌==◌, IfSome};
-ghost use Rattle.kt_script.specs.Common.{prefix_len, is_space, mark_of, piece_at, closes_at, comment_at, is_level};
+ghost use Rattle.kt_script.specs.Common.{prefix_len, is_space, mark_of, piece_at, closes_at, comment_at, is_level, number_at};
 
 use crate::quotation::quoted;
 use crate::token::{Flaw, Kind, Piece};
-use crate::words::{is_letter, is_space, name, number};
-use kt_base::{NoMemory, is_digit, line_length};
+use crate::words::{is_letter, is_space, name};
+use kt_base::{NoMemory, decimal_up_to, digits_length, is_digit, line_length};
 use std::alloc::Global;
 
 /// The length of a text up to the end of its first `]]`.
@@ -82,6 +82,21 @@ fn mark(c: u8) -> Option<Kind>
         b';' => Some(Kind::Semicolon),
         b'.' => Some(Kind::Dot),
         _ => None,
+    }
+}
+
+/// The number at the beginning of a text.
+fn number(text: &[u8]) -> Piece
+    ensures { result ≡ number_at text.now }
+{
+    let length = digits_length(text);
+    let (digits, after) = text.split_at(length);
+    if after.first().is_some_and(|c| is_letter(*c)) {
+        return Piece::broken(text, Flaw::Bad);
+    }
+    match decimal_up_to(u64::MAX, digits) {
+        None => Piece::broken(text, Flaw::Bad),
+        Some(value) => Piece::token(length, Kind::Number(value)),
     }
 }
 

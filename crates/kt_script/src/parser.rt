@@ -75,10 +75,10 @@ impl Parser {
         ensures fault { IfErr result (λ fault. (line : ℕ) × IsWithin place.now line
             × (fault ≡ end_fault (last self.brackets.items) line)) }
     {
-        let Some(line) = place.line() else {
-            return Ok(self.statements);
-        };
-        Err(end_fault(self.brackets.last().copied(), line))
+        match place {
+            Place::Start | Place::Whole => Ok(self.statements),
+            Place::Within(line, _) => Err(end_fault(self.brackets.last().copied(), *line)),
+        }
     }
 }
 

@@ -1,7 +1,7 @@
 //! The place in a script that the tokens read so far led to.
 
-ghost use Rattle.std.specs.Prelude.{◌≡◌, ◌++◌, IfOk, OnOk, MatchOption};
-ghost use Rattle.kt_script.specs.Inner.Automaton.{begin, next, place_of, ended_by, IsResting, IsWithin};
+ghost use Rattle.std.specs.Prelude.{◌≡◌, ◌++◌, IfOk, OnOk};
+ghost use Rattle.kt_script.specs.Inner.Automaton.{begin, next, place_of, ended_by};
 
 use crate::Stmt;
 use crate::state::{State, Step};
@@ -40,16 +40,6 @@ fn begin(line: u32, kind: Kind) -> Option<Place>
 }
 
 impl Place {
-    /// The line of the statement that is not finished, if there is one.
-    pub fn line(&self) -> Option<u32>
-        ensures { MatchOption result (IsResting self.now) (λ line. IsWithin self.now line) }
-    {
-        match self {
-            Place::Start | Place::Whole => None,
-            Place::Within(line, _) => Some(*line),
-        }
-    }
-
     /// Where a token leads, or `None` if it doesn't fit. A statement that it ends is appended to the list.
     pub fn next(
         self,

@@ -1,10 +1,10 @@
-//! Names and numbers.
+//! Names, and the bytes of words and white space.
 
-ghost use Rattle.std.specs.Prelude.{◌≡◌, ℕ, ◌+◌, ◌<◌, ◌≤◌, length, IfOk, take, drop};
-ghost use Rattle.kt_script.specs.Common.{prefix_len, is_letter, is_word, word, name_at, number_at, is_space};
+ghost use Rattle.std.specs.Prelude.{◌≡◌, ◌≤◌, length, IfOk};
+ghost use Rattle.kt_script.specs.Common.{prefix_len, is_letter, is_word, word, name_at, is_space};
 
-use crate::token::{Flaw, Kind, Piece};
-use kt_base::{NoMemory, Text, decimal_up_to, digits_length, is_digit};
+use crate::token::{Kind, Piece};
+use kt_base::{NoMemory, Text, is_digit};
 use std::alloc::Global;
 
 pub fn is_space(c: u8) -> bool
@@ -50,19 +50,4 @@ pub fn name(alloc: Global, text: &str) -> Result<Piece, NoMemory>
 {
     let length = word_length(text.as_bytes());
     Ok(Piece::token(length, word(alloc, &text[..length])?))
-}
-
-/// The number at the beginning of a text.
-pub fn number(text: &[u8]) -> Piece
-    ensures { result ≡ number_at text.now }
-{
-    let length = digits_length(text);
-    let (digits, after) = text.split_at(length);
-    if after.first().is_some_and(|c| is_letter(*c)) {
-        return Piece::broken(text, Flaw::Bad);
-    }
-    match decimal_up_to(u64::MAX, digits) {
-        None => Piece::broken(text, Flaw::Bad),
-        Some(value) => Piece::token(length, Kind::Number(value)),
-    }
 }
