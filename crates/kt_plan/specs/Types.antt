@@ -12,7 +12,7 @@ pub use Rattle.kt_suite.specs.Answers.{Asked}
 pub use Rattle.kt_suite.specs.declared.fault.SuiteFault.{SuiteFault}
 pub use Rattle.kt_suite.specs.declared.filter.Filter.{Filter}
 pub use Rattle.kt_suite.specs.declared.filter.FilterFault.{FilterFault}
-pub use Rattle.kt_suite.specs.declared.registry.Program.{Program}
+pub use Rattle.kt_suite.specs.declared.program.Program.{Program}
 pub use Rattle.kt_suite.specs.declared.selecting.Item.{Item}
 pub use Rattle.kt_suite.specs.declared.tree.ReadFault.{ReadFault}
 pub use Rattle.kt_suite.specs.declared.tree.ReadFault.TheVariants.{Failed, Memory, Missing}

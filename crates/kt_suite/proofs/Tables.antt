@@ -4,8 +4,8 @@ use Rattle.kt_suite.proofs.Common.{filter, option_or, append-nil, filter-append,
 use Rattle.kt_base.specs.LastValues.{value_of, last_values}
 use Rattle.kt_base.proofs.Names.{same, same-flip, value_of-append}
 use Rattle.kt_metadata.specs.Properties.{is_kyuafile_property, definition_fault}
-use Rattle.kt_suite.specs.declared.call.Key.{Key}
-use Rattle.kt_suite.specs.declared.call.Key.TheVariants as key
+use Rattle.kt_suite.specs.declared.table.Key.{Key}
+use Rattle.kt_suite.specs.declared.table.Key.TheVariants as key
 
 -- the properties in two lists
 properties-append : (pairs more : List Variable) → filter is_property (pairs ++ more) ≡ filter is_property pairs ++ filter is_property more

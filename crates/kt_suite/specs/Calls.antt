@@ -5,8 +5,8 @@ use Rattle.kt_base.specs.declared.child.Interface.TheVariants.{Atf, Tap, Plain}
 use Rattle.kt_metadata.specs.Properties.{is_kyuafile_property}
 use Rattle.kt_suite.specs.declared.call.Call.{Call}
 use Rattle.kt_suite.specs.declared.call.Call.TheVariants as call
-use Rattle.kt_suite.specs.declared.call.Key.{Key}
-use Rattle.kt_suite.specs.declared.call.Key.TheVariants as key
+use Rattle.kt_suite.specs.declared.table.Key.{Key}
+use Rattle.kt_suite.specs.declared.table.Key.TheVariants as key
 
 -- the calls by their names
 abbrev pub calls : List (List ℕ × Call)

@@ -8,8 +8,8 @@ use Rattle.kt_script.specs.declared.syntax.Pair.{Pair}
 use Rattle.kt_script.specs.LiteralText.{text_of}
 use Rattle.kt_metadata.specs.declared.fault.PropFault.{PropFault}
 use Rattle.kt_metadata.specs.Properties.{is_kyuafile_property, definition_fault}
-use Rattle.kt_suite.specs.declared.call.Key.{Key}
-use Rattle.kt_suite.specs.declared.call.Key.TheVariants as key
+use Rattle.kt_suite.specs.declared.table.Key.{Key}
+use Rattle.kt_suite.specs.declared.table.Key.TheVariants as key
 use Rattle.kt_suite.specs.Calls.{key_named}
 
 -- a pair of a table, with its value as a text

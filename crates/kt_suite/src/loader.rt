@@ -2,13 +2,72 @@ ghost use Rattle.std.specs.Prelude.{◌≡◌, ◌⊎◌, ◌≤◌, ◌-◌, �
 ghost use Rattle.kt_suite.specs.Common.{Answered, Asked, IsSteady, program_limit, Unfinished, Registered, Outcome, Walked, FileGives, Script, IsText, fault_at, read_fault, script_line, IsNoMemory, WellOpened, Opened};
 
 use crate::fault::{blame, no_memory};
-use crate::registry::{Registry, Step};
 use crate::statement::wrong_opening;
 use crate::stepping::step;
 use crate::{Program, ReadFault, SuiteCause, SuiteFault, Tree};
 use kt_base::{Items, NoMemory, Text};
 use kt_script::{ScriptFault, Stmt, parse};
 use std::alloc::Global;
+
+/// What was read of a tree so far.
+pub struct Registry {
+    /// The open files: the root first, each included by the one before it.
+    pub reading: Items<Text>,
+    /// The number of files that were opened.
+    pub files: usize,
+    pub programs: Items<Program>,
+}
+
+/// Written out so that a drop is one call: what a registry owns is taken apart only here.
+impl Drop for Registry {
+    fn drop(self) {
+        let Registry {
+            reading: _,
+            files: _,
+            programs: _,
+        } = self;
+    }
+}
+
+impl Registry {
+    pub fn into_programs(self) -> Items<Program>
+        ensures { result ≡ self.programs }
+    {
+        let Registry {
+            reading: _,
+            files: _,
+            programs,
+        } = self;
+        programs
+    }
+
+    /// Closes the file that was opened last.
+    pub fn end(self) -> Registry
+        ensures { result ≡ (record self { reading = take (length self.reading - 1) self.reading }) }
+    {
+        let Registry {
+            reading,
+            files,
+            programs,
+        } = self;
+        let mut open = reading.into_vec();
+        let _ = open.pop();
+        Registry {
+            reading: Items::from_vec(open),
+            files,
+            programs,
+        }
+    }
+}
+
+/// What comes after a statement.
+#[derive(Drop)]
+pub enum Step {
+    /// The next statement.
+    Next(Registry),
+    /// The file at this path, and then the next statement.
+    Enter(Registry, Text),
+}
 
 /// The fault of a file that can't be read.
 fn unread(alloc: Global, file: &Text, why: ReadFault) -> SuiteFault

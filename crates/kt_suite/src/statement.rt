@@ -1,10 +1,10 @@
 ghost use Rattle.std.specs.Prelude.{◌≡◌, IfOk};
-ghost use Rattle.kt_suite.specs.Meanings.{opening_fault, suite_meaning, program_meaning, include_meaning, meaning_of};
+ghost use Rattle.kt_suite.specs.Meanings.{opening_fault, suite_meaning, include_meaning, meaning_of};
 
 use crate::SuiteCause;
 use crate::call::{Call, call_of};
 use crate::paths::leads_down;
-use crate::table::read_table;
+use crate::table::read_program;
 use kt_base::{Interface, NoMemory, Text};
 use kt_metadata::Props;
 use kt_script::{Action, Arg, Literal};
@@ -49,23 +49,6 @@ fn read_suite(alloc: Global, arg: &Arg) -> Result<Meaning, NoMemory>
             }
             Ok(Meaning::Suite(text))
         }
-    }
-}
-
-fn read_program(
-    alloc: Global,
-    interface: Interface,
-    file: &Option<Text>,
-    arg: &Arg,
-) -> Result<Meaning, NoMemory>
-    ensures { IfOk result (λ found. found ≡ program_meaning interface file.now arg.now) }
-{
-    match arg {
-        Arg::Value(_) => Ok(Meaning::Wrong(SuiteCause::BadValue)),
-        Arg::Table(pairs) => match read_table(alloc, pairs.as_slice())? {
-            Err(cause) => Ok(Meaning::Wrong(cause)),
-            Ok(found) => found.meaning(interface, file),
-        },
     }
 }
 

@@ -2,8 +2,8 @@ ghost use Rattle.std.specs.Prelude.{◌≡◌, Err, IfErr, IfOk, OnOk};
 ghost use Rattle.kt_suite.specs.Common.{list_any, bytes_eq, beside, entry_fault, meaning_of, suite_after, Adds, Entered, Enters, Stepped};
 
 use crate::fault::{blame, no_memory};
+use crate::loader::{Registry, Step};
 use crate::paths::path_beside;
-use crate::registry::{Registry, Step};
 use crate::statement::{Meaning, read_statement};
 use crate::within::is_same;
 use crate::{Program, SuiteCause, SuiteFault, Tree};

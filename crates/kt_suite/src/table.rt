@@ -1,14 +1,41 @@
 ghost use Rattle.std.specs.Prelude.{◌≡◌, ◌∷◌, ◌++◌, [], List, IfOk};
+ghost use Rattle.kt_suite.specs.Calls.{key_named};
+ghost use Rattle.kt_suite.specs.Meanings.{program_meaning};
 ghost use Rattle.kt_suite.specs.Common.{Variable, last_values, props_with, with_props, table_with, definition, table_of, declared};
 
 use crate::SuiteCause;
-use crate::call::{Key, key_of};
 use crate::paths::leads_away;
 use crate::statement::Meaning;
 use kt_base::{Interface, NoMemory, Text};
-use kt_metadata::{PropFault, Props};
-use kt_script::Pair;
+use kt_metadata::{PropFault, Props, is_kyuafile_property};
+use kt_script::{Arg, Pair};
 use std::alloc::Global;
+
+/// What a key in the table of a program declares.
+#[derive(Clone, Copy)]
+enum Key {
+    Name,
+    TestSuite,
+    /// A property that a Kyuafile may set.
+    Property,
+    Unknown,
+}
+
+/// The key of a name.
+#[tactic(auto, unfolding(crate::proofs::Common::chars))]
+fn key_of(name: &Text) -> Key
+    ensures { result ≡ key_named name.now }
+{
+    if name.is_word("name") {
+        Key::Name
+    } else if name.is_word("test_suite") {
+        Key::TestSuite
+    } else if is_kyuafile_property(name) {
+        Key::Property
+    } else {
+        Key::Unknown
+    }
+}
 
 /// What the table of a program declares.
 pub struct ProgramTable {
@@ -32,7 +59,7 @@ impl ProgramTable {
     ghost use Rattle.kt_suite.specs.Meanings.{named};
 
     /// The program that a table declares in a file that has named this suite so far.
-    pub fn meaning(self, interface: Interface, file: &Option<Text>) -> Result<Meaning, NoMemory>
+    fn meaning(self, interface: Interface, file: &Option<Text>) -> Result<Meaning, NoMemory>
         ensures { IfOk result (λ meaning. meaning
             ≡ named interface file.now self.suite self.props self.name) }
     {
@@ -102,10 +129,7 @@ fn take_pair(
 }
 
 /// What the pairs of a table declare, or why the first refused pair is refused.
-pub fn read_table(
-    alloc: Global,
-    pairs: &[Pair],
-) -> Result<Result<ProgramTable, SuiteCause>, NoMemory>
+fn read_table(alloc: Global, pairs: &[Pair]) -> Result<Result<ProgramTable, SuiteCause>, NoMemory>
     ensures { IfOk result (λ found. found ≡ declared pairs.now) }
 {
     let mut found = ProgramTable {
@@ -120,4 +144,22 @@ pub fn read_table(
         }
     }
     Ok(Ok(found))
+}
+
+/// What the call of a program asks for, in a file that has named this suite so far.
+pub fn read_program(
+    alloc: Global,
+    interface: Interface,
+    file: &Option<Text>,
+    arg: &Arg,
+) -> Result<Meaning, NoMemory>
+    ensures { IfOk result (λ found. found ≡ program_meaning interface file.now arg.now) }
+{
+    match arg {
+        Arg::Value(_) => Ok(Meaning::Wrong(SuiteCause::BadValue)),
+        Arg::Table(pairs) => match read_table(alloc, pairs.as_slice())? {
+            Err(cause) => Ok(Meaning::Wrong(cause)),
+            Ok(found) => found.meaning(interface, file),
+        },
+    }
 }

@@ -2,9 +2,9 @@
 use Rattle.std.specs.Prelude.{ℕ, Bool, true, List, [], ◌∷◌, ◌++◌, ◌≡◌, ◌<◌, ◌≤◌, ◌+◌, length, Some, None, Result, Ok, Err}
 use Rattle.kt_suite.specs.Types.{Meaning, NoSyntax, Program, ReadFault, Stmt, SuiteCause, SuiteFault, TooMany}
 use Rattle.kt_script.specs.Spelling.{Spells}
-use Rattle.kt_suite.specs.declared.registry.Registry.{Registry}
-use Rattle.kt_suite.specs.declared.registry.Step.{Step}
-use Rattle.kt_suite.specs.declared.registry.Step.TheVariants.{Next, Enter}
+use Rattle.kt_suite.specs.declared.loader.Registry.{Registry}
+use Rattle.kt_suite.specs.declared.loader.Step.{Step}
+use Rattle.kt_suite.specs.declared.loader.Step.TheVariants.{Next, Enter}
 use Rattle.kt_base.specs.Chains.{Chain}
 use Rattle.kt_suite.specs.Answers.{Asked, Read, Exists}
 use Rattle.kt_suite.specs.Faults.{fault_at, IsNoMemory}
