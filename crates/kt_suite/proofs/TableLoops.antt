@@ -1,7 +1,6 @@
 -- The pairs of a table are taken one by one.
-use Rattle.std.proofs.Common.{Option, Some, None, Result, Ok, Err, ◌≡◌, List, [], ◌∷◌, ◌++◌, length, arith, sym, ap, ◌∙◌}
-use Rattle.kt_suite.proofs.Common.{append_assoc, append-nil, Variable, Pair, SuiteCause, ProgramTable, table_with, option_or, definition, definitions, pair_fault, first_fault, table_of, unless, declared}
-use Rattle.std.proofs.lemmas.List.{nil_from_length}
+use Rattle.std.proofs.Common.{Option, Some, None, Result, Ok, Err, ◌≡◌, List, [], ◌∷◌, ◌++◌, arith, sym, ap, ◌∙◌}
+use Rattle.kt_suite.proofs.Common.{append_assoc, Variable, Pair, SuiteCause, ProgramTable, table_with, option_or, definition, definitions, pair_fault, first_fault, table_of, unless, declared}
 
 -- none of the pairs so far is refused, and they are what was found
 pub record TableSoFar (found : ProgramTable) (rest pairs : List Pair) : Type 0 where

@@ -1,56 +1,16 @@
 //! The program `kyua`: it hands the host's objects on to kt_cli.
 #![tactic(auto)]
 
-use kt_base::Text;
-use kt_child::{DriverFault, HostOs};
-use kt_cli::{HostMachine, LineOutput, Outside, Platform, Surroundings, carry_out_words};
-use kt_store::{Access, Contents, RunsFile, StoreFault};
-use sqlite::{FileFrom, FileStore, Unknown};
+mod host;
+
+use host::{Host, Past};
+use kt_child::HostOs;
+use kt_cli::{HostMachine, LineOutput, Outside, carry_out_words};
+use sqlite::Unknown;
 use std::alloc::Global;
 use std::marker::PhantomData;
 use std::process::ExitCode;
 use std::{env, io};
-
-/// A file and what it held, for contracts.
-trait Past: Contents {
-    ghost use Rattle.std.specs.Prelude.{ℕ, List};
-
-    ghost path: { List ℕ };
-}
-
-impl Past for Unknown {
-    ghost use Rattle.std.specs.Prelude.{[]};
-
-    ghost path = { [] };
-}
-
-/// The host. Results are SQLite files; `S` stands for one and for what it held at first, in contracts alone.
-#[derive(Drop)]
-struct Host<'a, S> {
-    rt: &'a HostRuntime,
-    past: PhantomData<S>,
-}
-
-impl<S: Past> Platform for Host<'_, S> {
-    ghost use Rattle.sqlite_wal.specs.Files.{image_at};
-    ghost use Rattle.kt_cli.specs.Platforms.{InFiles};
-
-    type Results = RunsFile<FileStore<FileFrom<S>>>;
-
-    ghost provides = { λ _ asked _. InFiles S.path (image_at S.Start) asked };
-
-    fn open(&mut self, file: &Text, access: Access) -> Result<Self::Results, StoreFault> {
-        RunsFile::open(self.rt, file, access)
-    }
-
-    fn close(&mut self, results: Self::Results) -> Result<(), StoreFault> {
-        results.close()
-    }
-
-    fn surroundings(&mut self) -> Result<Surroundings, DriverFault> {
-        Surroundings::of_process(self.rt)
-    }
-}
 
 /// Carries out the words of the process on the host, whatever the results file held: `S` stands for that, in contracts alone.
 fn run<S: Past>(rt: &HostRuntime, past: PhantomData<S>) -> ExitCode {

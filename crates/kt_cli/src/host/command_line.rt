@@ -6,7 +6,7 @@ ghost use Rattle.kt_cli.specs.Common.{CarriedOut, Command, IsSaid, line_state, p
 use crate::host::performing::carry_out;
 use crate::{LineOutput, Machine, Outside, Platform};
 use kt_child::Os;
-use kt_words::read_words;
+use kt_words::{Command, read_words};
 use std::env::Args;
 use std::io;
 use std::io::Write;
@@ -29,11 +29,7 @@ pub fn carry_out_words<M: Machine + Drop, O: Os + Drop, P: Platform, W: Write, E
         result.0 }
 {
     let command = read_words(outside.alloc, words);
-    let by_line = match &command {
-        Ok(command) => command.cases().is_some() && command.results().is_some(),
-        Err(_fault) => false,
-    };
-    out.set_by_line(by_line);
+    out.set_by_line(matches!(&command, Ok(Command::Test { .. })));
     let (exit, outside) = carry_out(outside, platform, command, out, errors);
     (exit.status, outside)
 }
