@@ -5,7 +5,7 @@ pub use Rattle.kt_sched.specs.Children.{IsIdle, same_role}
 pub use Rattle.kt_sched.specs.EntryOf.{IsEntryOf, no_output}
 pub use Rattle.kt_sched.specs.Fed.{Fed, fed_after, nothing_fed}
 pub use Rattle.kt_sched.specs.Inner.Answers.{CanCount, after_put, counted}
-pub use Rattle.kt_sched.specs.Inner.Cases.{Declares, IsAfter, Replaced, TookEntry, can_start, first_case, is_over, owing_at, plain_record, positions_where, ready_at, record_of, stage_runs}
+pub use Rattle.kt_sched.specs.Inner.Cases.{IsAfter, TookEntry, can_start, first_case, is_over, owing_at, plain_record, positions_where, ready_at, record_of, stage_runs}
 pub use Rattle.kt_sched.specs.Inner.Choice.{IsChosen, IsTurn}
 pub use Rattle.kt_sched.specs.Next.{Follows, IsNext}
 pub use Rattle.kt_sched.specs.Plan.{IsPlan, IsWidth}

@@ -46,28 +46,17 @@ pub fn after_end(alloc: Global, was: Stage, cleanup: bool, ended: Ended) -> Stag
     }
 }
 
-/// Whether a stage is that of an active case.
-pub fn is_active(stage: &Stage) -> bool
-    ensures { result ≡ is_active_stage stage.now }
-{
-    matches!(
-        stage,
-        Stage::Running(_) | Stage::Owing(_) | Stage::Cleaning(_)
-    )
-}
-
-/// How many cases are active after one whose case was active, or was not, and then is or is not.
-pub fn active_after(active: u32, width: u32, before: bool, after: bool) -> u32
+/// How many cases are active after an answer, if the case that it leads to this stage was active before it, or was not.
+pub fn active_after(active: u32, width: u32, before: bool, stage: &Stage) -> u32
     requires less { before ≡ true → 0 < active }
     requires more { before ≡ false → active < width }
-    ensures { result + cond before 1 0 ≡ active + cond after 1 0 }
+    ensures { result + cond before 1 0 ≡ active + cond (is_active_stage stage.now) 1 0 }
 {
-    if before == after {
-        active
-    } else if after {
-        active + 1
-    } else {
-        active - 1
+    match stage {
+        Stage::Running(_) | Stage::Owing(_) | Stage::Cleaning(_) if before => active,
+        Stage::Running(_) | Stage::Owing(_) | Stage::Cleaning(_) => active + 1,
+        _ if before => active - 1,
+        _ => active,
     }
 }
 
@@ -82,22 +71,15 @@ pub fn turn_after(turn: usize, cases: usize, role: Role) -> usize
     }
 }
 
-/// The position of a case, if it owes its cleanup.
-pub fn owing(stage: &Stage, i: u32) -> Option<u32>
-    ensures { result ≡ owing_at stage.now i }
+/// The position of a case as one that owes its cleanup, and as one to put: it is over and no put failed. An event leaves no
+/// case `Decided` or `Taken`.
+pub fn owing_and_ready(stage: &Stage, failed: bool, i: u32) -> (Option<u32>, Option<u32>)
+    ensures owing { result.0 ≡ owing_at stage.now i }
+    ensures ready { result.1 ≡ ready_at stage.now failed i }
 {
     match stage {
-        Stage::Owing(_) => Some(i),
-        _ => None,
-    }
-}
-
-/// The position of a case to put, if it is over and no put failed. An event leaves no case `Decided` or `Taken`.
-pub fn ready(stage: &Stage, failed: bool, i: u32) -> Option<u32>
-    ensures { result ≡ ready_at stage.now failed i }
-{
-    match stage {
-        Stage::Decided | Stage::Finished(_) | Stage::Taken if !failed => Some(i),
-        _ => None,
+        Stage::Owing(_) => (Some(i), None),
+        Stage::Decided | Stage::Finished(_) | Stage::Taken if !failed => (None, Some(i)),
+        _ => (None, None),
     }
 }
