@@ -2,12 +2,11 @@ ghost use Rattle.std.specs.Prelude.{◌≡◌, ◌+◌, ◌<◌, ℕ, Bool, true
 ghost use Rattle.kt_sched.specs.Common.{IsAfter, Start, End, can_start, is_active_stage, owing_at, ready_at, same_role, stage_runs};
 ghost use Rattle.kt_base.specs.declared.child.Role.TheVariants.{Body as TheBody};
 
-use crate::case_records::{
-    cleaned_record, ended_body, plain_record, refused_record, uncleaned_record,
-};
-use crate::stage::Stage;
+use crate::case_records::{decided_record, no_output};
+use crate::stage::{CaseRecord, EndedBody, Stage};
 use crate::{Ended, StartAnswer};
 use kt_base::Role;
+use kt_status::{CleanupEnd, body_verdict, refused_verdict, with_cleanup};
 use std::alloc::Global;
 
 /// The stage of a case after the answer to a start.
@@ -18,30 +17,51 @@ pub fn after_start(alloc: Global, was: Stage, role: Role, answer: StartAnswer) -
     match (role, was) {
         (Role::Body, Stage::Waiting) => match answer {
             StartAnswer::Started(moment) => Stage::Running(moment),
-            StartAnswer::Refused(cause) => Stage::Finished(refused_record(alloc, cause)),
+            StartAnswer::Refused(cause) => Stage::Finished(decided_record(
+                alloc,
+                refused_verdict(cause),
+            )),
         },
         (Role::Cleanup, Stage::Owing(body)) => match answer {
             StartAnswer::Started(_) => Stage::Cleaning(body),
-            StartAnswer::Refused(_) => Stage::Finished(uncleaned_record(alloc, body)),
+            StartAnswer::Refused(_) => Stage::Finished(CaseRecord {
+                verdict: with_cleanup(body.verdict, CleanupEnd::Refused),
+                started: body.started,
+                millis: body.ended.saturating_sub(body.started),
+                body: body.output,
+                cleanup: no_output(alloc),
+            }),
         },
         _ => unreachable!(),
     }
 }
 
-/// The stage of a case after the end of its child.
+/// The stage of a case after the end of its child. If the clock went back, the case took no time.
 pub fn after_end(alloc: Global, was: Stage, cleanup: bool, ended: Ended) -> Stage
     requires { stage_runs ended.role was ≡ true }
     ensures { IsAfter cleanup was (End ended) result }
 {
     match was {
-        Stage::Running(since) => {
-            if cleanup {
-                Stage::Owing(ended_body(since, ended))
-            } else {
-                Stage::Finished(plain_record(alloc, since, ended))
-            }
-        }
-        Stage::Cleaning(body) => Stage::Finished(cleaned_record(body, ended)),
+        Stage::Running(since) if cleanup => Stage::Owing(EndedBody {
+            started: since,
+            ended: ended.moment,
+            verdict: body_verdict(ended.evidence, ended.outcome),
+            output: ended.output,
+        }),
+        Stage::Running(since) => Stage::Finished(CaseRecord {
+            verdict: body_verdict(ended.evidence, ended.outcome),
+            started: since,
+            millis: ended.moment.saturating_sub(since),
+            body: ended.output,
+            cleanup: no_output(alloc),
+        }),
+        Stage::Cleaning(body) => Stage::Finished(CaseRecord {
+            verdict: with_cleanup(body.verdict, CleanupEnd::Ended(ended.outcome)),
+            started: body.started,
+            millis: ended.moment.saturating_sub(body.started),
+            body: body.output,
+            cleanup: ended.output,
+        }),
         _ => unreachable!(),
     }
 }
