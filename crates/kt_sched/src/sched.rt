@@ -2,7 +2,6 @@ use crate::entries::take_entry;
 use crate::progress::{active_after, after_end, after_start, owing_and_ready, turn_after};
 use crate::setup::{first_cases, turn_order};
 use crate::stage::{Case, Stage};
-use crate::table::{is_decided, is_exclusive};
 use crate::{Answer, Ended, Job, Next, StartAnswer};
 use kt_base::{Entry, Items, NoMemory, Role};
 use std::alloc::Global;
@@ -198,11 +197,12 @@ impl Sched {
         let Some(i) = self.turn_with_room() else {
             return;
         };
-        if is_decided(&self.cases, i) {
-            self.turn += 1;
-            self.ready = Some(i);
-            self.asked = Next::Done;
-        }
+        let Stage::Decided = &self.cases[i as usize].stage else {
+            return;
+        };
+        self.turn += 1;
+        self.ready = Some(i);
+        self.asked = Next::Done;
     }
 
     /// What to do next: a put first, then a cleanup, then a body, then a wait.
@@ -234,7 +234,7 @@ impl Sched {
         let i = self.order[self.turn];
         if self.active == 0 {
             Some(i)
-        } else if is_exclusive(&self.cases, i) {
+        } else if self.cases[i as usize].job.exclusive {
             None
         } else {
             Some(i)
