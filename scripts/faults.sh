@@ -277,6 +277,7 @@ kt_child/src/ending/gathering.rt: Err(_) => Claim::Unreadable,
 kt_child/src/ending/gathering.rt: Err(_) => Tap::Invalid(TapFault::Unreadable),
 kt_child/src/ending/gathering.rt: ReadEnd::Missing | ReadEnd::Unreadable => Tap::Invalid(TapFault::Unreadable),
 kt_child/src/ending/gathering.rt: ReadEnd::Unreadable => Claim::Unreadable,
+kt_status/src/atf.rt: (Claim::Unreadable, _) => Verdict::broken(Reason::Fixed(Phrase::ResultsUnreadable)),
 PLACES
 body kt_child/src/ending/parts.rt 'Ok(FileRead::Part(bytes, follows)) => {' <<'BODY'
 Ok(FileRead::Part(bytes, _)) if bytes.as_slice().last() == Some(&b'\r') => Some(ReadEnd::Unreadable),

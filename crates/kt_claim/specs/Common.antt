@@ -5,7 +5,6 @@ pub use Rattle.kt_base.specs.Lines.{is_newline}
 pub use Rattle.kt_claim.specs.Bytes.{is_blank}
 pub use Rattle.kt_claim.specs.ClaimReading.{HasRead}
 pub use Rattle.kt_claim.specs.Inner.LineStates.{KeepsFor, Knows, Released, after_opening, begun_directive, directed, facts_of, facts_of_kind, facts_with, is_decided, is_kept, is_reason, next_letter, opened, planning, with_letter}
-pub use Rattle.kt_claim.specs.Inner.ResultReading.{claim_of}
 pub use Rattle.kt_claim.specs.Inner.TapReading.{HasLines, state_of}
 pub use Rattle.kt_claim.specs.ResultFile.{IsClaimOf, limit}
 pub use Rattle.kt_claim.specs.StreamReading.{HasStream, KeepsLittle}

@@ -1,9 +1,10 @@
-//! The one line of a result file.
+//! A result file, read from the left.
 
 ghost use Rattle.std.specs.Prelude.{◌≡◌, ◌≤◌, ◌<◌, length, IfOk, option_map};
 ghost use Rattle.std.specs.List.{prefix_len};
 ghost use Rattle.kt_claim.specs.Bytes.{is_word_byte};
-ghost use Rattle.kt_claim.specs.Inner.ResultReading.{number_in, reason_in, numbered, claim_with, after_bracket, plainly, claim_of_line, word_of, may_have_number};
+ghost use Rattle.kt_claim.specs.ResultFile.{limit};
+ghost use Rattle.kt_claim.specs.Inner.ResultReading.{number_in, reason_in, numbered, claim_with, after_bracket, claim_of, word_of, may_have_number};
 
 use crate::{Claim, ClaimFault};
 use kt_base::{NoMemory, Text, decimal_up_to, digits_length, lossy};
@@ -138,33 +139,33 @@ fn after_bracket(alloc: Global, word: Word, rest: &[u8]) -> Result<Claim, NoMemo
     Ok(numbered(word, number, lossy(alloc, reason)?))
 }
 
-fn plainly(alloc: Global, word: Word, rest: &[u8]) -> Result<Claim, NoMemory>
-    ensures { IfOk result (λ claim. claim ≡ plainly word rest.now) }
+/// The claim of a file that is no longer than the limit.
+#[tactic(auto, unfolding(crate::specs::Inner::ResultReading::claim_of, crate::specs::Inner::ResultReading::claim_of_line))]
+pub fn claim_of(alloc: Global, file: &[u8]) -> Result<Claim, NoMemory>
+    requires { length file.now ≤ limit }
+    ensures { IfOk result (λ claim. claim ≡ claim_of file.now) }
 {
-    if word == Word::Passed {
-        return Ok(if rest.is_empty() {
-            Claim::Passed
-        } else {
-            Claim::Malformed(ClaimFault::UnexpectedReason)
-        });
+    if file.is_empty() {
+        return Ok(Claim::Malformed(ClaimFault::Empty));
     }
-    let Some(reason) = reason(rest) else {
-        return Ok(Claim::Malformed(ClaimFault::NoReason));
-    };
-    Ok(claim_with(word, lossy(alloc, reason)?))
-}
-
-/// The claim of a line.
-#[tactic(auto, unfolding(crate::specs::Inner::ResultReading::claim_of_line))]
-pub fn claim_of_line(alloc: Global, text: &[u8]) -> Result<Claim, NoMemory>
-    ensures { IfOk result (λ claim. claim ≡ claim_of_line text.now) }
-{
-    let (word, rest) = text.split_at(word_length(text));
+    if !file.ends_with(b"\n") {
+        return Ok(Claim::Malformed(ClaimFault::NoNewline));
+    }
+    let (line, _) = file.split_at(file.len() - 1);
+    if line.contains(&b'\n') {
+        return Ok(Claim::Malformed(ClaimFault::SeveralLines));
+    }
+    let (word, rest) = line.split_at(word_length(line));
     let Some(word) = Word::of(word) else {
         return Ok(Claim::Malformed(ClaimFault::UnknownWord));
     };
-    match rest.split_first() {
-        Some((b'(', after)) => after_bracket(alloc, word, after),
-        _ => plainly(alloc, word, rest),
+    match (word, rest.split_first()) {
+        (_, Some((b'(', after))) => after_bracket(alloc, word, after),
+        (Word::Passed, None) => Ok(Claim::Passed),
+        (Word::Passed, Some(_)) => Ok(Claim::Malformed(ClaimFault::UnexpectedReason)),
+        _ => match reason(rest) {
+            Some(reason) => Ok(claim_with(word, lossy(alloc, reason)?)),
+            None => Ok(Claim::Malformed(ClaimFault::NoReason)),
+        },
     }
 }

@@ -1,5 +1,5 @@
 -- The names that most proofs of this crate cite, passed on from one place. Declares nothing.
-pub use Rattle.std.proofs.Common.{Some, None, ◌≡◌, ℕ, zero, suc, ◌+◌, ◌≤◌, true, false, List, [], ◌∷◌, ◌++◌, length, drop, refl, sym, ◌∙◌, ap, arith, slice_get, filter, count_by, Option, is_some, is_none, not, ◌==◌, ◌&&◌, ◌||◌, if◌then◌else◌, ◌≢◌, ◌<◌, ◌⊎◌, Bool, cond, subst, inl, inr, append-nil, ◌-◌, map, IfSome, take, length-append, Err, Result, Ok, ◌^◌, append_assoc, nat_lt, sum_by, slice_set, MatchOption}
+pub use Rattle.std.proofs.Common.{Some, None, ◌≡◌, get_or, ℕ, zero, suc, ◌+◌, ◌≤◌, true, false, List, [], ◌∷◌, ◌++◌, length, drop, refl, sym, ◌∙◌, ap, arith, slice_get, filter, count_by, Option, is_some, is_none, not, ◌==◌, ◌&&◌, ◌||◌, if◌then◌else◌, ◌≢◌, ◌<◌, ◌⊎◌, Bool, cond, subst, inl, inr, append-nil, ◌-◌, map, IfSome, take, length-append, Err, Result, Ok, ◌^◌, append_assoc, nat_lt, sum_by, slice_set, MatchOption}
 pub use Rattle.std.proofs.Math.Bool.{and-true, or-false}
 pub use Rattle.std.proofs.Math.ListN.{drop_of_length-le}
 pub use Rattle.std.proofs.Math.Seq.{drop-append_seam, take-append_seam}
@@ -7,7 +7,7 @@ pub use Rattle.std.proofs.lemmas.List.Filters.{sum_by-filter_both}
 pub use Rattle.std.proofs.lemmas.Result.{err_from_is_err_and}
 pub use Rattle.std.proofs.lemmas.Bool.{and_from, and_parts, and_right, cases_Bool, cases_eq, cases_lt, false_from_ne_true, ne_eqb, or_left, or_right}
 pub use Rattle.std.proofs.lemmas.Bool.Decides.{nat_tests}
-pub use Rattle.std.proofs.lemmas.List.{drop-append-le, length-map, length-set, map-append, set-set, take-append-drop, take-append-le}
+pub use Rattle.std.proofs.lemmas.List.{drop-append-le, length-map, length-set, map-append, take-append-drop, take-append-le}
 pub use Rattle.std.proofs.lemmas.List.Elements.{filter-append}
 pub use Rattle.std.proofs.lemmas.List.Sums.{count_by-le-length, length-filter, sum_by-append, sum_by-cons}
 pub use Rattle.std.proofs.lemmas.Option.{slice_get-map, slice_get_cases, slice_get_read, slice_get_within}
@@ -22,7 +22,7 @@ pub use Rattle.kt_sched.specs.EntryOf.{AreEntries, Gains, IsEntry, IsEntryOf, cl
 pub use Rattle.kt_sched.specs.Fed.{Fed, IsAnswerTo, has_failed, nothing_fed, role_runs, runs}
 pub use Rattle.kt_sched.specs.History.{BodyEnded, BodyRefused, BodyStarted, CleanupEnded, CleanupRefused, CleanupStarted, Mark, active, end_mark, has_whole_history, history, is_active, is_body_started, is_whole, mark_of}
 pub use Rattle.kt_sched.specs.Inner.Answers.{CanCount, after_put, counted}
-pub use Rattle.kt_sched.specs.Inner.Cases.{Declares, IsAfter, Replaced, TookEntry, can_start, first_case, first_stage, is_over, owing_at, positions_where, ready_at, record_of, stage_runs}
+pub use Rattle.kt_sched.specs.Inner.Cases.{IsAfter, Replaced, TookEntry, can_start, first_case, first_stage, is_over, owing_at, positions_where, ready_at, record_of, stage_runs}
 pub use Rattle.kt_sched.specs.Inner.Choice.{IsChosen, IsHeld, IsTurn}
 pub use Rattle.kt_sched.specs.Next.{AreWhole, Follows, IsNext, IsUpToDate, MayBegin, MayStartNow, WereOpen}
 pub use Rattle.kt_sched.specs.RecordOrder.{Due, ahead, dues, finished_by, is_begun, is_open, put_at, recorded, was_open}

@@ -1,5 +1,5 @@
 -- what a state says of a case
-use Rattle.kt_sched.proofs.Common.{set-set, Bool, is_fresh, is_decided_stage, HasExclusive, HasDecided, slice_get, Option, Some, None, map, ◌≡◌, ◌≢◌, ℕ, ◌<◌, ◌⊎◌, true, false, List, [], length, refl, sym, ◌∙◌, ap, subst, arith, slice_set, inl, inr, false_from_ne_true, cases_eq, cases_lt, length-map, ◌≤◌, slice_get-map, slice_get_within, Role, Body, Cleanup, Job, Next, Stage, Owing, Taken, EndedBody, Case, Event, Trace, of, mark_of, history, is_active, active, turns, Fed, role_runs, runs, stage_runs, SchedState, Stands, CaseStands, IsStage, IsAsked, is_active_stage, is_owing_stage, is_owed, Replaced}
+use Rattle.kt_sched.proofs.Common.{Bool, is_fresh, is_decided_stage, HasExclusive, HasDecided, slice_get, Option, Some, None, map, ◌≡◌, ◌≢◌, ℕ, ◌<◌, ◌⊎◌, true, false, List, [], length, refl, sym, ◌∙◌, ap, subst, arith, slice_set, inl, inr, false_from_ne_true, cases_eq, cases_lt, length-map, ◌≤◌, slice_get-map, slice_get_read, slice_get_within, get_or, Role, Body, Cleanup, Job, Next, Stage, Owing, Taken, EndedBody, Case, Event, Trace, of, mark_of, history, is_active, active, turns, Fed, role_runs, runs, stage_runs, SchedState, Stands, CaseStands, IsStage, IsAsked, is_active_stage, is_owing_stage, is_owed}
 use Rattle.kt_sched.specs.declared.next.Next.TheVariants as next
 use Rattle.kt_sched.proofs.Lists.{within_some, mapped_at, slice_get-set_other, slice_get-set_same, counted_some, counted_one, counted_none, count_alike}
 use Rattle.kt_sched.proofs.Turns.{turn_inside, turn_distinct}
@@ -54,14 +54,6 @@ module _ (xs : List Case) (i : ℕ) (old new : Case) (g : slice_get xs i ≡ Som
         let s = subst (IsStage k j w.case.stage) (sym (o k d)) w.stage in
         record { case = w.case; found = slice_get-set_other xs i k new d ∙ w.found; stage = s; kept = w.kept }
   ]
-
--- two replacements of one case are one
-pub replaced_twice : (xs ys zs : List Case) (i : ℕ) (s t u w : Stage) → Replaced xs ys i s w → Replaced ys zs i t u → Replaced xs zs i t w
-replaced_twice xs ys zs i s t u w f g =
-    let a : Case = record { job = f.job; stage = s } in
-    let mid : slice_get ys i ≡ Some a = ap (λ (cs : List Case). slice_get cs i) f.changed ∙ slice_get-set_same xs i a (slice_get_within xs i _ f.found) in
-    let e : g.job ≡ f.job = ap (λ (c : Case). c.job) (same_Some (record { job = g.job; stage = u }) a (sym g.found ∙ mid)) in
-    record { job = f.job; found = f.found; changed = g.changed ∙ rw (e, f.changed) (set-set xs i a (record { job = f.job; stage = t })) }
 
 -- what is known of its case
 module _ {plan : List Job} {fed : Fed} {b : SchedState} {i : ℕ} {flag : Bool} (a : AtTurn plan fed b i) where
@@ -131,6 +123,10 @@ module _ {plan : List Job} {n : ℕ} {fed : Fed} {b : SchedState} (h : Stands pl
 
   pub start_within : (k i : ℕ) → slice_get b.order k ≡ Some i → i < length b.cases
   start_within k i o = let t = turn_at k i o in omega (arith, slice_get_within plan i t.0 t.3, h.cases.count)
+
+  -- the case that an index gives at a turn
+  pub turn_found : (i : ℕ) (case : Case) → slice_get b.order b.turn ≡ Some i → case ≡ get_or b.cases i case → slice_get b.cases i ≡ Some case
+  turn_found i case t e = slice_get_read b.cases (length b.cases) i case refl (start_within b.turn i t) e
 
   pub has_turn : (i : ℕ) → slice_get b.order b.turn ≡ Some i → AtTurn plan fed b i
   has_turn i o =

@@ -28,6 +28,10 @@ over_inactive (Owing b) e = absurd (cc)
 over_inactive (Cleaning b) e = absurd (cc)
 over_inactive stage e = refl
 
+pub not_decided : (stage : Stage) → stage ≢ Decided → is_decided_stage stage ≡ false
+not_decided Decided f = absurd (f refl)
+not_decided stage f = refl
+
 pub runs_active : (r : Role) (stage : Stage) → stage_runs r stage ≡ true → is_active_stage stage ≡ true
 runs_active Body (Running m) e = refl
 runs_active Cleanup (Cleaning b) e = refl

@@ -1,9 +1,11 @@
 -- the answers of a launcher, each of which the state takes
-use Rattle.kt_sched.proofs.Common.{ne_eqb, ◌≢◌, slice_get, length, Option, Some, None, ◌≡◌, ℕ, ◌+◌, ◌<◌, Bool, true, false, cond, List, refl, sym, ◌∙◌, ap, subst, arith, length-set, slice_get_within, Next, Role, Body, Cleanup, Ended, StartAnswer, Stage, Waiting, Owing, Taken, Case, same_role, Event, Start, End, Job, Fed, body_start_of, stage_runs, SchedState, Stands, IsAfter, IsStanding, Takes, Replaced, Declares, can_start, owing_at, ready_at, is_active_stage, is_over, is_owed}
+use Rattle.kt_sched.proofs.Common.{ne_eqb, ◌≢◌, get_or, slice_get, slice_get_read, slice_set, length, Option, Some, None, ◌≡◌, ℕ, ◌+◌, ◌<◌, Bool, true, cond, List, refl, sym, ◌∙◌, ap, subst, arith, slice_get_within, Next, Role, Body, Cleanup, Ended, StartAnswer, Stage, Waiting, Owing, Case, same_role, Event, Start, End, Job, Fed, body_start_of, stage_runs, SchedState, Stands, IsAfter, IsStanding, Takes, can_start, owing_at, ready_at, is_active_stage, is_over, is_owed}
 use Rattle.kt_sched.specs.declared.next.Next.TheVariants as next
+use denote.Enum.Bare.{sameb}
+use Rattle.kt_base.specs.contracts.child.Role.{the_type}
 use Rattle.kt_sched.proofs.Lists.{cond_one}
 use Rattle.kt_sched.proofs.Stages.{runs_active, moves}
-use Rattle.kt_sched.proofs.Located.{asked_as, located, owes, replaced_twice, some_active}
+use Rattle.kt_sched.proofs.Located.{asked_as, asked_within, located, owes, some_active}
 use Rattle.kt_sched.proofs.Upcoming.{upcoming}
 use Rattle.kt_sched.proofs.EventSteps.{After, AskedFor, OwedBy, after_event, event_taken}
 use Rattle.std.proofs.lemmas.Option.{same_Some}
@@ -11,23 +13,25 @@ use Rattle.std.proofs.lemmas.Option.{same_Some}
 -- a case that can be started, and counted
 pub record StartFits (b : SchedState) (role : Role) (was : Stage) : Type 0 where
   pub can : can_start role was ≡ true
-  pub more : is_active_stage was ≡ false → b.active < b.width
+  pub ran : is_active_stage was ≡ same_role role Cleanup
+  pub more : role ≡ Body → b.active < b.width
   pub turn : role ≡ Body → b.turn < length b.order
 
-pub replaced_within : {xs ys : List Case} {i : ℕ} {s w : Stage} → Replaced xs ys i s w → i < length ys
-replaced_within {xs} {i = i} f = rw (f.changed, length-set) (slice_get_within xs i _ f.found)
+-- the case that an index gives
+found_at : (xs : List Case) (i : ℕ) (case : Case) → i < length xs → case ≡ get_or xs i case → slice_get xs i ≡ Some case
+found_at xs i case l e = slice_get_read xs (length xs) i case refl l e
 
 module _ {plan : List Job} {n : ℕ} {fed : Fed} {b : SchedState} (h : Stands plan n fed b) where
-  fits : (i : ℕ) (role : Role) {was : Stage} {mid : List Case} → b.asked ≡ next.Start i role → Replaced b.cases mid i Taken was → StartFits b role was
-  fits i Body {was} q r =
+  fits : (i : ℕ) (role : Role) (case : Case) → b.asked ≡ next.Start i role → slice_get b.cases i ≡ Some case → StartFits b role case.stage
+  fits i Body case q g =
       let k = asked_as h (next.Start i Body) q in
       let u = upcoming h i k.0 k.3 k.2 in
-      let w : was ≡ Waiting = ap (λ (c : Case). c.stage) (same_Some _ u.0.case (sym r.found ∙ u.0.found)) ∙ u.1 in
-      record { can = ap (can_start Body) w; more = λ v. k.2.2; turn = λ y. slice_get_within b.order b.turn i k.2.1 }
-  fits i Cleanup {was} q r =
+      let w : case.stage ≡ Waiting = ap (λ (c : Case). c.stage) (same_Some case u.0.case (sym g ∙ u.0.found)) ∙ u.1 in
+      record { can = ap (can_start Body) w; ran = ap is_active_stage w; more = λ y. k.2.2; turn = λ y. slice_get_within b.order b.turn i k.2.1 }
+  fits i Cleanup case q g =
       let o = owes h i (asked_as h (next.Start i Cleanup) q).1 in
-      let w : was ≡ Owing o.1 = ap (λ (c : Case). c.stage) (same_Some _ _ (sym r.found ∙ o.2)) in
-      record { can = ap (can_start Cleanup) w; more = λ v. absurd (cc (ap is_active_stage w, v)); turn = λ y. absurd (cc (y)) }
+      let w : case.stage ≡ Owing o.1 = ap (λ (c : Case). c.stage) (same_Some case _ (sym g ∙ o.2)) in
+      record { can = ap (can_start Cleanup) w; ran = ap is_active_stage w; more = λ y. absurd (cc (y)); turn = λ y. absurd (cc (y)) }
 
   none_owed : {i : ℕ} → b.pending ≡ None → OwedBy i b.pending
   none_owed e j d = ap (λ (o : Option ℕ). is_owed o j) e
@@ -42,6 +46,10 @@ module _ {plan : List Job} {n : ℕ} {fed : Fed} {b : SchedState} (h : Stands pl
 
   asked_end : (e : Ended) → b.asked ≡ next.Wait → AskedFor b (End e)
   asked_end e q = let k = asked_as h next.Wait q in record { empty = k.0; settled = k.3; owing = none_owed k.1; turned = λ e. absurd (cc (e)) }
+
+pub is_cleanup : (role : Role) → sameb the_type role Cleanup ≡ same_role role Cleanup
+is_cleanup Body = refl
+is_cleanup Cleanup = refl
 
 takes_turn : (i : ℕ) (role : Role) (x : StartAnswer) → cond {A = ℕ} (same_role role Body) 1 0 ≡ length (body_start_of (Start i role x))
 takes_turn i Body x = omega arith
@@ -58,49 +66,53 @@ module _ {b seen : SchedState} (view : b ≡ seen) (standing : IsStanding b) whe
   was_asked : {q : Next} → seen.asked ≡ q → b.asked ≡ q
   was_asked e = ap (λ (x : SchedState). x.asked) view ∙ e
 
-  pub start_fits : (i : ℕ) (role : Role) {was : Stage} {mid : List Case} → seen.asked ≡ next.Start i role → Replaced b.cases mid i Taken was
-      → StartFits b role was
-  start_fits i role q r = fits standing.3 i role (was_asked q) r
+  pub start_at : (i : ℕ) (role : Role) → seen.asked ≡ next.Start i role → i < length b.cases
+  start_at i role q = asked_within standing.3 i role (was_asked q)
 
-  pub started : (i : ℕ) (role : Role) (x : StartAnswer) {was now left : Stage} {mid cs : List Case} {t a : ℕ} {p r : Option ℕ} {u v : Bool}
-      → seen.asked ≡ next.Start i role → Replaced b.cases mid i Taken was → Replaced mid cs i now left
+  pub start_fits : (i : ℕ) (role : Role) {case : Case} {was : Stage} → seen.asked ≡ next.Start i role → case ≡ get_or b.cases i case → was ≡ case.stage
+      → StartFits b role was
+  start_fits i role {case} q at s =
+      subst (StartFits b role) (sym s) (fits standing.3 i role case (was_asked q) (found_at b.cases i case (start_at i role q) at))
+
+  pub start_active : (i : ℕ) (role : Role) {case : Case} → seen.asked ≡ next.Start i role → case ≡ get_or b.cases i case → same_role role Cleanup ≡ true
+      → 0 < b.active
+  start_active i role {case} q at e =
+      let g = found_at b.cases i case (start_at i role q) at in some_active standing.3 i case g ((fits standing.3 i role case (was_asked q) g).ran ∙ e)
+
+  pub started : (i : ℕ) (role : Role) (x : StartAnswer) {case : Case} {was : Stage} (now : Stage) {t a : ℕ} {p r : Option ℕ} {u : Bool}
+      → seen.asked ≡ next.Start i role → case ≡ get_or b.cases i case → was ≡ case.stage
       → ((cleanup : Bool) → IsAfter cleanup was (Start i role x) now) → t ≡ b.turn + cond (same_role role Body) 1 0
-      → u ≡ is_active_stage was → v ≡ is_active_stage now → a + cond u 1 0 ≡ b.active + cond v 1 0 → p ≡ owing_at now i → r ≡ ready_at now b.failed i
-      → Takes seen (Start i role x) (after_event b cs t a p r)
-  started i role x {was} {now} {left} {mid} {cs} {t} {a} q c d f y u v z p r = rw (p, r) (steps (λ plan n fed h.
-      let w = replaced_twice b.cases mid cs i Taken now left was c d in
-      let l = located h i w.job was w.found in
+      → u ≡ same_role role Cleanup → a + cond u 1 0 ≡ b.active + cond (is_active_stage now) 1 0 → p ≡ owing_at now i → r ≡ ready_at now b.failed i
+      → Takes seen (Start i role x) (after_event b (slice_set b.cases i (record { job = case.job; stage = now })) t a p r)
+  started i role x {case} now {a = a} q at s f y u z p r = rw (p, r) (steps (λ plan n fed h.
+      let g = found_at b.cases i case (start_at i role q) at in
+      let l = located h i case.job case.stage g in
       event_taken h (record {
         place = l.place;
-        moved = w;
-        after = f l.job.cleanup;
+        moved = record { job = case.job; found = g; changed = refl };
+        after = subst (λ w. IsAfter l.job.cleanup w (Start i role x) now) s (f l.job.cleanup);
         turn = omega (arith, y, takes_turn i role x);
-        active = ap (λ w. a + cond w 1 0) (sym u) ∙ (z ∙ ap (λ w. b.active + cond w 1 0) v);
+        active = ap (λ w. a + cond w 1 0) ((fits h i role case (was_asked q) g).ran ∙ sym u) ∙ z;
         asked = asked_start h i role x (was_asked q);
       })) refl)
 
-  -- the child that ended ran, and its case was counted
-  pub end_fits : (e : Ended) {was : Stage} {mid : List Case} → ((c : Case) × (slice_get seen.cases e.position ≡ Some c) × (stage_runs e.role c.stage ≡ true))
-      → Replaced b.cases mid e.position Taken was → (stage_runs e.role was ≡ true) × (0 < b.active) × (e.position < length mid)
-  end_fits e {was} w r =
-      let found = ap (λ (x : SchedState). slice_get x.cases e.position) view ∙ w.1 in
-      let v = ap (λ (c : Case). stage_runs e.role c.stage) (same_Some _ w.0 (sym r.found ∙ found)) ∙ w.2 in
-      (v, some_active standing.3 e.position _ r.found (runs_active e.role was v), replaced_within r)
-
-  pub ended : (e : Ended) {was now left : Stage} {mid cs : List Case} {a : ℕ} {p r : Option ℕ} {v flag : Bool} → seen.asked ≡ next.Wait
-      → Declares b.cases e.position flag → Replaced b.cases mid e.position Taken was → Replaced mid cs e.position now left → stage_runs e.role was ≡ true
-      → IsAfter flag was (End e) now → v ≡ is_active_stage now → a + 1 ≡ b.active + cond v 1 0 → p ≡ owing_at now e.position
-      → r ≡ ready_at now b.failed e.position → Takes seen (End e) (after_event b cs b.turn a p r)
-  ended e {was} {now} {left} {mid} {cs} {a} {v = v} {flag = flag} q g c d k f u z p r = rw (p, r) (steps (λ plan n fed h.
-      let w = replaced_twice b.cases mid cs e.position Taken now left was c d in
-      let l = located h e.position w.job was w.found in
-      let same = l.kept (λ x. absurd (cc ((moves flag was (End e) now f).fresh, ap is_over x))) in
-      let flag_is = g.is ∙ (ap (λ (y : Case). y.job.cleanup) (same_Some g.case _ (sym g.found ∙ w.found)) ∙ ap (λ (j : Job). j.cleanup) same) in
+  pub ended : (e : Ended) {case : Case} {was : Stage} (now : Stage) {a : ℕ} {p r : Option ℕ} → seen.asked ≡ next.Wait
+      → ((c : Case) × (slice_get seen.cases e.position ≡ Some c) × (stage_runs e.role c.stage ≡ true))
+      → case ≡ get_or b.cases e.position case → was ≡ case.stage → IsAfter case.job.cleanup was (End e) now
+      → a + 1 ≡ b.active + cond (is_active_stage now) 1 0 → p ≡ owing_at now e.position → r ≡ ready_at now b.failed e.position
+      → Takes seen (End e) (after_event b (slice_set b.cases e.position (record { job = case.job; stage = now })) b.turn a p r)
+  ended e {case} now q w at s f z p r = rw (p, r) (steps (λ plan n fed h.
+      let there = ap (λ (x : SchedState). slice_get x.cases e.position) view ∙ w.1 in
+      let g = found_at b.cases e.position case (slice_get_within b.cases e.position w.0 there) at in
+      let k = ap (λ (c : Case). stage_runs e.role c.stage) (same_Some case w.0 (sym g ∙ there)) ∙ w.2 in
+      let l = located h e.position case.job case.stage g in
+      let v = subst (λ w. IsAfter case.job.cleanup w (End e) now) s f in
+      let same = l.kept (λ x. absurd (cc ((moves case.job.cleanup case.stage (End e) now v).fresh, ap is_over x))) in
       event_taken h (record {
         place = l.place;
-        moved = w;
-        after = subst (λ (y : Bool). IsAfter y was (End e) now) flag_is f;
+        moved = record { job = case.job; found = g; changed = refl };
+        after = subst (λ (j : Job). IsAfter j.cleanup case.stage (End e) now) same v;
         turn = omega arith;
-        active = omega (arith, z, ap (λ w. cond {A = ℕ} w 1 0) u, cond_one (is_active_stage was) (runs_active e.role was k));
+        active = omega (arith, z, cond_one (is_active_stage case.stage) (runs_active e.role case.stage k));
         asked = asked_end h e (was_asked q);
       })) refl)

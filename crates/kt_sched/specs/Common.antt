@@ -1,16 +1,15 @@
 -- The words that the clauses of this crate cite, passed on from one place. Declares nothing.
 pub use Rattle.kt_base.specs.declared.child.Role.{Role}
-pub use Rattle.kt_status.specs.Tables.{IsVerdict, IsVerdictAfter, IsVerdictOfRefusal}
 pub use Rattle.kt_sched.specs.Children.{IsIdle, same_role}
 pub use Rattle.kt_sched.specs.EntryOf.{IsEntryOf, no_output}
 pub use Rattle.kt_sched.specs.Fed.{Fed, fed_after, nothing_fed}
 pub use Rattle.kt_sched.specs.Inner.Answers.{CanCount, after_put, counted}
-pub use Rattle.kt_sched.specs.Inner.Cases.{Declares, IsAfter, KeepsNames, Replaced, TookEntry, can_start, first_case, is_over, owing_at, plain_record, positions_where, ready_at, record_of, stage_runs}
+pub use Rattle.kt_sched.specs.Inner.Cases.{IsAfter, TookEntry, can_start, first_case, is_over, owing_at, positions_where, ready_at, stage_runs}
 pub use Rattle.kt_sched.specs.Inner.Choice.{IsChosen, IsTurn}
 pub use Rattle.kt_sched.specs.Next.{Follows, IsNext}
 pub use Rattle.kt_sched.specs.Plan.{IsPlan, IsWidth}
 pub use Rattle.kt_sched.specs.Run.{Ran}
-pub use Rattle.kt_sched.specs.SchedState.{CanLend, HasDecided, HasExclusive, HasRecord, Implies, IsAnswer, IsSettled, SchedState, Stands, Takes, Works, decided_record, ended_body, is_active_stage, positions, record_in, work}
+pub use Rattle.kt_sched.specs.SchedState.{CanLend, HasRecord, Implies, IsAnswer, IsSettled, SchedState, Stands, Takes, Works, decided_record, is_active_stage, positions, record_in, work}
 pub use Rattle.kt_sched.specs.Trace.{End, Start}
 pub use Rattle.kt_sched.specs.TurnOrder.{turns}
 pub use Rattle.kt_sched.specs.declared.stage.Case.{Case}

@@ -1,28 +1,10 @@
-ghost use Rattle.std.specs.Prelude.{◌≡◌, Some, IsSome};
-ghost use Rattle.kt_sched.specs.Common.{Taken, record_in, HasRecord, KeepsNames, TookEntry};
+ghost use Rattle.kt_sched.specs.Common.{HasRecord, TookEntry};
 
 use crate::case_records::decided_record;
-use crate::stage::{Case, CaseRecord, Stage};
+use crate::stage::{Case, Stage};
 use kt_base::{Entry, Text, Variables};
 use std::alloc::Global;
 use std::mem;
-
-/// Takes the record out of a case that is over.
-fn take_record(alloc: Global, case: &mut Case) -> CaseRecord
-    requires { IsSome (record_in case.old.job case.old.stage) }
-    ensures case_record { record_in case.old.job case.old.stage ≡ Some result }
-    ensures taken { case.new.stage ≡ Taken }
-    ensures kept { KeepsNames case.old.job case.new.job }
-{
-    match mem::replace(&mut case.stage, Stage::Taken) {
-        Stage::Finished(case_record) => case_record,
-        Stage::Decided => match mem::replace(&mut case.job.decided, None) {
-            Some(verdict) => decided_record(alloc, verdict),
-            None => unreachable!(),
-        },
-        _ => unreachable!(),
-    }
-}
 
 /// Takes the entry out of a case that is over. Names, reason and outputs are moved.
 pub fn take_entry(alloc: Global, cases: &mut Vec<Case>, i: u32) -> Entry
@@ -30,7 +12,12 @@ pub fn take_entry(alloc: Global, cases: &mut Vec<Case>, i: u32) -> Entry
     ensures { TookEntry cases.old.items cases.new.items i result }
 {
     let case = &mut cases[i as usize];
-    let case_record = take_record(alloc, case);
+    let stage = mem::replace(&mut case.stage, Stage::Taken);
+    let case_record = match (stage, mem::replace(&mut case.job.decided, None)) {
+        (Stage::Finished(case_record), _) => case_record,
+        (Stage::Decided, Some(verdict)) => decided_record(alloc, verdict),
+        _ => unreachable!(),
+    };
     Entry {
         position: case.job.position,
         program: mem::replace(&mut case.job.program, Text::new(alloc)),

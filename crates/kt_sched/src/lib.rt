@@ -14,7 +14,6 @@ mod sched;
 mod setup;
 mod sink;
 mod stage;
-mod table;
 mod totals;
 
 pub use job::{Ended, Job, MAX_TIMEOUT, MAX_WIDTH, StartAnswer};

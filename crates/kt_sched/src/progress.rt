@@ -2,12 +2,11 @@ ghost use Rattle.std.specs.Prelude.{◌≡◌, ◌+◌, ◌<◌, ℕ, Bool, true
 ghost use Rattle.kt_sched.specs.Common.{IsAfter, Start, End, can_start, is_active_stage, owing_at, ready_at, same_role, stage_runs};
 ghost use Rattle.kt_base.specs.declared.child.Role.TheVariants.{Body as TheBody};
 
-use crate::case_records::{
-    cleaned_record, ended_body, plain_record, refused_record, uncleaned_record,
-};
-use crate::stage::Stage;
+use crate::case_records::{decided_record, no_output};
+use crate::stage::{CaseRecord, EndedBody, Stage};
 use crate::{Ended, StartAnswer};
 use kt_base::Role;
+use kt_status::{CleanupEnd, body_verdict, refused_verdict, with_cleanup};
 use std::alloc::Global;
 
 /// The stage of a case after the answer to a start.
@@ -18,56 +17,66 @@ pub fn after_start(alloc: Global, was: Stage, role: Role, answer: StartAnswer) -
     match (role, was) {
         (Role::Body, Stage::Waiting) => match answer {
             StartAnswer::Started(moment) => Stage::Running(moment),
-            StartAnswer::Refused(cause) => Stage::Finished(refused_record(alloc, cause)),
+            StartAnswer::Refused(cause) => Stage::Finished(decided_record(
+                alloc,
+                refused_verdict(cause),
+            )),
         },
         (Role::Cleanup, Stage::Owing(body)) => match answer {
             StartAnswer::Started(_) => Stage::Cleaning(body),
-            StartAnswer::Refused(_) => Stage::Finished(uncleaned_record(alloc, body)),
+            StartAnswer::Refused(_) => Stage::Finished(CaseRecord {
+                verdict: with_cleanup(body.verdict, CleanupEnd::Refused),
+                started: body.started,
+                millis: body.ended.saturating_sub(body.started),
+                body: body.output,
+                cleanup: no_output(alloc),
+            }),
         },
         _ => unreachable!(),
     }
 }
 
-/// The stage of a case after the end of its child.
+/// The stage of a case after the end of its child. If the clock went back, the case took no time.
 pub fn after_end(alloc: Global, was: Stage, cleanup: bool, ended: Ended) -> Stage
     requires { stage_runs ended.role was ≡ true }
     ensures { IsAfter cleanup was (End ended) result }
 {
     match was {
-        Stage::Running(since) => {
-            if cleanup {
-                Stage::Owing(ended_body(since, ended))
-            } else {
-                Stage::Finished(plain_record(alloc, since, ended))
-            }
-        }
-        Stage::Cleaning(body) => Stage::Finished(cleaned_record(body, ended)),
+        Stage::Running(since) if cleanup => Stage::Owing(EndedBody {
+            started: since,
+            ended: ended.moment,
+            verdict: body_verdict(ended.evidence, ended.outcome),
+            output: ended.output,
+        }),
+        Stage::Running(since) => Stage::Finished(CaseRecord {
+            verdict: body_verdict(ended.evidence, ended.outcome),
+            started: since,
+            millis: ended.moment.saturating_sub(since),
+            body: ended.output,
+            cleanup: no_output(alloc),
+        }),
+        Stage::Cleaning(body) => Stage::Finished(CaseRecord {
+            verdict: with_cleanup(body.verdict, CleanupEnd::Ended(ended.outcome)),
+            started: body.started,
+            millis: ended.moment.saturating_sub(body.started),
+            body: body.output,
+            cleanup: ended.output,
+        }),
         _ => unreachable!(),
     }
 }
 
-/// Whether a stage is that of an active case.
-pub fn is_active(stage: &Stage) -> bool
-    ensures { result ≡ is_active_stage stage.now }
-{
-    matches!(
-        stage,
-        Stage::Running(_) | Stage::Owing(_) | Stage::Cleaning(_)
-    )
-}
-
-/// How many cases are active after one whose case was active, or was not, and then is or is not.
-pub fn active_after(active: u32, width: u32, before: bool, after: bool) -> u32
+/// How many cases are active after an answer, if the case that it leads to this stage was active before it, or was not.
+pub fn active_after(active: u32, width: u32, before: bool, stage: &Stage) -> u32
     requires less { before ≡ true → 0 < active }
     requires more { before ≡ false → active < width }
-    ensures { result + cond before 1 0 ≡ active + cond after 1 0 }
+    ensures { result + cond before 1 0 ≡ active + cond (is_active_stage stage.now) 1 0 }
 {
-    if before == after {
-        active
-    } else if after {
-        active + 1
-    } else {
-        active - 1
+    match stage {
+        Stage::Running(_) | Stage::Owing(_) | Stage::Cleaning(_) if before => active,
+        Stage::Running(_) | Stage::Owing(_) | Stage::Cleaning(_) => active + 1,
+        _ if before => active - 1,
+        _ => active,
     }
 }
 
@@ -82,22 +91,15 @@ pub fn turn_after(turn: usize, cases: usize, role: Role) -> usize
     }
 }
 
-/// The position of a case, if it owes its cleanup.
-pub fn owing(stage: &Stage, i: u32) -> Option<u32>
-    ensures { result ≡ owing_at stage.now i }
+/// The position of a case as one that owes its cleanup, and as one to put: it is over and no put failed. An event leaves no
+/// case `Decided` or `Taken`.
+pub fn owing_and_ready(stage: &Stage, failed: bool, i: u32) -> (Option<u32>, Option<u32>)
+    ensures owing { result.0 ≡ owing_at stage.now i }
+    ensures ready { result.1 ≡ ready_at stage.now failed i }
 {
     match stage {
-        Stage::Owing(_) => Some(i),
-        _ => None,
-    }
-}
-
-/// The position of a case to put, if it is over and no put failed. An event leaves no case `Decided` or `Taken`.
-pub fn ready(stage: &Stage, failed: bool, i: u32) -> Option<u32>
-    ensures { result ≡ ready_at stage.now failed i }
-{
-    match stage {
-        Stage::Decided | Stage::Finished(_) | Stage::Taken if !failed => Some(i),
-        _ => None,
+        Stage::Owing(_) => (Some(i), None),
+        Stage::Decided | Stage::Finished(_) | Stage::Taken if !failed => (None, Some(i)),
+        _ => (None, None),
     }
 }

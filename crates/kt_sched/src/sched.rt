@@ -1,12 +1,12 @@
 use crate::entries::take_entry;
-use crate::progress::{active_after, after_end, after_start, is_active, owing, ready, turn_after};
+use crate::progress::{active_after, after_end, after_start, owing_and_ready, turn_after};
 use crate::setup::{first_cases, turn_order};
 use crate::stage::{Case, Stage};
-use crate::table::{declares_cleanup, is_decided, is_exclusive, replace_stage};
 use crate::{Answer, Ended, Job, Next, StartAnswer};
 use kt_base::{Entry, Items, NoMemory, Role};
 use std::alloc::Global;
 use std::marker::Model;
+use std::mem;
 
 /// The scheduler's core. It stands for its plan, its width and the answers fed so far.
 #[derive(Drop)]
@@ -138,14 +138,12 @@ impl Sched {
         requires { self.old.asked ≡ Next.Start i role }
         ensures { Takes self.old (Start i role answer) self.new }
     {
-        let was = replace_stage(&mut self.cases, i, Stage::Taken);
-        let ran = is_active(&was);
-        let stage = after_start(self.alloc, was, role, answer);
+        let case = &mut self.cases[i as usize];
+        let was = mem::replace(&mut case.stage, Stage::Taken);
+        case.stage = after_start(self.alloc, was, role, answer);
         self.turn = turn_after(self.turn, self.order.len(), role);
-        self.active = active_after(self.active, self.width, ran, is_active(&stage));
-        self.pending = owing(&stage, i);
-        self.ready = ready(&stage, self.failed, i);
-        let _taken = replace_stage(&mut self.cases, i, stage);
+        self.active = active_after(self.active, self.width, role == Role::Cleanup, &case.stage);
+        (self.pending, self.ready) = owing_and_ready(&case.stage, self.failed, i);
         self.asked = Next::Done;
     }
 
@@ -157,13 +155,11 @@ impl Sched {
         ensures { Takes self.old (End ended) self.new }
     {
         let i = ended.position;
-        let cleanup = declares_cleanup(&self.cases, i);
-        let was = replace_stage(&mut self.cases, i, Stage::Taken);
-        let stage = after_end(self.alloc, was, cleanup, ended);
-        self.active = active_after(self.active, self.width, true, is_active(&stage));
-        self.pending = owing(&stage, i);
-        self.ready = ready(&stage, self.failed, i);
-        let _taken = replace_stage(&mut self.cases, i, stage);
+        let case = &mut self.cases[i as usize];
+        let was = mem::replace(&mut case.stage, Stage::Taken);
+        case.stage = after_end(self.alloc, was, case.job.cleanup, ended);
+        self.active = active_after(self.active, self.width, true, &case.stage);
+        (self.pending, self.ready) = owing_and_ready(&case.stage, self.failed, i);
         self.asked = Next::Done;
     }
 
@@ -201,11 +197,12 @@ impl Sched {
         let Some(i) = self.turn_with_room() else {
             return;
         };
-        if is_decided(&self.cases, i) {
-            self.turn += 1;
-            self.ready = Some(i);
-            self.asked = Next::Done;
-        }
+        let Stage::Decided = &self.cases[i as usize].stage else {
+            return;
+        };
+        self.turn += 1;
+        self.ready = Some(i);
+        self.asked = Next::Done;
     }
 
     /// What to do next: a put first, then a cleanup, then a body, then a wait.
@@ -237,7 +234,7 @@ impl Sched {
         let i = self.order[self.turn];
         if self.active == 0 {
             Some(i)
-        } else if is_exclusive(&self.cases, i) {
+        } else if self.cases[i as usize].job.exclusive {
             None
         } else {
             Some(i)

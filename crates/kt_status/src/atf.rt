@@ -1,7 +1,7 @@
-ghost use Rattle.std.specs.Prelude.{◌≡◌, ◌++◌, codes, if◌then◌else◌};
-ghost use Rattle.kt_status.specs.Common.{ending_text, phrase_text, broken, claim_fault_text, expected_exit, expected_signal, atf_ended, atf_verdict};
+ghost use Rattle.std.specs.Prelude.{◌≡◌, ◌++◌, codes};
+ghost use Rattle.kt_status.specs.Common.{ending_text, phrase_text, broken, claim_fault_text, atf_verdict};
 
-use kt_base::{Outcome, Phrase, Reason, Text, Verdict};
+use kt_base::{Outcome, Phrase, Reason, Verdict};
 use kt_claim::{Claim, ClaimFault};
 
 fn fault_phrase(fault: ClaimFault) -> Phrase
@@ -26,97 +26,50 @@ fn belied(phrase: Phrase, ending: Outcome) -> Verdict
     Verdict::broken(Reason::Ended(phrase, ending))
 }
 
-fn expected_exit(due: Option<u8>, reason: Text, ending: Outcome) -> Verdict
-    ensures { result ≡ expected_exit due reason ending }
-{
-    let Outcome::Exited(code) = ending else {
-        return belied(Phrase::NoCleanExit, ending);
-    };
-    match due {
-        None => Verdict::expected_failure(Reason::Owned(reason)),
-        Some(due) if due == code => Verdict::expected_failure(Reason::Owned(reason)),
-        Some(due) => Verdict::failed(Reason::Counted(
-            Phrase::OtherExitCode,
-            due as u64,
-            code as u64,
-        )),
-    }
-}
-
-fn expected_signal(due: Option<u8>, reason: Text, ending: Outcome) -> Verdict
-    ensures { result ≡ expected_signal due reason ending }
-{
-    let Outcome::Signaled(signal, _) = ending else {
-        return belied(Phrase::NoSignal, ending);
-    };
-    match due {
-        None => Verdict::expected_failure(Reason::Owned(reason)),
-        Some(due) if due == signal => Verdict::expected_failure(Reason::Owned(reason)),
-        Some(due) => Verdict::failed(Reason::Counted(
-            Phrase::OtherSignal,
-            due as u64,
-            signal as u64,
-        )),
-    }
-}
-
-/// A claim that requires a certain exit: `due` says whether the process had it.
-fn settled(verdict: Verdict, due: bool, phrase: Phrase, ending: Outcome) -> Verdict
-    ensures { result ≡ (if due then verdict
-        else broken (phrase_text phrase ++ ending_text ending)) }
-{
-    if due { verdict } else { belied(phrase, ending) }
-}
-
-/// The body ended by itself.
-fn ended(claim: Claim, ending: Outcome) -> Verdict
-    ensures { result ≡ atf_ended claim ending }
-{
-    match claim {
-        Claim::Missing => belied(Phrase::PrematureExit, ending),
-        Claim::Unreadable => Verdict::broken(Reason::Fixed(Phrase::ResultsUnreadable)),
-        Claim::Malformed(fault) => Verdict::broken(Reason::Fixed(fault_phrase(fault))),
-        Claim::Passed => settled(
-            Verdict::passed(),
-            matches!(ending, Outcome::Exited(0)),
-            Phrase::PassedButNoSuccess,
-            ending,
-        ),
-        Claim::Skipped(reason) => settled(
-            Verdict::skipped(Reason::Owned(reason)),
-            matches!(ending, Outcome::Exited(0)),
-            Phrase::SkippedButNoSuccess,
-            ending,
-        ),
-        Claim::ExpectedFailure(reason) => settled(
-            Verdict::expected_failure(Reason::Owned(reason)),
-            matches!(ending, Outcome::Exited(0)),
-            Phrase::ExpectedFailureButNoSuccess,
-            ending,
-        ),
-        Claim::Failed(reason) => settled(
-            Verdict::failed(Reason::Owned(reason)),
-            matches!(ending, Outcome::Exited(1)),
-            Phrase::FailedButNoFailure,
-            ending,
-        ),
-        Claim::ExpectedDeath(reason) => Verdict::expected_failure(Reason::Owned(reason)),
-        Claim::ExpectedExit(due, reason) => expected_exit(due, reason, ending),
-        Claim::ExpectedSignal(due, reason) => expected_signal(due, reason, ending),
-        Claim::ExpectedTimeout(_) => belied(Phrase::NoTimeout, ending),
-    }
-}
-
-/// The verdict on an ATF case.
+/// The verdict on an ATF case, by the first row that fits.
 pub fn atf_verdict(claim: Claim, ending: Outcome) -> Verdict
     ensures { result ≡ atf_verdict claim ending }
 {
-    match ending {
-        Outcome::WaitFailed => Verdict::broken(Reason::Fixed(Phrase::CaseNotWaitedFor)),
-        Outcome::TimedOut => match claim {
-            Claim::ExpectedTimeout(reason) => Verdict::expected_failure(Reason::Owned(reason)),
-            _ => Verdict::broken(Reason::Fixed(Phrase::BodyTimedOut)),
-        },
-        Outcome::Exited(_) | Outcome::Signaled(_, _) => ended(claim, ending),
+    match (claim, ending) {
+        (_, Outcome::WaitFailed) => Verdict::broken(Reason::Fixed(Phrase::CaseNotWaitedFor)),
+        (Claim::ExpectedTimeout(reason), Outcome::TimedOut) => {
+            Verdict::expected_failure(Reason::Owned(reason))
+        }
+        (_, Outcome::TimedOut) => Verdict::broken(Reason::Fixed(Phrase::BodyTimedOut)),
+        (Claim::Missing, _) => belied(Phrase::PrematureExit, ending),
+        (Claim::Unreadable, _) => Verdict::broken(Reason::Fixed(Phrase::ResultsUnreadable)),
+        (Claim::Malformed(fault), _) => Verdict::broken(Reason::Fixed(fault_phrase(fault))),
+        (Claim::Passed, Outcome::Exited(0)) => Verdict::passed(),
+        (Claim::Skipped(reason), Outcome::Exited(0)) => Verdict::skipped(Reason::Owned(reason)),
+        (Claim::ExpectedFailure(reason), Outcome::Exited(0)) => {
+            Verdict::expected_failure(Reason::Owned(reason))
+        }
+        (Claim::Passed, _) => belied(Phrase::PassedButNoSuccess, ending),
+        (Claim::Skipped(_), _) => belied(Phrase::SkippedButNoSuccess, ending),
+        (Claim::ExpectedFailure(_), _) => belied(Phrase::ExpectedFailureButNoSuccess, ending),
+        (Claim::Failed(reason), Outcome::Exited(1)) => Verdict::failed(Reason::Owned(reason)),
+        (Claim::Failed(_), _) => belied(Phrase::FailedButNoFailure, ending),
+        (Claim::ExpectedDeath(reason), _) => Verdict::expected_failure(Reason::Owned(reason)),
+        (Claim::ExpectedExit(None, reason), Outcome::Exited(_)) => {
+            Verdict::expected_failure(Reason::Owned(reason))
+        }
+        (Claim::ExpectedExit(Some(due), reason), Outcome::Exited(got)) if due == got => {
+            Verdict::expected_failure(Reason::Owned(reason))
+        }
+        (Claim::ExpectedExit(Some(due), _), Outcome::Exited(got)) => {
+            Verdict::failed(Reason::Counted(Phrase::OtherExitCode, due as u64, got as u64))
+        }
+        (Claim::ExpectedExit(_, _), _) => belied(Phrase::NoCleanExit, ending),
+        (Claim::ExpectedSignal(None, reason), Outcome::Signaled(_, _)) => {
+            Verdict::expected_failure(Reason::Owned(reason))
+        }
+        (Claim::ExpectedSignal(Some(due), reason), Outcome::Signaled(got, _)) if due == got => {
+            Verdict::expected_failure(Reason::Owned(reason))
+        }
+        (Claim::ExpectedSignal(Some(due), _), Outcome::Signaled(got, _)) => {
+            Verdict::failed(Reason::Counted(Phrase::OtherSignal, due as u64, got as u64))
+        }
+        (Claim::ExpectedSignal(_, _), _) => belied(Phrase::NoSignal, ending),
+        (Claim::ExpectedTimeout(_), _) => belied(Phrase::NoTimeout, ending),
     }
 }

@@ -1,5 +1,5 @@
 ghost use Rattle.std.specs.Prelude.{◌≡◌, ◌++◌, codes};
-ghost use Rattle.kt_status.specs.Common.{phrase_text, tap_fault_text, tap_exited, tap_verdict, Counted};
+ghost use Rattle.kt_status.specs.Common.{phrase_text, tap_fault_text, tap_verdict};
 
 use kt_base::{Outcome, Phrase, Reason, Verdict};
 use kt_claim::{Tap, TapFault};
@@ -17,39 +17,25 @@ fn fault_phrase(fault: TapFault) -> Phrase
     }
 }
 
-/// The verdict on a TAP case.
+/// The verdict on a TAP case, by the first row that fits.
 pub fn tap_verdict(tap: Tap, ending: Outcome) -> Verdict
     ensures { result ≡ tap_verdict tap ending }
 {
-    match ending {
-        Outcome::WaitFailed => Verdict::broken(Reason::Fixed(Phrase::CaseNotWaitedFor)),
-        Outcome::TimedOut => Verdict::broken(Reason::Fixed(Phrase::CaseTimedOut)),
-        Outcome::Signaled(signal, _) => {
+    match (tap, ending) {
+        (_, Outcome::WaitFailed) => Verdict::broken(Reason::Fixed(Phrase::CaseNotWaitedFor)),
+        (_, Outcome::TimedOut) => Verdict::broken(Reason::Fixed(Phrase::CaseTimedOut)),
+        (_, Outcome::Signaled(signal, _)) => {
             Verdict::broken(Reason::Counted(Phrase::ReceivedSignal, signal as u64, 0))
         }
-        Outcome::Exited(code) => exited(tap, code),
-    }
-}
-
-fn exited(tap: Tap, code: u8) -> Verdict
-    ensures { result ≡ tap_exited tap code }
-{
-    match tap {
-        Tap::BailedOut => Verdict::failed(Reason::Fixed(Phrase::BailedOut)),
-        Tap::Invalid(fault) => Verdict::broken(Reason::Fixed(fault_phrase(fault))),
-        Tap::SkipAll(reason) => Verdict::skipped(Reason::Owned(reason)),
-        Tap::Counted(some, all) => counted(some, all, code),
-    }
-}
-
-fn counted(some: u64, all: u64, code: u8) -> Verdict
-    ensures { result ≡ tap_exited (Counted some all) code }
-{
-    if some > 0 {
-        Verdict::failed(Reason::Counted(Phrase::TestsFailed, some, all))
-    } else if code == 0 {
-        Verdict::passed()
-    } else {
-        Verdict::broken(Reason::Counted(Phrase::Dubious, code as u64, 0))
+        (Tap::BailedOut, _) => Verdict::failed(Reason::Fixed(Phrase::BailedOut)),
+        (Tap::Invalid(fault), _) => Verdict::broken(Reason::Fixed(fault_phrase(fault))),
+        (Tap::SkipAll(reason), _) => Verdict::skipped(Reason::Owned(reason)),
+        (Tap::Counted(some, all), _) if some > 0 => {
+            Verdict::failed(Reason::Counted(Phrase::TestsFailed, some, all))
+        }
+        (Tap::Counted(_, _), Outcome::Exited(0)) => Verdict::passed(),
+        (Tap::Counted(_, _), Outcome::Exited(code)) => {
+            Verdict::broken(Reason::Counted(Phrase::Dubious, code as u64, 0))
+        }
     }
 }

@@ -39,27 +39,6 @@ impl PartReader for TapReader {
     }
 }
 
-/// Counts a part, and returns how the reading ends if it was the last one.
-fn count_part(got: &mut u64, bytes: &Bytes, follows: bool, limit: u64) -> Option<ReadEnd>
-    requires { got.old < limit }
-    ensures end { result ≡ end_of limit got.old (FileRead.Part bytes.now follows) }
-    ensures more { IfNone result ((got.new ≡ got.old + length bytes.now) × (got.old < got.new)
-        × (got.new < limit)) }
-{
-    if !follows {
-        return Some(ReadEnd::Complete);
-    }
-    if bytes.is_empty() {
-        return Some(ReadEnd::Unreadable);
-    }
-    let count = bytes.len() as u64;
-    if count >= limit - *got {
-        return Some(ReadEnd::TooLong);
-    }
-    *got += count;
-    None
-}
-
 /// Asks for the next part and passes its bytes to the reader. Returns how the reading ends with it, if it does.
 fn read_next<O: Os, R: PartReader>(
     os: &mut O,
@@ -89,7 +68,18 @@ fn read_next<O: Os, R: PartReader>(
             if !bytes.is_empty() && reader.take(bytes.as_slice()).is_err() {
                 return Some(ReadEnd::Unreadable);
             }
-            count_part(got, &bytes, follows, limit)
+            if !follows {
+                return Some(ReadEnd::Complete);
+            }
+            if bytes.is_empty() {
+                return Some(ReadEnd::Unreadable);
+            }
+            let count = bytes.len() as u64;
+            if count >= room {
+                return Some(ReadEnd::TooLong);
+            }
+            *got += count;
+            None
         }
     }
 }

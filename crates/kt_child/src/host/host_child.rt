@@ -120,20 +120,6 @@ impl<P: OpenProcess + Drop> HostChild<P> {
         answer
     }
 
-    /// Sleeps while the answer `running` would come too early.
-    fn keep_pace<C: Clock>(&mut self, clock: &C) -> Result<(), OsFault>
-        ensures proceeds { Proceeds (stand_of self.old) (stand_of self.new) }
-        ensures pace { self.new.pace ≡ self.old.pace }
-    {
-        for _ in 0..SLICES {
-            if !self.pace.is_early(clock) || self.status()?.is_some() {
-                return Ok(());
-            }
-            thread::sleep(clock, Duration::from_millis(1));
-        }
-        Ok(())
-    }
-
     /// Whether it is heard late, at this time.
     pub(crate) fn is_late_at(&self, now: Instant) -> bool
         ensures { IsTrue result ↔ IsLateAt now self.now }
@@ -168,7 +154,13 @@ impl<P: OpenProcess + Drop> HostChild<P> {
             self.pace.count_answer();
             return Ok(None);
         }
-        self.keep_pace(clock)?;
+        // Sleeps while the answer `running` would come too early.
+        for _ in 0..SLICES {
+            if !self.pace.is_early(clock) || self.status()?.is_some() {
+                break;
+            }
+            thread::sleep(clock, Duration::from_millis(1));
+        }
         let status = self.status()?;
         if status.is_none() {
             self.pace.count_answer();

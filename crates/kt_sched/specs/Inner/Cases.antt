@@ -28,19 +28,6 @@ pub record Replaced (old new : List Case) (i : ℕ) (stage was : Stage) : Type 0
   pub found : slice_get old i ≡ Some (record { job = job; stage = was })
   pub changed : new ≡ slice_set old i (record { job = job; stage = stage })
 
--- whether a case declares a cleanup
-pub record Declares (cases : List Case) (i : ℕ) (flag : Bool) : Type 0 where
-  pub case : Case
-  pub found : slice_get cases i ≡ Some case
-  pub is : flag ≡ case.job.cleanup
-
--- position and names are kept
-pub record KeepsNames (old new : Job) : Type 0 where
-  pub position : new.position ≡ old.position
-  pub program : new.program ≡ old.program
-  pub case_name : new.case_name ≡ old.case_name
-  pub meta : new.meta ≡ old.meta
-
 -- the entry of a case was taken
 pub record TookEntry (old new : List Case) (i : ℕ) (entry : Entry) : Type 0 where
   pub had : Job

@@ -1,6 +1,6 @@
 use Rattle.std.proofs.Common.{◌≡◌}
 use Rattle.kt_child.proofs.Common.{Proceeds, stand_of}
-use Rattle.kt_child.proofs.host.host_child.HostChild.keep_pace.Given as goal
+use Rattle.kt_child.proofs.host.host_child.HostChild.poll.Given as goal
 
 abbrev pub invariant-loop : goal.invariant-loop
 invariant-loop g l =
