@@ -1,4 +1,4 @@
-ghost use Rattle.std.specs.Prelude.{◌≡◌, ◌≤◌, [], ◌∷◌, ◌++◌, ◌==◌, ◌&&◌, not, false, true, bytes_eq, length, IfOk, OnOk, MatchOption};
+ghost use Rattle.std.specs.Prelude.{◌≡◌, ◌≤◌, [], ◌∷◌, ◌++◌, ◌==◌, ◌&&◌, not, false, true, bytes_eq, length, IfOk, OnOk};
 ghost use Rattle.std.specs.List.{list_all};
 ghost use Rattle.kt_report.specs.Common.{prefix_len, chars, lossy, case_texts, with_outputs, escaped, escapes};
 
@@ -6,32 +6,22 @@ use crate::case_texts::CaseTexts;
 use kt_base::{Bytes, Entry, NoMemory, Output, Text, lossy};
 use std::alloc::Global;
 
-/// What XML writes for a character that doesn't stand for itself, in an attribute or in content.
-fn replacement(attribute: bool, c: char) -> Option<&'static str>
-    ensures { MatchOption result (escaped attribute c ≡ c ∷ [])
-        (λ words. escaped attribute c ≡ chars words.now) }
-{
-    match c {
-        '&' => Some("&amp;"),
-        '<' => Some("&lt;"),
-        '>' => Some("&gt;"),
-        '"' => Some("&quot;"),
-        '\r' => Some("&#13;"),
-        '\t' if attribute => Some("&#9;"),
-        '\n' if attribute => Some("&#10;"),
-        '\t' | '\n' => None,
-        _ if c < ' ' || c == '\u{fffe}' || c == '\u{ffff}' => Some("?"),
-        _ => None,
-    }
-}
-
-/// Appends a character as XML has it.
+/// Appends a character as XML has it, in an attribute or in content.
+#[tactic(auto, unfolding(crate::proofs::Common::chars))]
 fn push_escaped(text: &mut Text, attribute: bool, c: char) -> Result<(), NoMemory>
     ensures { OnOk result (text.new ≡ text.old ++ escaped attribute c) }
 {
-    match replacement(attribute, c) {
-        Some(words) => text.push_str(words),
-        None => text.push(c),
+    match c {
+        '&' => text.push_str("&amp;"),
+        '<' => text.push_str("&lt;"),
+        '>' => text.push_str("&gt;"),
+        '"' => text.push_str("&quot;"),
+        '\r' => text.push_str("&#13;"),
+        '\t' if attribute => text.push_str("&#9;"),
+        '\n' if attribute => text.push_str("&#10;"),
+        '\t' | '\n' => text.push(c),
+        _ if c < ' ' || c == '\u{fffe}' || c == '\u{ffff}' => text.push('?'),
+        _ => text.push(c),
     }
 }
 

@@ -10,13 +10,6 @@ use kt_base::{Decimal, Entry, Kind, Output, OutputFault, Run, Text, emit, emit_a
 use std::alloc::Global;
 use std::io::Write;
 
-fn write_message<W: Write>(opening: &[u8], reason: &Text, out: &mut W) -> Result<(), OutputFault>
-    ensures { Shows (W.contents out.old) (W.contents out.new) (is_err result)
-        (opening.now ++ utf8 reason.now ++ codes "\"/>\n") }
-{
-    emit_all(&[opening, reason.as_bytes(), b"\"/>\n"], out)
-}
-
 /// Writes the outcome of a case.
 fn write_result<W: Write>(kind: Kind, reason: &Text, out: &mut W) -> Result<(), OutputFault>
     ensures { Shows (W.contents out.old) (W.contents out.new) (is_err result)
@@ -25,8 +18,8 @@ fn write_result<W: Write>(kind: Kind, reason: &Text, out: &mut W) -> Result<(), 
     match kind {
         Kind::Passed | Kind::ExpectedFailure => Ok(()),
         Kind::Skipped => emit(b"<skipped/>\n", out),
-        Kind::Failed => write_message(b"<failure message=\"", reason, out),
-        Kind::Broken => write_message(b"<error message=\"", reason, out),
+        Kind::Failed => emit_all(&[b"<failure message=\"", reason.as_bytes(), b"\"/>\n"], out),
+        Kind::Broken => emit_all(&[b"<error message=\"", reason.as_bytes(), b"\"/>\n"], out),
     }
 }
 
