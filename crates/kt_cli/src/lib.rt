@@ -14,7 +14,7 @@ pub use host::host_machine::HostMachine;
 pub use host::host_world::HostWorld;
 pub use host::machine::Machine;
 pub use host::outside::Outside;
-pub use host::performing::{carry_out, perform};
+pub use host::performing::carry_out;
 pub use host::platform::Platform;
 pub use host::surroundings::Surroundings;
 pub use messages::{print_command_fault, print_driver_fault, print_store_fault};

@@ -1,7 +1,7 @@
 //! The lines that say what went wrong.
 
 ghost use Rattle.std.specs.Prelude.{◌≡◌, chars, is_err, slice_get};
-ghost use Rattle.kt_cli.specs.Common.{Shows, utf8, Concluded, fault_line, memory_line, refusal_line, run_line, Says, Printed, driver_line, command_text, command_exit, failure_exit, Refused, stop_exit, stop_line, warning_line, warning_at, warnings};
+ghost use Rattle.kt_cli.specs.Common.{Shows, utf8, Concluded, fault_line, memory_line, refusal_line, run_line, Says, Printed, driver_line, command_text, command_exit, failure_exit, Refused, stop_exit, stop_line, warning_at, warnings};
 
 use crate::Exit;
 use crate::output::exit::{FAILED, ended};
@@ -139,20 +139,6 @@ pub fn print_command_fault<O: Write>(fault: &CommandFault, out: &mut O) -> Exit
 }
 
 /// Warns of a filter that matches no case.
-fn write_warning<O: Write>(word: &Text, out: &mut O) -> Result<(), OutputFault>
-    ensures { Shows (O.contents out.old) (O.contents out.new) (is_err result)
-        (utf8 (warning_line word.now)) }
-{
-    emit_all(
-        &[
-            b"kyua: W: No test cases matched by the filter '",
-            word.as_bytes(),
-            b"'.\n",
-        ],
-        out,
-    )
-}
-
 fn write_warning_at<O: Write>(
     words: &[Text],
     position: usize,
@@ -163,26 +149,18 @@ fn write_warning_at<O: Write>(
 {
     match words.get(position) {
         None => Ok(()),
-        Some(word) => write_warning(word, out),
+        Some(word) => emit_all(
+            &[
+                b"kyua: W: No test cases matched by the filter '",
+                word.as_bytes(),
+                b"'.\n",
+            ],
+            out,
+        ),
     }
 }
 
-/// Warns of the filters at these positions, in order.
-fn write_warnings_at<O: Write>(
-    words: &[Text],
-    positions: &[usize],
-    out: &mut O,
-) -> Result<(), OutputFault>
-    ensures { Shows (O.contents out.old) (O.contents out.new) (is_err result)
-        (utf8 (warnings words.now positions.now)) }
-{
-    for position in positions {
-        write_warning_at(words, *position, out)?;
-    }
-    Ok(())
-}
-
-/// Warns of the filters that select no case, by their words as they were given.
+/// Warns of the filters that select no case, in order, by their words as they were given.
 pub fn write_warnings<O: Write>(
     options: &CaseOptions,
     chosen: &Chosen,
@@ -191,5 +169,9 @@ pub fn write_warnings<O: Write>(
     ensures { Shows (O.contents out.old) (O.contents out.new) (is_err result)
         (utf8 (warnings options.now.filters chosen.now.unmatched)) }
 {
-    write_warnings_at(options.filters.as_slice(), chosen.unmatched.as_slice(), out)
+    let words = options.filters.as_slice();
+    for position in chosen.unmatched.as_slice() {
+        write_warning_at(words, *position, out)?;
+    }
+    Ok(())
 }

@@ -1,4 +1,4 @@
-ghost use Rattle.std.specs.Prelude.{◌≡◌, ◌==◌, if◌then◌else◌, is_err};
+ghost use Rattle.std.specs.Prelude.{is_err};
 ghost use Rattle.kt_cli.specs.Common.{IsIdle, IsPlan, Debugged, AsksOnly};
 ghost use Rattle.kt_words.specs.declared.command.Command.TheVariants as command;
 
@@ -37,14 +37,8 @@ fn print_cases<L: Launcher, O: Write>(
     (answer, printer.written)
 }
 
-/// The status of `debug`: 0 if its case is good, else 1.
-fn status_of_case(bad: u64) -> u8
-    ensures { result ≡ (if bad == 0 then 0 else 1) }
-{
-    if bad == 0 { 0 } else { 1 }
-}
-
-/// The command `debug`: only the first selected case runs, and nothing is recorded.
+/// The command `debug`: only the first selected case runs, and nothing is recorded. The status is 0 if that case is good,
+/// else 1.
 pub fn debug<W: World, O: Write>(
     alloc: Global,
     options: &CaseOptions,
@@ -70,7 +64,7 @@ pub fn debug<W: World, O: Write>(
     };
     let (answer, written) = print_cases(alloc, plan, world, out);
     match answer {
-        Ok(totals) => ended(written, status_of_case(totals.bad)),
+        Ok(totals) => ended(written, if totals.bad == 0 { 0 } else { 1 }),
         Err(fault) => ended(write_run_fault(written, fault, out), FAILED),
     }
 }

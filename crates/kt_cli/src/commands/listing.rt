@@ -1,27 +1,15 @@
-ghost use Rattle.std.specs.Prelude.{flat_map, is_err};
-ghost use Rattle.kt_cli.specs.Common.{Shows, utf8, IsIdle, case_line, listing, AsksOnly};
+ghost use Rattle.std.specs.Prelude.{is_err};
+ghost use Rattle.kt_cli.specs.Common.{Shows, IsIdle, listing, AsksOnly};
 ghost use Rattle.kt_words.specs.declared.command.Command.TheVariants as command;
 
 use crate::Exit;
 use crate::messages::{stopped, write_warnings};
 use crate::output::exit::{ended, status_of};
 use kt_base::{OutputFault, emit_all};
-use kt_plan::{Candidate, Chosen, World, select_cases};
+use kt_plan::{Chosen, World, select_cases};
 use kt_words::CaseOptions;
 use std::alloc::Global;
 use std::io::Write;
-
-/// Writes the lines of cases.
-fn write_cases<O: Write>(cases: &[Candidate], out: &mut O) -> Result<(), OutputFault>
-    ensures { Shows (O.contents out.old) (O.contents out.new) (is_err result)
-        (utf8 (flat_map case_line cases.now)) }
-{
-    for case in cases {
-        let name = case.case.name.as_bytes();
-        emit_all(&[case.path.as_bytes(), b":", name, b"\n"], out)?;
-    }
-    Ok(())
-}
 
 /// Writes the lines of the selected cases, and warns of the filters that select none.
 fn write_listing<O: Write>(
@@ -32,7 +20,10 @@ fn write_listing<O: Write>(
     ensures { Shows (O.contents out.old) (O.contents out.new) (is_err result)
         (listing options.now.filters chosen.now) }
 {
-    write_cases(chosen.cases.as_slice(), out)?;
+    for case in chosen.cases.as_slice() {
+        let name = case.case.name.as_bytes();
+        emit_all(&[case.path.as_bytes(), b":", name, b"\n"], out)?;
+    }
     write_warnings(options, chosen, out)
 }
 

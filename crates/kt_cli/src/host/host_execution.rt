@@ -1,5 +1,5 @@
 ghost use Rattle.std.specs.Prelude.{◌≡◌, IfOk, IfErr, OnErr};
-ghost use Rattle.kt_cli.specs.Common.{chars, IsIdle, is_among, shown_in, IsMade, NoDriver, NoRoot, OnDriver, absolute, source_directory, scene};
+ghost use Rattle.kt_cli.specs.Common.{chars, IsIdle, is_among, shown_in, IsMade, NoDriver, NoRoot, OnDriver, source_directory, scene};
 
 use crate::{Exit, HostWorld, Machine, Outside, Surroundings, execute};
 use kt_base::{NoMemory, Text, is_absolute};
@@ -10,24 +10,16 @@ use kt_words::{CaseOptions, Command};
 use std::alloc::Global;
 use std::io::Write;
 
-/// A path, seen from a directory.
-fn absolute(alloc: Global, here: &str, path: &Text) -> Result<Text, NoMemory>
-    ensures { IfOk result (λ whole. whole ≡ absolute (chars here.now) path.now) }
-{
-    if is_absolute(path.as_str()) {
-        return Ok(path.copy()?);
-    }
-    let mut whole = Text::from_str(alloc, here)?;
-    whole.push('/')?;
-    whole.push_str(path.as_str())?;
-    Ok(whole)
-}
-
 /// The absolute directory of a Kyuafile, without a slash at its end. `here` is the absolute working directory.
 pub fn source_of(alloc: Global, here: &str, kyuafile: &Text) -> Result<Text, NoMemory>
     ensures { IfOk result (λ source. source ≡ source_directory (chars here.now) kyuafile.now) }
 {
-    let path = absolute(alloc, here, kyuafile)?;
+    if is_absolute(kyuafile.as_str()) {
+        return parent_path(alloc, kyuafile);
+    }
+    let mut path = Text::from_str(alloc, here)?;
+    path.push('/')?;
+    path.push_str(kyuafile.as_str())?;
     parent_path(alloc, &path)
 }
 

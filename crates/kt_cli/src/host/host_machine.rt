@@ -42,21 +42,15 @@ fn may_execute(mode: u32) -> bool
     mode & EXECUTE_RIGHTS != 0
 }
 
-/// Whether a path is that of a regular file.
-fn is_regular<R: Files>(rt: &R, path: &str) -> Result<bool, ReadFault> {
-    match fs::metadata(rt, path) {
-        Ok(metadata) => Ok(metadata.is_file()),
-        Err(error) => Err(fault_of(error)),
-    }
-}
-
 impl<R: Files<File = File> + Clock + AllocGlobal> Machine for HostMachine<'_, R> {
     // Nothing is known of what the host answers but what the trait asks for.
     ghost answers = { λ _ _ _. Unit {0} };
 
     fn front(&mut self, path: &str) -> Result<Bytes, ReadFault> {
-        if !is_regular(self.rt, path)? {
-            return Err(ReadFault::Failed);
+        match fs::metadata(self.rt, path) {
+            Ok(metadata) if metadata.is_file() => {}
+            Ok(_) => return Err(ReadFault::Failed),
+            Err(error) => return Err(fault_of(error)),
         }
         match File::open(self.rt, path) {
             Ok(mut file) => read_start(self.rt.alloc(), &mut file, READ_LIMIT),
@@ -65,7 +59,10 @@ impl<R: Files<File = File> + Clock + AllocGlobal> Machine for HostMachine<'_, R>
     }
 
     fn is_file(&mut self, path: &str) -> bool {
-        matches!(is_regular(self.rt, path), Ok(true))
+        match fs::metadata(self.rt, path) {
+            Ok(metadata) => metadata.is_file(),
+            Err(_) => false,
+        }
     }
 
     fn is_there(&mut self, path: &str) -> bool {

@@ -1,5 +1,5 @@
 ghost use Rattle.std.specs.Prelude.{◌≡◌};
-ghost use Rattle.kt_cli.specs.Common.{access_of, given_bytes, line_state, CarriedOut, DoneIn, DoneOver, Performed, program, scene, state, Rejected};
+ghost use Rattle.kt_cli.specs.Common.{access_of, given_bytes, line_state, CarriedOut, DoneIn, DoneOver, program, scene, state, Rejected};
 
 use crate::commands::reporting::{report, report_junit};
 use crate::host::host_execution::execute_over_cases;
@@ -87,31 +87,6 @@ fn perform_in_file<M: Machine + Drop, O: Os + Drop, P: Platform, W: Write>(
     (with_closed(exit, closed, out), outside)
 }
 
-/// Performs a command of the program: over this machine, this system and the results that the platform opens and
-/// closes, or, for `list` and `debug`, over an empty store in memory. At its end all its text is handed on.
-pub fn perform<M: Machine + Drop, O: Os + Drop, P: Platform, W: Write>(
-    outside: Outside<M, O>,
-    platform: &mut P,
-    command: &Command,
-    out: &mut LineOutput<W>,
-) -> (Exit, Outside<M, O>)
-    ensures { Performed (program M.Machine O.Os P.Platform P.Results.Keeping) command.now
-        (state platform.old outside) (state platform.new result.1)
-        (given_bytes W.contents out.old) (line_state W.contents out.new) result.0.status }
-{
-    match command.results() {
-        Some(file) => {
-            let (exit, outside) = perform_in_file(outside, platform, command, file, out);
-            (out.finish(exit), outside)
-        }
-        None => {
-            let mut results = MemRuns::new(outside.alloc);
-            let (exit, outside) = perform_over(outside, platform, command, &mut results, out);
-            (out.finish(exit), outside)
-        }
-    }
-}
-
 /// Prints on standard error why the arguments are no command; an out-of-memory error goes to standard
 /// output, as every other message.
 fn reject<W: Write, E: Write>(fault: &CommandFault, out: &mut LineOutput<W>, errors: &mut E) -> Exit
@@ -129,8 +104,9 @@ fn reject<W: Write, E: Write>(fault: &CommandFault, out: &mut LineOutput<W>, err
     }
 }
 
-/// Carries out a command line: performs its command, or prints why it is none. Returns what is outside, as the calls
-/// left it.
+/// Carries out a command line: performs its command, or prints why it is none. A command is performed over this machine,
+/// this system and the results that the platform opens and closes, or, for `list` and `debug`, over an empty store in
+/// memory. At its end all its text is handed on. Returns what is outside, as the calls left it.
 pub fn carry_out<M: Machine + Drop, O: Os + Drop, P: Platform, W: Write, E: Write>(
     outside: Outside<M, O>,
     platform: &mut P,
@@ -144,8 +120,16 @@ pub fn carry_out<M: Machine + Drop, O: Os + Drop, P: Platform, W: Write, E: Writ
         (record { out = line_state W.contents out.new; errors = E.contents errors.new })
         result.0.status }
 {
-    match command {
-        Ok(command) => perform(outside, platform, &command, out),
-        Err(fault) => (reject(&fault, out, errors), outside),
-    }
+    let command = match command {
+        Ok(command) => command,
+        Err(fault) => return (reject(&fault, out, errors), outside),
+    };
+    let (exit, outside) = match command.results() {
+        Some(file) => perform_in_file(outside, platform, &command, file, out),
+        None => {
+            let mut results = MemRuns::new(outside.alloc);
+            perform_over(outside, platform, &command, &mut results, out)
+        }
+    };
+    (out.finish(exit), outside)
 }

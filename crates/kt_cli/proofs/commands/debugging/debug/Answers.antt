@@ -29,7 +29,7 @@ returns-in-Ok-answer-clause-asked g c =
     let e : c.print_cases-answer.result.0 ≡ Ok c.in-Ok-answer.totals = search rules in
     debug_only (world_of g.W.Tree g.W.Launcher g.W.World) c.args.options.now _ _ _ _ _ _ _ c.in-Ok.picked c.in-Some._first.now c.in-Some._others.now
     c.as_slice-cases.result.now _ c.in-Ok-prepare.plan _ c.in-Ok-answer.totals _ c.in-Ok.ensures.selects (search rules) (search rules) refl
-    c.in-Ok-prepare.ensures.planned (rw e at c.print_cases-answer.ensures.debugged) c.status_of_case.ensures c.ended-in-Ok-answer.ensures
+    c.in-Ok-prepare.ensures.planned (rw e at c.print_cases-answer.ensures.debugged) (search rules) c.ended-in-Ok-answer.ensures
 
 pub returns-clause-asked : goal.returns-clause-asked
 returns-clause-asked g c =
