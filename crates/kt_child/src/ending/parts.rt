@@ -39,7 +39,7 @@ impl PartReader for TapReader {
     }
 }
 
-/// Asks for the next part and passes its bytes to the reader. Returns how the reading ends with it, if it does.
+/// Asks for the next part, passes its bytes to the reader and counts them. Returns how the reading ends with it, if it does.
 fn read_next<O: Os, R: PartReader>(
     os: &mut O,
     path: &Text,
