@@ -20,7 +20,7 @@ pub use Rattle.kt_child.specs.Driving.Runs.{EndsFollow, RunsFrom}
 pub use Rattle.kt_child.specs.Driving.Starting.{Begun, SetUp, SetUpIn, SetUpNew, Started, Tried, cause_of, child_asks, furnish_asks, spawn_ask, spawned}
 pub use Rattle.kt_child.specs.Ending.Ends.{Leaves, Removes, err_of, is_over, out_of}
 pub use Rattle.kt_child.specs.Ending.Gathering.{Gathers, ReadsClaim, ReadsTap}
-pub use Rattle.kt_child.specs.Ending.Parts.{IsEnd, Reads, end_of, next_part}
+pub use Rattle.kt_child.specs.Ending.Parts.{IsEnd, Reads, next_part}
 pub use Rattle.kt_child.specs.Ending.Reads.{IsListWithin, IsReadWithin, bytes_of, list_of}
 pub use Rattle.kt_child.specs.Host.HostAnswers.{HostLeads, IsFront, IsHostRead, IsOpened, IsPolledOf, TakesAtMost, limit_after}
 pub use Rattle.kt_child.specs.Host.HostStands.{AllProceed, AllStay, IsLastEnd, OthersStay, Proceeds, stand_in, stand_of}

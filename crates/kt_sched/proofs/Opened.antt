@@ -1,9 +1,8 @@
 -- a decided case becomes ready, and an answer to a put
-use Rattle.kt_sched.proofs.Common.{◌==◌, ◌<◌, nat_lt, nat_tests, if◌then◌else◌, not, slice_get, Option, Some, None, filter, is_some, ◌≡◌, ℕ, ◌+◌, after_put, Bool, true, false, List, ◌∷◌, refl, sym, ◌∙◌, ap, subst, arith, inl, inr, append-nil, cases_eq, Judged, Job, Stage, Decided, Case, CaseRecord, of, active, turns, is_open, Fed, has_failed, SchedState, Stands, IsStage, HasRecord, HasTurn, HasDecided, AreGone, is_decided, is_undecided, decided_record, record_in, positions, opened, slice_get_within, ◌≤◌, ◌++◌, length, drop, recorded, option_to_list, option_map}
+use Rattle.kt_sched.proofs.Common.{◌==◌, ◌<◌, nat_lt, nat_tests, if◌then◌else◌, not, get_or, slice_get, Option, Some, None, filter, is_some, ◌≡◌, ℕ, ◌+◌, after_put, Bool, true, false, List, ◌∷◌, refl, sym, ◌∙◌, ap, subst, arith, inl, inr, append-nil, cases_eq, Judged, Job, Stage, Decided, Case, CaseRecord, of, active, turns, is_open, Fed, has_failed, SchedState, Stands, IsStage, HasRecord, HasTurn, AreGone, is_decided, is_undecided, decided_record, record_in, positions, opened, slice_get_within, ◌≤◌, ◌++◌, length, drop, recorded, option_to_list, option_map}
 use Rattle.kt_sched.specs.declared.next.Next.TheVariants as next
 use Rattle.kt_sched.proofs.Lists.{slice_get-drop, drop_at, take_filter}
-use Rattle.kt_sched.proofs.Stages.{decided_stage}
-use Rattle.kt_sched.proofs.Located.{AtTurn, decided_is, has_turn, active_is, one_place, asked_as}
+use Rattle.kt_sched.proofs.Located.{AtTurn, has_turn, turn_found, active_is, one_place, asked_as}
 use Rattle.kt_sched.proofs.Upcoming.{exclusive_needs_none}
 use Rattle.kt_sched.proofs.Decided.{open_here}
 use Rattle.std.proofs.lemmas.Option.{same_Some}
@@ -15,14 +14,15 @@ record_there (Some v) e = (decided_record v, refl)
 room_at : (a n : ℕ) (exclusive : Bool) → a < n → (exclusive ≡ true → a ≡ 0) → (if exclusive then a == 0 else nat_lt a n) ≡ true
 room_at a n exclusive l f = grind (arith, nat_tests, f)
 
-module _ {plan : List Job} {n : ℕ} {fed : Fed} {b : SchedState} {i : ℕ} (h : Stands plan n fed b) (t : HasTurn b i) (d : HasDecided b.cases i true) where
+module _ {plan : List Job} {n : ℕ} {fed : Fed} {b : SchedState} {i : ℕ} (h : Stands plan n fed b) (t : HasTurn b i) {case : Case}
+    (at : case ≡ get_or b.cases i case) (is : case.stage ≡ Decided) where
   -- the decided case whose turn it is is open
   a : AtTurn plan fed b i
   a = has_turn h i t.1
 
   ripe : (a.case.stage ≡ Decided) × (is_decided a.job ≡ true) × (is_open plan n fed.trace a.job ≡ true)
   ripe =
-      let z = decided_stage a.case.stage (decided_is a d) in
+      let z = ap (λ (c : Case). c.stage) (same_Some a.case case (sym a.found ∙ turn_found h i case t.1 at)) ∙ is in
       let P : Stage → Type 0 = λ x. IsStage i a.job x (of i fed.trace) in
       let s = subst P z a.stage in
       let l : active plan fed.trace < n = omega (arith, t.2, h.cases.width_is, active_is h) in

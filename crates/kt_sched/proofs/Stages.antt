@@ -75,10 +75,6 @@ pub waiting_stage : (stage : Stage) → is_fresh stage ≡ true → is_decided_s
 waiting_stage Waiting e f = refl
 waiting_stage stage e f = absurd (cc)
 
-pub decided_stage : (stage : Stage) → is_decided_stage stage ≡ true → stage ≡ Decided
-decided_stage Decided e = refl
-decided_stage stage e = absurd (cc)
-
 pub over_stage : (stage : Stage) → stage ≢ Waiting → is_active_stage stage ≡ false → is_over stage ≡ true
 over_stage Waiting w e = absurd (w refl)
 over_stage (Running m) w e = absurd (cc)

@@ -14,7 +14,6 @@ use Rattle.std.proofs.lemmas.Option.{same_Some}
 pub record StartFits (b : SchedState) (role : Role) (was : Stage) : Type 0 where
   pub can : can_start role was ≡ true
   pub ran : is_active_stage was ≡ same_role role Cleanup
-  pub more : role ≡ Body → b.active < b.width
   pub turn : role ≡ Body → b.turn < length b.order
 
 -- the case that an index gives
@@ -27,11 +26,11 @@ module _ {plan : List Job} {n : ℕ} {fed : Fed} {b : SchedState} (h : Stands pl
       let k = asked_as h (next.Start i Body) q in
       let u = upcoming h i k.0 k.3 k.2 in
       let w : case.stage ≡ Waiting = ap (λ (c : Case). c.stage) (same_Some case u.0.case (sym g ∙ u.0.found)) ∙ u.1 in
-      record { can = ap (can_start Body) w; ran = ap is_active_stage w; more = λ y. k.2.2; turn = λ y. slice_get_within b.order b.turn i k.2.1 }
+      record { can = ap (can_start Body) w; ran = ap is_active_stage w; turn = λ y. slice_get_within b.order b.turn i k.2.1 }
   fits i Cleanup case q g =
       let o = owes h i (asked_as h (next.Start i Cleanup) q).1 in
       let w : case.stage ≡ Owing o.1 = ap (λ (c : Case). c.stage) (same_Some case _ (sym g ∙ o.2)) in
-      record { can = ap (can_start Cleanup) w; ran = ap is_active_stage w; more = λ y. absurd (cc (y)); turn = λ y. absurd (cc (y)) }
+      record { can = ap (can_start Cleanup) w; ran = ap is_active_stage w; turn = λ y. absurd (cc (y)) }
 
   none_owed : {i : ℕ} → b.pending ≡ None → OwedBy i b.pending
   none_owed e j d = ap (λ (o : Option ℕ). is_owed o j) e

@@ -9,7 +9,7 @@ pub use Rattle.kt_sched.specs.Inner.Choice.{IsChosen, IsTurn}
 pub use Rattle.kt_sched.specs.Next.{Follows, IsNext}
 pub use Rattle.kt_sched.specs.Plan.{IsPlan, IsWidth}
 pub use Rattle.kt_sched.specs.Run.{Ran}
-pub use Rattle.kt_sched.specs.SchedState.{CanLend, HasRecord, Implies, IsAnswer, IsSettled, SchedState, Stands, Takes, Works, decided_record, is_active_stage, positions, record_in, work}
+pub use Rattle.kt_sched.specs.SchedState.{CanLend, HasRecord, Implies, IsAnswer, IsSettled, SchedState, Stands, Takes, Works, decided_record, is_active_stage, positions, work}
 pub use Rattle.kt_sched.specs.Trace.{End, Start}
 pub use Rattle.kt_sched.specs.TurnOrder.{turns}
 pub use Rattle.kt_sched.specs.declared.stage.Case.{Case}

@@ -36,6 +36,7 @@ pub fn atf_verdict(claim: Claim, ending: Outcome) -> Verdict
             Verdict::expected_failure(Reason::Owned(reason))
         }
         (_, Outcome::TimedOut) => Verdict::broken(Reason::Fixed(Phrase::BodyTimedOut)),
+        // The body ended by itself.
         (Claim::Missing, _) => belied(Phrase::PrematureExit, ending),
         (Claim::Unreadable, _) => Verdict::broken(Reason::Fixed(Phrase::ResultsUnreadable)),
         (Claim::Malformed(fault), _) => Verdict::broken(Reason::Fixed(fault_phrase(fault))),

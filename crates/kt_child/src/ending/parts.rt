@@ -1,9 +1,9 @@
 ghost use Rattle.std.specs.Prelude.{◌≡◌, ℕ, ◌+◌, ◌<◌, List, [], Result, Some, length, Ok, IfNone, OnOk};
-ghost use Rattle.kt_child.specs.Common.{FileRead, OsFault, Chain, Call, bytes_of, TakesBytes, IsEnd, Reads, end_of, next_part};
+ghost use Rattle.kt_child.specs.Common.{FileRead, OsFault, Chain, Call, bytes_of, TakesBytes, IsEnd, Reads, next_part};
 
 use crate::ending::ReadEnd;
 use crate::{FileRead, Os};
-use kt_base::{Bytes, NoMemory, Text};
+use kt_base::{NoMemory, Text};
 use kt_claim::{ClaimReader, TapReader};
 
 /// What takes the bytes of a file part by part.
@@ -39,7 +39,7 @@ impl PartReader for TapReader {
     }
 }
 
-/// Asks for the next part and passes its bytes to the reader. Returns how the reading ends with it, if it does.
+/// Asks for the next part, passes its bytes to the reader and counts them. Returns how the reading ends with it, if it does.
 fn read_next<O: Os, R: PartReader>(
     os: &mut O,
     path: &Text,

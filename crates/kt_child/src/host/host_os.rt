@@ -1,4 +1,3 @@
-ghost use Rattle.std.specs.Prelude.{◌≡◌, ◌==◌, ◌/◌, ◌%◌};
 ghost use Rattle.kt_child.specs.Common.{status_bits, IsPolledOf};
 
 use crate::host::children::Children;
@@ -44,13 +43,6 @@ pub struct HostOs<R: Processes> {
     late: Option<bool>,
 }
 
-/// Whether a wait status reports a core dump.
-fn has_core(status: ExitStatus) -> bool
-    ensures { result ≡ (status_bits status / 128 % 2 == 1) }
-{
-    status.into_raw().cast_unsigned() / 128 % 2 == 1
-}
-
 /// How a child ended. A status that is neither an exit nor a signal is a fault.
 fn polled(status: ExitStatus) -> Result<Polled, OsFault>
     ensures { IsPolledOf (status_bits status) result }
@@ -61,7 +53,9 @@ fn polled(status: ExitStatus) -> Result<Polled, OsFault>
     }
     if let Some(signal) = status.signal() {
         let signal = u8::try_from(signal).or(Err(OsFault::Failed))?;
-        return Ok(Polled::Signaled(signal, has_core(status)));
+        // The bit of a wait status that reports a core dump.
+        let core = status.into_raw().cast_unsigned() / 128 % 2 == 1;
+        return Ok(Polled::Signaled(signal, core));
     }
     Err(OsFault::Failed)
 }

@@ -1,5 +1,5 @@
 use Rattle.std.proofs.Common.{rules}
-use Rattle.kt_sched.proofs.Common.{sym, ◌∙◌, ap, subst, true, false, SchedState, Stands, HasDecided, HasRecord, HasTurn, is_decided_stage}
+use Rattle.kt_sched.proofs.Common.{sym, ◌∙◌, subst, false, SchedState, Stands, HasDecided, HasRecord, HasTurn}
 use Rattle.kt_sched.proofs.Located.{start_within, turn_found}
 use Rattle.kt_sched.proofs.Opened.{record_now, stands_opened}
 use Rattle.kt_sched.proofs.Stages.{not_decided}
@@ -22,8 +22,7 @@ returns-in_default-stage-clause-settled c = λ e j u.
 pub returns-clause-stands : goal.returns-clause-stands
 returns-clause-stands c = λ plan n fed h.
     let t = subst (λ (b : SchedState). HasTurn b c.in-Some.i) (sym c.self.view_is) c.in-Some.ensures in
-    let d : HasDecided c.self.inside.cases.items c.in-Some.i true = (_, turn_found c.self.invariant.3 c.in-Some.i c.index.result.now t.1 c.index.ensures, ap is_decided_stage c.in-Decided.is) in
-    stands_opened (subst (Stands plan n fed) (sym c.self.view_is) h) t d c.in-None.is
+    stands_opened (subst (Stands plan n fed) (sym c.self.view_is) h) t c.index.ensures c.in-Decided.is c.in-None.is
 
 pub invariant_of-self : goal.invariant_of-self
 invariant_of-self c =
@@ -32,5 +31,4 @@ invariant_of-self c =
 pub returns-clause-has_record : goal.returns-clause-has_record
 returns-clause-has_record c = λ q k e.
     let t = subst (λ (b : SchedState). HasTurn b c.in-Some.i) (sym c.self.view_is) c.in-Some.ensures in
-    let d : HasDecided c.self.inside.cases.items c.in-Some.i true = (_, turn_found c.self.invariant.3 c.in-Some.i c.index.result.now t.1 c.index.ensures, ap is_decided_stage c.in-Decided.is) in
-    subst (HasRecord c.self.inside.cases.items) (same_Some c.in-Some.i k e) (record_now c.self.invariant.3 t d)
+    subst (HasRecord c.self.inside.cases.items) (same_Some c.in-Some.i k e) (record_now c.self.invariant.3 t c.index.ensures c.in-Decided.is)
