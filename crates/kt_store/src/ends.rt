@@ -13,8 +13,9 @@ use crate::places::Places;
 use crate::seeks::{entries_at, pairs_at, stored_head};
 use crate::store_fault::Trouble;
 use crate::store_fault::trees::{
-    Table, add_number, are_shaped, columns_of, count_under, next_row, number_row, sure,
+    Table, are_shaped, columns_of, count_under, next_row, number_row, sure,
 };
+use crate::value::int;
 use kt_base::{Entry, NoMemory};
 use sqlite_trees::store::{Direction, Shape, Store};
 use sqlite_value::keys::Order;
@@ -81,7 +82,7 @@ pub(crate) fn entry_place(alloc: Global, run: u32, position: u32) -> Result<Row,
     ensures { IfOk result (λ place. place ≡ Int (pos run) ∷ Int (pos position) ∷ []) }
 {
     let mut place = number_row(alloc, run)?;
-    add_number(&mut place, position)?;
+    place.push(int(u64::from(position)))?;
     Ok(place)
 }
 

@@ -6,8 +6,8 @@ use crate::heads::add;
 use crate::lookup::{key, look};
 use crate::outlines::{entry_in, pairs_in};
 use crate::store_fault::Trouble;
-use crate::store_fault::statements::query;
-use crate::value::{int, small_in};
+use crate::store_fault::statements::{query, value_in};
+use crate::value::int;
 use kt_base::Entry;
 use sqlite::{Alter, Connection, Row};
 use std::alloc::Global;
@@ -62,7 +62,7 @@ fn entry_of<S: Alter>(
         → IfOk result (λ x. x ≡ e)) }
     ensures looked { Looked S.Store conn.old conn.new }
 {
-    let position = small_in(row, 0)?;
+    let position = value_in::<u32>(row, 0)?;
     let pairs = pair_rows(conn, run, position)?;
     let meta = pairs_in(alloc, &pairs)?;
     entry_in(alloc, row, meta)

@@ -4,8 +4,7 @@ ghost use Rattle.kt_base.specs.declared.entry.Run.{Run as Stored};
 
 use crate::RunHead;
 use crate::store_fault::Trouble;
-use crate::store_fault::statements::query;
-use crate::value::{number_in, small_in};
+use crate::store_fault::statements::{query, value_in};
 use kt_base::NoMemory;
 use sqlite::{Alter, Connection, Row};
 use std::alloc::Global;
@@ -23,10 +22,10 @@ pub(crate) fn head_in(row: &Row) -> Result<RunHead, Trouble>
     requires { 4 ≤ length row.now }
     ensures head { (r : Stored) → row.now ≡ head_columns r → IfOk result (λ h. h ≡ head_of r) }
 {
-    let number = number_in(row, 0)?;
-    let started = number_in(row, 1)?;
-    let total = small_in(row, 2)?;
-    let finished = number_in(row, 3)?;
+    let number = value_in::<u64>(row, 0)?;
+    let started = value_in::<u64>(row, 1)?;
+    let total = value_in::<u32>(row, 2)?;
+    let finished = value_in::<u64>(row, 3)?;
     Ok(RunHead {
         number,
         started,

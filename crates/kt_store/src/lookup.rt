@@ -3,8 +3,8 @@ ghost use Rattle.kt_store.specs.Common.{OnRuns, last_run, IsStoreFault, Looked, 
 
 use crate::StoreFault;
 use crate::store_fault::Trouble;
-use crate::store_fault::statements::{has_rows, query};
-use crate::value::{int, number_in};
+use crate::store_fault::statements::{has_rows, query, value_in};
+use crate::value::int;
 use sqlite::{Alter, Connection};
 
 /// How many runs this profile keeps.
@@ -30,8 +30,8 @@ pub(crate) fn find<S: Alter>(
     let Some(row) = rows.first() else {
         return Ok(None);
     };
-    let total = number_in(row, 0)?;
-    let finished = number_in(row, 1)?;
+    let total = value_in::<u64>(row, 0)?;
+    let finished = value_in::<u64>(row, 1)?;
     Ok(Some((total, finished)))
 }
 

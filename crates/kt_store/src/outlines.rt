@@ -1,7 +1,6 @@
-ghost use Rattle.std.specs.Prelude.{◌≡◌, ◌<◌, ◌≤◌, pos, ℕ, length, map, List, ◌++◌, IfOk};
-ghost use Rattle.kt_store.specs.Common.{utf8, AllByRecursion, AreWide, Blob, Int, column, no_output, IsEntry, IsPair, IsText, entry_columns, kind_code, outlined, pair_columns, whole_columns};
+ghost use Rattle.std.specs.Prelude.{◌≡◌, ◌<◌, ◌≤◌, ℕ, length, map, List, ◌++◌, IfOk};
+ghost use Rattle.kt_store.specs.Common.{utf8, AllByRecursion, AreWide, Blob, column, no_output, IsEntry, IsPair, IsText, entry_columns, outlined, pair_columns, whole_columns};
 ghost use Rattle.kt_base.specs.declared.entry.Entry.{Entry as Stored};
-ghost use Rattle.kt_base.specs.declared.verdict.Kind.{Kind as Sort};
 ghost use Rattle.sqlite_value.specs.declared.value.Value.TheVariants.{Text as Words};
 ghost use Rattle.kt_base.specs.declared.entry.Output.{Output as Pair};
 ghost use Rattle.kt_base.specs.declared.variable.Variable.{Variable as StoredPair};
@@ -11,8 +10,8 @@ use crate::heads::add;
 use crate::store_fault::Trouble;
 use crate::store_fault::statements::value_in;
 use crate::store_fault::trees::present;
-use crate::value::{kind_of, number_in, small_in};
-use kt_base::{Bytes, Entry, Kind, Output, Text, Variable, Variables, Verdict};
+use crate::value::kind_of;
+use kt_base::{Bytes, Entry, Output, Text, Variable, Variables, Verdict};
 use sqlite::Row;
 use std::alloc::Global;
 
@@ -23,16 +22,6 @@ fn text_in(row: &Row, at: usize) -> Result<Text, Trouble>
 {
     let string = value_in::<String>(row, at)?;
     Ok(Text::from_string(string))
-}
-
-/// The kind in a row.
-fn kind_in(row: &Row, at: usize) -> Result<Kind, Trouble>
-    requires { at < length row.now }
-    ensures kind { (k : Sort) → column row.now at ≡ Int (pos (kind_code k))
-        → IfOk result (λ x. x ≡ k) }
-{
-    let code = number_in(row, at)?;
-    present(kind_of(code))
 }
 
 /// The pair in a row.
@@ -93,10 +82,11 @@ fn bare_in(alloc: Global, row: &Row) -> Result<Entry, Trouble>
     ensures { (e : Stored) (more : Values) → IsEntry e → row.now ≡ entry_columns e ++ more
         → IfOk result (λ x. x ≡ outlined e) }
 {
-    let position = small_in(row, 0)?;
-    let kind = kind_in(row, 3)?;
-    let started = number_in(row, 5)?;
-    let millis = number_in(row, 6)?;
+    let position = value_in::<u32>(row, 0)?;
+    let code = value_in::<u64>(row, 3)?;
+    let kind = present(kind_of(code))?;
+    let started = value_in::<u64>(row, 5)?;
+    let millis = value_in::<u64>(row, 6)?;
     let program = text_in(row, 1)?;
     let case_name = text_in(row, 2)?;
     let reason = text_in(row, 4)?;

@@ -1,12 +1,9 @@
-ghost use Rattle.std.specs.Prelude.{◌≡◌, ◌<◌, ◌^◌, Some, pos, length, IfOk};
+ghost use Rattle.std.specs.Prelude.{◌≡◌, ◌<◌, ◌^◌, Some, pos};
 ghost use Rattle.kt_base.specs.declared.verdict.Kind.{Kind as Sort};
-ghost use Rattle.kt_store.specs.Common.{utf8, owned, Int, Blob, IsText, column, kind_code};
+ghost use Rattle.kt_store.specs.Common.{utf8, owned, Int, Blob, IsText, kind_code};
 ghost use Rattle.sqlite_value.specs.declared.value.Value.TheVariants.{Text as Words};
 
-use crate::store_fault::Trouble;
-use crate::store_fault::statements::value_in;
 use kt_base::{Bytes, Kind, Text};
-use sqlite::Row;
 use sqlite_value::value::ValueRef;
 
 // As SQL takes them.
@@ -57,20 +54,4 @@ pub(crate) fn kind_of(code: u64) -> Option<Kind>
         4 => Some(Kind::Broken),
         _ => None,
     }
-}
-
-/// A number of a row. A negative one is refused.
-pub(crate) fn number_in(row: &Row, at: usize) -> Result<u64, Trouble>
-    requires { at < length row.now }
-    ensures number { IfOk result (λ n. column row.now at ≡ Int (pos n)) }
-{
-    value_in::<u64>(row, at)
-}
-
-/// A number of a row, 0 to 4,294,967,295. Any other is refused.
-pub(crate) fn small_in(row: &Row, at: usize) -> Result<u32, Trouble>
-    requires { at < length row.now }
-    ensures number { IfOk result (λ n. column row.now at ≡ Int (pos n)) }
-{
-    value_in::<u32>(row, at)
 }

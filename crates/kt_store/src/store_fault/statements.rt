@@ -43,7 +43,8 @@ impl From<SqlError> for Trouble {
     }
 }
 
-/// A value of a row that has this column.
+/// A value of a row that has this column. One of another type is refused, and so is a number
+/// out of range.
 pub(crate) fn value_in<T: FromSql>(row: &Row, at: usize) -> Result<T, Trouble>
     requires { at < length row.now }
     ensures value { IfOk result (T.FromSql.reads_as (column row.now at)) }

@@ -10,7 +10,7 @@ ghost use Rattle.sqlite_value.specs.Order.{Row as Values};
 
 use crate::StoreFault;
 use crate::heads::add;
-use crate::store_fault::{FAULTY, Refusal, Shortage, Trouble};
+use crate::store_fault::{FAULTY, FailedStatement, Refusal, Shortage, Trouble};
 use crate::value::int;
 use kt_base::{Bytes, NoMemory};
 use sqlite::Row;
@@ -66,7 +66,10 @@ impl From<StoreError> for StoreFault {
     ghost from_gives = { λ _ fault. IsStoreFault fault };
 
     fn from(error: StoreError) -> StoreFault {
-        StoreFault::from(Trouble::from(error))
+        match error {
+            StoreError::OutOfMemory => StoreFault::NoMemory(Shortage(Refusal)),
+            _ => StoreFault::Store(FailedStatement { is_in_use: false }),
+        }
     }
 }
 
@@ -93,20 +96,12 @@ pub(crate) fn number_of(row: &row::Row) -> Result<u64, Trouble>
     }
 }
 
-/// Adds a number to a key.
-pub(crate) fn add_number(key: &mut row::Row, number: u32) -> Result<(), NoMemory>
-    ensures { OnOk result (key.new ≡ key.old ++ Int (pos number) ∷ []) }
-{
-    key.push(int(u64::from(number)))?;
-    Ok(())
-}
-
 /// A key of one number.
 pub(crate) fn number_row(alloc: Global, number: u32) -> Result<row::Row, NoMemory>
     ensures { IfOk result (λ key. key ≡ Int (pos number) ∷ []) }
 {
     let mut key = row::Row::new(alloc);
-    add_number(&mut key, number)?;
+    key.push(int(u64::from(number)))?;
     Ok(key)
 }
 

@@ -3,11 +3,11 @@ use Rattle.kt_store.proofs.RunLemmas.{tells_run, none_there, some_there, both_re
 use Rattle.kt_store.proofs.SqlFacts.{run_is}
 use Rattle.kt_store.proofs.lookup.find.Goals as goal
 
-pub number_in-requires : goal.number_in-requires
-number_in-requires g c = omega (arith, all-slice_get (λ (l : Row). 2 ≤ length l) c.in_ok-rows.rows.items 0 c.in-Some.row.now (ap (λ l. slice_get l 0) (sym c.deref.ensures.value) ∙ sym c.first.ensures.value ∙ ap option_copied c.in-Some.is) c.in_ok-rows.ensures.wide)
+pub value_in-requires : goal.value_in-requires
+value_in-requires g c = omega (arith, all-slice_get (λ (l : Row). 2 ≤ length l) c.in_ok-rows.rows.items 0 c.in-Some.row.now (ap (λ l. slice_get l 0) (sym c.deref.ensures.value) ∙ sym c.first.ensures.value ∙ ap option_copied c.in-Some.is) c.in_ok-rows.ensures.wide)
 
-pub number_in-requires-2 : goal.number_in-requires-2
-number_in-requires-2 g c = omega (arith, all-slice_get (λ (l : Row). 2 ≤ length l) c.in_ok-rows.rows.items 0 c.in-Some.row.now (ap (λ l. slice_get l 0) (sym c.deref.ensures.value) ∙ sym c.first.ensures.value ∙ ap option_copied c.in-Some.is) c.in_ok-rows.ensures.wide)
+pub value_in-requires-2 : goal.value_in-requires-2
+value_in-requires-2 g c = omega (arith, all-slice_get (λ (l : Row). 2 ≤ length l) c.in_ok-rows.rows.items 0 c.in-Some.row.now (ap (λ l. slice_get l 0) (sym c.deref.ensures.value) ∙ sym c.first.ensures.value ∙ ap option_copied c.in-Some.is) c.in_ok-rows.ensures.wide)
 
 pub query-requires : goal.query-requires
 query-requires g c = record { plain = run_is.2; width = run_is.3 }
@@ -29,4 +29,4 @@ returns-clause-found g c runs has clean =
     let items = c.in_ok-rows.rows.items in
     let are = tells_run g.S.Store c.query.new.conn runs c.args.run items (rw (c.int.ensures, c.from.ensures) at (c.in_ok-rows.ensures.shown runs has clean)) in
     let it = some_there head_row (run_at runs c.args.run) items c.in-Some.row.now are (ap (λ l. slice_get l 0) (sym c.deref.ensures.value) ∙ sym c.first.ensures.value ∙ ap option_copied c.in-Some.is) in
-    both_read (run_at runs c.args.run) it.0 c.in-Some.row.now c.in_ok-total.total c.in_ok-finished.finished it.1 it.2 c.in_ok-total.ensures.number c.in_ok-finished.ensures.number
+    both_read (run_at runs c.args.run) it.0 c.in-Some.row.now c.in_ok-total.total c.in_ok-finished.finished it.1 it.2 c.in_ok-total.ensures.value c.in_ok-finished.ensures.value
