@@ -10,7 +10,7 @@ ghost use Rattle.sqlite_value.specs.Order.{Row as Values};
 
 use crate::StoreFault;
 use crate::heads::add;
-use crate::store_fault::{FAULTY, FailedStatement, Refusal, Shortage, Trouble};
+use crate::store_fault::{FAULTY, Refusal, Shortage, Trouble};
 use crate::value::int;
 use kt_base::{Bytes, NoMemory};
 use sqlite::Row;
@@ -66,10 +66,7 @@ impl From<StoreError> for StoreFault {
     ghost from_gives = { λ _ fault. IsStoreFault fault };
 
     fn from(error: StoreError) -> StoreFault {
-        match error {
-            StoreError::OutOfMemory => StoreFault::NoMemory(Shortage(Refusal)),
-            _ => StoreFault::Store(FailedStatement { is_in_use: false }),
-        }
+        StoreFault::from(Trouble::from(error))
     }
 }
 
