@@ -21,7 +21,6 @@ pub use Rattle.kt_suite.specs.Selecting.{most_items}
 pub use Rattle.kt_words.specs.Commands.{cases_of}
 pub use Rattle.kt_words.specs.declared.command.Command.{Command}
 pub use Rattle.kt_cli.specs.Around.{IsFound, IsHere, IsAnswered, IsVariable}
-pub use Rattle.kt_cli.specs.CaseLines.{case_line}
 pub use Rattle.kt_cli.specs.Closings.{Concluded}
 pub use Rattle.kt_cli.specs.CommandLines.{IsSaid}
 pub use Rattle.kt_cli.specs.Debugging.{debug_bytes}
@@ -42,8 +41,8 @@ pub use Rattle.kt_cli.specs.LineOutputs.{HandedOn, given_bytes, has_failed, is_b
 pub use Rattle.kt_cli.specs.Machines.{longest_path, read_limit}
 pub use Rattle.kt_cli.specs.Meaning.{Did, listing}
 pub use Rattle.kt_cli.specs.Pages.{Printed}
-pub use Rattle.kt_cli.specs.Performing.{CarriedOut, DoneIn, DoneOver, Flushed, IsMade, NoDriver, NoRoot, OnDriver, Performed, Rejected, access_of, program, state}
-pub use Rattle.kt_cli.specs.Places.{absolute, source_directory}
+pub use Rattle.kt_cli.specs.Performing.{CarriedOut, DoneIn, DoneOver, Flushed, IsMade, NoDriver, NoRoot, OnDriver, Rejected, access_of, program, state}
+pub use Rattle.kt_cli.specs.Places.{source_directory}
 pub use Rattle.kt_cli.specs.Refused.{Refused, command_exit, command_text, driver_line, failure_exit}
 pub use Rattle.kt_cli.specs.Reports.{Reported, ReportedJunit, chosen}
 pub use Rattle.kt_cli.specs.Scenes.{Scene, scene}
@@ -53,4 +52,4 @@ pub use Rattle.kt_cli.specs.StopLines.{stop_exit, stop_line}
 pub use Rattle.kt_cli.specs.Stores.{Stored}
 pub use Rattle.kt_cli.specs.Testing.{ending, run_for}
 pub use Rattle.kt_cli.specs.Totals.{totals_text}
-pub use Rattle.kt_cli.specs.Warnings.{warning_at, warning_line, warnings}
+pub use Rattle.kt_cli.specs.Warnings.{warning_at, warnings}
