@@ -13,7 +13,7 @@ pub use Rattle.kt_base.specs.declared.entry.Run.{Run}
 pub use Rattle.kt_report.specs.Cases.{case_texts, with_outputs}
 pub use Rattle.kt_report.specs.Digits.{digit, four_digits, seconds, three_digits, two_digits}
 pub use Rattle.kt_report.specs.Escapes.{escaped, escapes}
-pub use Rattle.kt_report.specs.Junits.{case_bytes, ending, heading, junit_bytes, output_element, result_element}
+pub use Rattle.kt_report.specs.Junits.{case_bytes, element, ending, heading, junit_bytes, output_element, result_element}
 pub use Rattle.kt_report.specs.Lines.{line_bytes, shown_reason}
 pub use Rattle.kt_report.specs.Outlines.{ChangesUnshown, with_entries}
 pub use Rattle.kt_report.specs.Pairs.{entry_bytes, pair_bytes, shown_byte, with_meta}
