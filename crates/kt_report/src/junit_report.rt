@@ -1,7 +1,8 @@
 ghost use Rattle.std.specs.Prelude.{◌≡◌, ◌++◌, false, is_err, flat_map, codes};
-ghost use Rattle.kt_report.specs.Common.{utf8, Shows, with_outputs, result_element, output_element, case_bytes, heading, ending, junit_bytes};
+ghost use Rattle.kt_report.specs.Common.{utf8, Shows, with_outputs, result_element, output_element, element, case_bytes, heading, ending, junit_bytes};
 
 use crate::ReportFault;
+use crate::case_texts::CaseTexts;
 use crate::escaping::case_texts;
 use crate::moments::write_seconds;
 use crate::summary::count_digits;
@@ -32,6 +33,33 @@ fn write_output<W: Write>(name: &[u8], text: &Text, out: &mut W) -> Result<(), O
         return Ok(());
     }
     emit_all(&[b"<", name, b">", bytes, b"</", name, b">\n"], out)
+}
+
+fn write_element<W: Write>(
+    texts: &CaseTexts,
+    kind: Kind,
+    millis: u64,
+    out: &mut W,
+) -> Result<(), OutputFault>
+    ensures { Shows (W.contents out.old) (W.contents out.new) (is_err result)
+        (element texts.now kind millis) }
+{
+    emit_all(
+        &[
+            b"<testcase classname=\"",
+            texts.program.as_bytes(),
+            b"\" name=\"",
+            texts.case_name.as_bytes(),
+            b"\" time=\"",
+        ],
+        out,
+    )?;
+    write_seconds(u128::from(millis), out)?;
+    emit(b"\">\n", out)?;
+    write_result(kind, &texts.reason, out)?;
+    write_output(b"system-out", &texts.out, out)?;
+    write_output(b"system-err", &texts.err, out)?;
+    emit(b"</testcase>\n", out)
 }
 
 /// Writes what stands in the JUnit report before the cases of a run. The outputs of its entries don't matter.
@@ -72,23 +100,7 @@ pub fn junit_case<W: Write>(
         (case_bytes (with_outputs entry.now body.now cleanup.now)) }
 {
     let texts = case_texts(alloc, entry, body, cleanup)?;
-    let kind = entry.verdict.kind();
-    emit_all(
-        &[
-            b"<testcase classname=\"",
-            texts.program.as_bytes(),
-            b"\" name=\"",
-            texts.case_name.as_bytes(),
-            b"\" time=\"",
-        ],
-        out,
-    )?;
-    write_seconds(u128::from(entry.millis), out)?;
-    emit(b"\">\n", out)?;
-    write_result(kind, &texts.reason, out)?;
-    write_output(b"system-out", &texts.out, out)?;
-    write_output(b"system-err", &texts.err, out)?;
-    emit(b"</testcase>\n", out)?;
+    write_element(&texts, entry.verdict.kind(), entry.millis, out)?;
     Ok(())
 }
 
