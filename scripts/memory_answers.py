@@ -673,7 +673,8 @@ class System:
             if verdict != due_verdict:
                 if verdict in self.reasons(position, due_verdict) and not self.changed:
                     self.changed[position] = verdict
-                elif self.changed and verdict in self.lives():
+                elif (self.changed or self.shortage and self.row.has("^fails ")) and verdict in self.lives():
+                    # A start that the call of this number was to fail may be refused for memory: then another call has the number.
                     continue
                 else:
                     return f"{position} is {verdict}"
