@@ -32,7 +32,7 @@ use sqlite_exec::check::all_rows;
 use sqlite_exec::work::Workspace;
 use sqlite_pager::{Options, Pager};
 use sqlite_store::{FileStore, Unopened};
-use sqlite_trees::store::{Shape, Store};
+use sqlite_trees::store::{Alter, Shape, Store};
 use sqlite_value::keys::Order;
 use sqlite_value::order::is_same;
 use sqlite_value::row::Row;
@@ -247,6 +247,20 @@ fn known_over<D: Disk + Drop>(
     Some(store)
 }
 
+/// The results in a store whose tables say that they are those of schema 2. Apart from `known`, since what asks how a store
+/// over files is read is dear to the prover.
+fn ours<S: Alter + Drop>(alloc: Global, mut store: S) -> Option<RunsFile<S>>
+    requires settled { (S.Store.view store).trees ≡ (S.Store.view store).committed }
+    requires sound { IsTrue (S.Store.view store).is_open
+        → IsSound schema_2 (S.Store.view store).committed }
+    ensures found { IfSome result (λ r. Looks S.Store store r
+        × (IsClean (S.Store.view r) → SaysIn (pos 2) (S.Store.view store).trees)) }
+{
+    let is_ours = says_2(&mut store, alloc);
+    let last = kept(store, is_ours)?;
+    over(alloc, last).ok()
+}
+
 /// The results in files that list the tables of schema 2 and say their number.
 fn known<D: Disk + Drop>(
     alloc: Global,
@@ -263,10 +277,8 @@ fn known<D: Disk + Drop>(
         → SaysIn (pos 2) (view r).committed) }
     ensures tested { is_tested ≡ true → IfSome result (λ r. IsTrue (view r).is_numbered) }
 {
-    let mut store = known_over(alloc, files, options, is_tested)?;
-    let is_ours = says_2(&mut store, alloc);
-    let last = kept(store, is_ours)?;
-    over(alloc, last).ok()
+    let store = known_over(alloc, files, options, is_tested)?;
+    ours(alloc, store)
 }
 
 /// Copies the log into the database file, and closes both. What is not committed is lost.

@@ -1,4 +1,4 @@
-use Rattle.kt_store.proofs.Common.{AreNumbered, Backward, HasRuns, IsClean, List, Run, [], arith, length, map, plain, rules, run_row, sought, with_cursor, ◌≡◌}
+use Rattle.kt_store.proofs.Common.{AreNumbered, Backward, HasRuns, IsClean, List, LooksThrough, Run, View, [], arith, length, map, plain, rules, run_row, sought, subst, with_cursor, ◌≡◌}
 use Rattle.sqlite_trees.specs.declared.store.Shape.TheVariants.{Table}
 use Rattle.kt_store.proofs.PlaceLemmas.{last_is, none_is, sought_none, sought_one}
 use Rattle.kt_store.proofs.SeenLemmas.{rows_of_runs}
@@ -31,3 +31,17 @@ returns-clause-last g c runs has clean =
     let it = sought_last g (goal.at.returns-clause-last g c).In_ok-next runs has clean in
     let found = sought_one (g.S.Store.view c.args.store.now) (g.S.Store.view c.seek.new.self) (g.S.Store.view c.next.new.self) plain rows c.next.new.row it.2 (rw c.if-not-branch.false at (c.in_ok-next.ensures.ok clean)) in
     c.in_ok-number.ensures (length runs) (last_is runs rows found.0 c.next.new.row it.0 it.1 found.1)
+
+-- only cursors have moved (search finds it too, in half a minute)
+looked_through : (g : Over) (c : In_ok-next g) → IsClean (g.S.Store.view c.next.new.self) → LooksThrough (g.S.Store.view c.args.store.now) (g.S.Store.view c.next.new.self)
+looked_through g c clean =
+    let falls = c.next.ensures.quiet.clean in
+    let early : IsClean (g.S.Store.view c.seek.new.self) = omega arith in
+    let new = g.S.Store.view c.next.new.self in
+    (c.in_ok-seek.ensures.sound early, subst (λ (v : View). new ≡ record v { cursors = new.cursors }) (c.in_ok-seek.ensures.ok early) (c.in_ok-next.ensures.moves clean).same)
+
+pub returns-then-not-branch-clause-through : goal.returns-then-not-branch-clause-through
+returns-then-not-branch-clause-through g c clean = looked_through g (goal.at.returns-then-not-branch-clause-through g c).In_ok-next clean
+
+pub returns-clause-through : goal.returns-clause-through
+returns-clause-through g c clean = looked_through g (goal.at.returns-clause-through g c).In_ok-next clean
