@@ -116,5 +116,5 @@ pub use Rattle.kt_store.specs.StoreCalls.{StoreCall}
 pub use Rattle.kt_store.specs.Supposed.{IsOfRuns, ListsTables, objects_2}
 pub use Rattle.kt_store.specs.Tables.{begin_text, beside_meta, create_entries, create_meta, create_props, create_runs, entries, entries_1, finish_text, index_of, mark_text, meta, meta_1, meta_text, no_schema, props, props_1, put_text, raise_text, run_text, runs, runs_1, schema_1, there_text}
 pub use Rattle.kt_store.specs.Heads.{without_outputs, without_pairs}
-pub use Rattle.kt_store.specs.Common.{AreNamed, AreNumbered, AreOrdered, AreRuns, AreWide, Asked, AsksNumber, Began, Blank, CanAdd, Changes, Commits, CommitsLater, CommitsNothing, CountsUnder, Ended, Ends, EndsIn, Executed, Finished, HasColumns, HasCommitted, HasNumber, Heads, HoldsCommit, HoldsRuns, IsBareIfPassed, IsComplete, IsEntry, IsNoMemory, IsOf, IsOurs, IsPair, IsStoreFault, IsText, IsUnderstood, Keeps, KeepsOne, KeepsRuns, Leaves, ListsRuns, Looked, Looks, LooksThrough, MayChange, MayCommit, MayExecute, MayShow, Obeys, Older, OpensOver, OpensRuns, Outline, Outputs, Pairs, Put, PutsRows, Reads, Refuses, Rests, RunsAll, RunsOne, SaysSchema, Serves, ShowsOf, ShowsUnder, StandAt, StandsFor, Statement, TakesTables, Undoes, Wrote, bound, done_row, entries_of, entries_text, entry_at, entry_columns, entry_row, entry_statements, finish, finish_refusal, flag, has_position, head_columns, head_of, in_columns, kind_code, new_run, outlined, outputs_of, pair_columns, pair_row, pair_rows, pair_rows_from, pair_statement, pair_statements, pairs_of, pairs_text, places_2, plain_statements, put_refusal, results, run_at, run_row, runs_text, schema_2, seen_as, unnumbered, whole_columns, with_entry}
+pub use Rattle.kt_store.specs.Common.{AreNamed, AreNumbered, AreOrdered, AreRuns, AreWide, Asked, AsksNumber, Began, Blank, CanAdd, Changes, Commits, CommitsLater, CommitsNothing, CountsUnder, Ended, Ends, EndsIn, Executed, Finished, HasColumns, HasCommitted, HasNumber, Heads, HoldsCommit, HoldsRuns, IsBareIfPassed, IsComplete, IsEntry, IsNoMemory, IsOf, IsOurs, IsPair, IsStoreFault, IsTaken, IsTakenOf, IsText, IsUnderstood, Keeps, KeepsOne, KeepsRuns, Leaves, ListsRuns, Looked, Looks, LooksThrough, MayChange, MayCommit, MayExecute, MayShow, Obeys, Older, OpensOver, OpensRuns, Outline, Outputs, Pairs, Put, PutsRows, Reads, Refuses, Rests, RunsAll, RunsOne, SaysSchema, Serves, ShowsOf, ShowsUnder, StandAt, StandsFor, Statement, TakesTables, Undoes, Wrote, bound, done_row, entries_of, entries_text, entry_at, entry_columns, entry_row, entry_statements, finish, finish_refusal, flag, has_position, head_columns, head_of, in_columns, kind_code, new_run, outlined, outputs_of, pair_columns, pair_row, pair_rows, pair_rows_from, pair_statement, pair_statements, pairs_of, pairs_text, places_2, plain_statements, put_refusal, results, run_at, run_row, runs_text, schema_2, seen_as, unnumbered, whole_columns, with_entry}
 pub use Rattle.kt_store.specs.Types.{AllByRecursion, BadPosition, Blob, CaseOutputs, CommitsShowing, Database, Entry, Executes, ExecutesInside, FileStore, Ghosts, HasCleanDisk, Held, HoldsDatabase, Image, Incomplete, Int, IsAscending, IsClean, IsDatabase, IsIndex, IsLive, IsRolledBack, IsShaped, IsUnchanged, KeepsCommit, NoMemory, NoRun, Null, PageMap, Recovers, RepeatedPosition, Row, Run, RunClosed, RunHead, State, Store, StoreFault, StoreFull, Survives, Text, Trees, Variable, View, column, file_state, find, from_key, has_rowid, last_run, recovers, rowid, state, stored_size, view}

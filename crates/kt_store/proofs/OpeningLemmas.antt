@@ -1,13 +1,15 @@
 -- A file that holds runs lists the schema of their tables, and what was taken of it has these runs.
-use Rattle.kt_store.proofs.Common.{AllByRecursion, AreOrdered, Bool, Current, Database, Err, FileStore, HasCleanDisk, HasCommitted, Held, HoldsAt, HoldsIn, HoldsRuns, IfOk, IfSome, Image, Int, IsClean, IsRun, Keeps, List, Lists, Looks, Ok, OpensOver, OpensRuns, Option, PageMap, Recovers, Result, Row, Run, Schema, Shape, Some, StandsFor, StoreFault, Table, Tables, Trees, Trees-set, Value, View, [], ap, ap₂, arith, catalog_tree, clean_if_open, cond, entries_1, false, file_state, get_or, in_use, index_reals, inr, joined, layout_at, layout_of, length, lists_once, map, map-map, meets, meta_1, none-some, number_in, over_files, plain, plain_adopts, pos, props_1, recovers, recovers_once, refl, rowid, rows_at, same_Some, schema_2, shut_if_dirty_at, subst, sym, table_reals, true, unrooted, version_in, view, with_version, ℕ, ∥∥₁_elim, ◌%◌, ◌-◌, ◌<◌, ◌∙◌, ◌∷◌, ◌≡◌, ◌≢◌, ◌≤◌}
+use Rattle.kt_store.proofs.Common.{AllByRecursion, AreOrdered, Bool, Current, Database, Err, FileStore, HasCleanDisk, HasCommitted, Held, HoldsAt, HoldsIn, HoldsRuns, IfOk, IfSome, Image, Int, IsClean, IsRun, IsTaken, IsTakenOf, Keeps, List, Lists, Looks, Ok, OpensOver, OpensRuns, Option, PageMap, Recovers, Result, Row, Run, Schema, Shape, Some, StandsFor, StoreFault, Table, Tables, Trees, Trees-set, Value, View, [], ap, ap₂, arith, catalog_tree, clean_if_open, cond, entries_1, false, file_state, get_or, in_use, index_reals, inr, joined, layout_at, layout_of, length, lists_once, map, map-map, meets, meta_1, none-some, number_in, over_files, plain, plain_adopts, pos, props_1, recovers_once, refl, rowid, rows_at, same_Some, schema_2, shut_if_dirty_at, state, subst, sym, table_reals, true, unrooted, version_in, view, with_version, ℕ, ∥∥₁_elim, ◌%◌, ◌-◌, ◌<◌, ◌∙◌, ◌∷◌, ◌≡◌, ◌≢◌, ◌≤◌}
 use Rattle.std.specs.Result.{result_ok}
 use Rattle.sqlite_trees.specs.declared.store.Shape.TheVariants as kind
 use Rattle.sqlite_store.specs.declared.catalog.Wanted.{Wanted}
 use Rattle.sqlite_store.specs.Listing.{listed_from, file_trees, IsOurs}
 use Rattle.sqlite_store.proofs.AlikeLemmas.{same_file}
 use Rattle.sqlite_catalog.specs.Reading.{AreShaped}
+use Rattle.sqlite.specs.Store.{Ghosts as StoreGhosts}
 use Rattle.sqlite_disk.specs.declared.Disk.{Ghosts}
 use Rattle.sqlite_disk.specs.Events.{Event, replay}
+use Rattle.kt_store.specs.Attaching.{IsOf, TakesTables, Was}
 use Rattle.kt_store.specs.Files.{AreOfFile, Finds, Follows, IsOfFile}
 
 -- a result that was taken as an option
@@ -111,6 +113,16 @@ opens_runs image old new looks settled unbroken opens = record {
 same_tables : (s t : Schema) (a b : Trees) (runs : List Run) → s ≡ t → a ≡ b → Tables (record { schema = s; trees = a }) runs → Tables (record { schema = t; trees = b }) runs
 same_tables s t a b runs same equal has = subst (λ x. Tables (record { schema = t; trees = x }) runs) equal (subst (λ x. Tables (record { schema = x; trees = a }) runs) same has)
 
+pub taken_by : {S : Type 0} (g : StoreGhosts S) (conn results : Held S) (made : Result S StoreFault) → ((was : Was) → IsOf was (state g conn) → TakesTables was (state g conn) (state g results))
+    → IfOk made (λ s. (runs : List Run) → StandsFor (state g results) runs → HasCommitted (g.view s) runs) → IfOk made (λ s. IsClean (g.view s) → HasCleanDisk (state g results))
+    → IfOk made (λ s. (trees : Trees) → g.recovers s trees → (state g results).may_leave trees) → IfOk made (IsTaken g conn)
+taken_by g conn results (Ok store) takes stands earlier crash = (results, takes, stands, earlier, crash)
+taken_by g conn results (Err fault) takes stands earlier crash = tt
+
+pub taken_files : {D : Type 0} {g : Ghosts D} (conn : Held (FileStore D g)) (made : Result (FileStore D g) StoreFault) → IfOk made (IsTaken over_files conn) → IfOk made (IsTakenOf conn)
+taken_files conn (Ok store) (results, takes, stands, earlier, crash) = (results, takes, record { stands = stands; earlier = earlier; crash = crash })
+taken_files conn (Err fault) taken = tt
+
 module _ {D : Type 0} {g : Ghosts D} (image : Image) where
   -- a connection over the file stands for them
   pub held_stands : (conn : Held (FileStore D g)) → IsOfFile image conn → (runs : List Run) → HoldsRuns image runs → StandsFor (file_state conn) runs
@@ -135,9 +147,8 @@ module _ {D : Type 0} {g : Ghosts D} (image : Image) where
         leaves = λ runs h clean trees found. (taken runs h).1 (follows.earlier clean) trees (follows.crash trees found);
       }
 
-  pub found_of : (results : Held (FileStore D g)) (made : Result (FileStore D g) StoreFault) → AreOfFile image results → IfOk made (λ s. (runs : List Run) → StandsFor (file_state results) runs → HasCommitted (view s) runs) → IfOk made (λ s. IsClean (view s) → HasCleanDisk (file_state results))
-      → IfOk made (λ s. (trees : Trees) → recovers s trees → (file_state results).may_leave trees) → IfOk made (Finds image)
-  found_of results (Ok store) over stands earlier crash =
-      let follows : Follows results store = record { stands = stands; earlier = earlier; crash = crash } in
-      record { held = opens_of results store over follows; whose = inr (results, over, follows) }
-  found_of results (Err fault) over stands earlier crash = tt
+  pub found_of : (conn : Held (FileStore D g)) (made : Result (FileStore D g) StoreFault) → IsOfFile image conn → IfOk made (IsTakenOf conn) → IfOk made (Finds image)
+  found_of conn (Ok store) over (results, takes, follows) =
+      let taken : AreOfFile image results = (conn, over, takes) in
+      record { held = opens_of results store taken follows; whose = inr (results, taken, follows) }
+  found_of conn (Err fault) over taken = tt

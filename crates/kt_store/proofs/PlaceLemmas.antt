@@ -1,7 +1,6 @@
 -- What a cursor finds that goes over the places of a key, or to the last row.
 use Rattle.kt_store.proofs.Common.{AllByRecursion, AreNumbered, Backward, Int, IsAt, List, None, Places, Row, Run, Shows, Some, [], all-append, ap, append-nil, append_assoc, arith, begins, column, drop, entry_of, false, filter, from_key, has_rowid, in_columns, length, length-append, length-map, map, map-append, plain, pos, refl, reverse, reverse-append, reverse-reverse, rowid, run_row, slice_get, sought, subst, suc, sym, take, true, true≢false, up_to_key, ℕ, ℤ, ◌++◌, ◌+◌, ◌∙◌, ◌∷◌, ◌≡◌}
 use Rattle.sqlite_trees.specs.View.{View, Advances, with_cursor}
-use Rattle.sqlite_value.specs.declared.keys.Order.{Order}
 
 module _ (columns cs : List ℕ) (key : Row) (mine table index : List Row) (p : Places cs key mine table index) where
   -- a cursor that has these places left, once these rows were shown
@@ -118,19 +117,23 @@ last_numbered n (r ∷ runs) (f ∷ front) row h is =
     let it = last_numbered (suc n) runs front row h.1 tails in
     (ap suc it.0, it.1 ∙ ap (λ k. Int (pos k)) (omega arith))
 
-pub last_is : (runs : List Run) (table left : List Row) (row : Row) → AreNumbered 1 runs → table ≡ map run_row runs → reverse (up_to_key plain [] table) ≡ row ∷ left → rowid row ≡ Int (pos (length runs))
-last_is runs table left row h are is =
-    let it = last_numbered 1 runs (reverse left) row h (sym are ∙ ends_with table left row (ap reverse (sym (all_up table)) ∙ is)) in
+pub last_is : (runs : List Run) (table front : List Row) (row : Row) → AreNumbered 1 runs → table ≡ map run_row runs → table ≡ front ++ row ∷ [] → rowid row ≡ Int (pos (length runs))
+last_is runs table front row h are is =
+    let it = last_numbered 1 runs front row h (sym are ∙ is) in
     it.1 ∙ ap (λ k. Int (pos k)) (omega (arith, it.0))
 
-pub none_is : (runs : List Run) (table : List Row) → table ≡ map run_row runs → reverse (up_to_key plain [] table) ≡ [] → 0 ≡ length runs
-none_is runs table are is =
-    let empty : table ≡ [] = sym (reverse-reverse table) ∙ ap reverse (ap reverse (sym (all_up table)) ∙ is) in
-    ap length (sym empty ∙ are) ∙ length-map runs run_row
+pub none_is : (runs : List Run) (table : List Row) → table ≡ map run_row runs → table ≡ [] → 0 ≡ length runs
+none_is runs table are is = ap length (sym is ∙ are) ∙ length-map runs run_row
 
 -- what a cursor that goes backward from the end gave
-pub sought_none : (old mid new : View) (o : Order) (rows : List Row) (row : Row) → mid ≡ with_cursor old 0 (sought o Backward [] rows) → Advances mid new 0 row false → reverse (up_to_key o [] rows) ≡ []
-sought_none old mid new o rows row is end = let e : Some (reverse (up_to_key o [] rows)) ≡ Some [] = sym (ap (λ (v : View). v.cursors 0) is) ∙ end.0 in cc
+pub sought_none : (old mid new : View) (rows : List Row) (row : Row) → mid ≡ with_cursor old 0 (sought plain Backward [] rows) → Advances mid new 0 row false → rows ≡ []
+sought_none old mid new rows row is end =
+    let e : Some (reverse (up_to_key plain [] rows)) ≡ Some [] = sym (ap (λ (v : View). v.cursors 0) is) ∙ end.0 in
+    let none : reverse (up_to_key plain [] rows) ≡ [] = cc in
+    sym (reverse-reverse rows) ∙ ap reverse (ap reverse (sym (all_up rows)) ∙ none)
 
-pub sought_one : (old mid new : View) (o : Order) (rows : List Row) (row : Row) → mid ≡ with_cursor old 0 (sought o Backward [] rows) → Advances mid new 0 row true → (left : List Row) × (reverse (up_to_key o [] rows) ≡ row ∷ left)
-sought_one old mid new o rows row is one = (one.0, let e : Some (reverse (up_to_key o [] rows)) ≡ Some (row ∷ one.0) = sym (ap (λ (v : View). v.cursors 0) is) ∙ one.1 in cc)
+pub sought_one : (old mid new : View) (rows : List Row) (row : Row) → mid ≡ with_cursor old 0 (sought plain Backward [] rows) → Advances mid new 0 row true → (front : List Row) × (rows ≡ front ++ row ∷ [])
+sought_one old mid new rows row is one =
+    let e : Some (reverse (up_to_key plain [] rows)) ≡ Some (row ∷ one.0) = sym (ap (λ (v : View). v.cursors 0) is) ∙ one.1 in
+    let at : reverse (up_to_key plain [] rows) ≡ row ∷ one.0 = cc in
+    (reverse one.0, ends_with rows one.0 row (ap reverse (sym (all_up rows)) ∙ at))

@@ -1,6 +1,6 @@
 -- What is shown of the rows that a cursor finds, and how a store that is only read serves.
-use Rattle.kt_store.proofs.Common.{Agrees, AreNumbered, AreWide, CaseOutputs, Entry, Err, Ghosts, HasRuns, HoldsCommit, IfErr, IfOk, IsStoreFault, Keeps, List, Looks, NoRun, None, Ok, Outlasts, Outputs, Result, Row, Run, Serves, Shows, Some, StandAt, StoreCall, StoreFault, Trees, Variable, [], all-map, ap, arith, by_trees, changed_by, column, drop, entry_at, entry_columns, entry_row, false, filter, has_rowid, head_columns, in_columns, length, length-map, map, map-map, map_same, outputs_of, pair_columns, pair_rows_from, places_2, pos, readings, refl, run_at, run_row, subst, sym, true, ℕ, ◌∙◌, ◌∷◌, ◌≡◌, ◌≤◌, ◌⊎◌}
-use Rattle.sqlite_trees.specs.View.{View, Finds, IsClean, KeepsSchema}
+use Rattle.kt_store.proofs.Common.{Agrees, AreNumbered, AreWide, CaseOutputs, Entry, Err, Ghosts, HasRuns, HoldsCommit, IfErr, IfOk, IsStoreFault, IsTrue, Keeps, List, Looks, NoRun, None, Ok, Outlasts, Outputs, Result, Row, Run, Serves, Shows, Some, StandAt, StoreCall, StoreFault, Trees, Variable, [], all-map, ap, arith, by_trees, changed_by, column, drop, entry_at, entry_columns, entry_row, false, filter, has_rowid, head_columns, in_columns, length, length-map, map, map-map, map_same, outputs_of, pair_columns, pair_rows_from, places_2, pos, readings, refl, run_at, run_row, subst, sym, true, ℕ, ◌∙◌, ◌∷◌, ◌≡◌, ◌≤◌, ◌⊎◌}
+use Rattle.sqlite_trees.specs.View.{View, Finds, IsClean, IsQuiet, KeepsSchema}
 use Rattle.kt_store.proofs.EntryLemmas.{back}
 use Rattle.kt_store.proofs.RunLemmas.{found_run, none_there, some_there}
 use Rattle.kt_store.specs.declared.places.Places.{Places}
@@ -98,6 +98,16 @@ module _ {S : Type 0} (g : Ghosts S) where
         late ∙ ap (λ (v : View). record v { cursors = (g.view new).cursors }) (first.same (second.clean clean) (ap (λ (v : View). v.is_broken) (sym late) ∙ sound));
     held = λ clean. held_then (g.view old) (g.view mid) (g.view new) (first.held (second.clean clean)) (second.held clean);
     outcomes = λ db found. first.outcomes db (second.outcomes db found);
+  }
+
+  -- cursors have moved at most
+  pub looked : (old new : S) → IsQuiet g.view g.faults g.recovers g.is_shielded old new → KeepsSchema (g.view old) (g.view new) → (IsClean (g.view new) → g.view new ≡ record (g.view old) { cursors = (g.view new).cursors }) → Looks g old new
+  looked old new quiet schema moves = record {
+    clean = λ clean. let falls = quiet.clean in omega arith;
+    schema = schema;
+    same = λ clean sound. moves clean;
+    held = λ clean opened. (subst IsTrue (ap (λ (v : View). v.is_open) (moves clean)) opened, ap (λ (v : View). v.committed) (moves clean));
+    outcomes = quiet.outcomes;
   }
 
   -- a call that only reads, of a store that still has its runs

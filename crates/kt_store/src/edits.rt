@@ -1,7 +1,7 @@
 //! Runs and entries that are written into the trees of a store, without a commit.
 
 ghost use Rattle.std.specs.Prelude.{◌≡◌, ◌⊎◌, ◌<◌, ◌≤◌, ◌^◌, map, suc, length, Some, None, false, IfOk, IfErr, OnOk};
-ghost use Rattle.kt_store.specs.Common.{AllByRecursion, Began, CanAdd, Finished, IsBareIfPassed, IsComplete, IsMoment, IsPair, IsStorable, IsStoreFault, IsText, Looks, LooksThrough, OnTrees, Put, Run, StandAt, Wrote, done_row, entry_row, finish_refusal, last_run, owned, pair_row, pair_rows_from, put_refusal, run_at, run_row, unnumbered};
+ghost use Rattle.kt_store.specs.Common.{AllByRecursion, Began, CanAdd, Finished, IsBareIfPassed, IsComplete, IsMoment, IsPair, IsStorable, IsStoreFault, IsText, Looks, LooksThrough, OnTrees, Put, Run, StandAt, Wrote, done_row, entries_of, entry_row, finish_refusal, has_position, last_run, owned, pair_row, pair_rows_from, put_refusal, run_at, run_row, unnumbered};
 ghost use Rattle.sqlite_trees.specs.View.{IsClean};
 ghost use Rattle.sqlite_catalog.specs.Listing.{IsSound};
 
@@ -11,7 +11,7 @@ use crate::heads::add;
 use crate::lookup::{MOST_RUNS, key};
 use crate::places::Places;
 use crate::put::reason_of;
-use crate::seeks::{entries_at, last_number, stored_head, stored_run};
+use crate::seeks::{entries_at, last_number, run_head, stored_head, stored_run};
 use crate::store_fault::Trouble;
 use crate::store_fault::rules::{TableEdit, put_rows};
 use crate::store_fault::trees::{count_under, number_row};
@@ -19,7 +19,7 @@ use crate::value::{blob, code, int, text};
 use kt_base::{Entry, NoMemory, Text, Variable};
 use sqlite_rules::error::Rowids;
 use sqlite_schema::schema::Schema;
-use sqlite_trees::store::Alter;
+use sqlite_trees::store::{Alter, Store};
 use sqlite_value::row::Row;
 use sqlite_value::value::ValueRef;
 use std::alloc::Global;
@@ -172,6 +172,26 @@ pub(crate) fn write_run<S: Alter>(
     Ok(number)
 }
 
+/// Whether the run has an entry with this position.
+fn is_put<S: Store>(
+    store: &mut S,
+    alloc: Global,
+    places: Places,
+    run: u32,
+    position: u32,
+) -> Result<bool, Trouble>
+    requires { StandAt places (S.Store.view store.old) }
+    ensures found { OnTrees S.Store store.old store.new (λ runs.
+        IfOk result (λ b. b ≡ has_position position (entries_of (run_at runs run)))) }
+    ensures through { IsClean (S.Store.view store.new)
+        → OnOk result (LooksThrough (S.Store.view store.old) (S.Store.view store.new)) }
+    ensures looks { Looks S.Store store.old store.new }
+{
+    let place = entry_place(alloc, run, position)?;
+    let count = count_under(store, alloc, &entries_at(places), &place)?;
+    Ok(count > 0)
+}
+
 /// Asks whether the run takes the entry.
 fn check_entry<S: Alter>(
     store: &mut S,
@@ -191,16 +211,14 @@ fn check_entry<S: Alter>(
         → OnOk result (LooksThrough (S.Store.view store.old) (S.Store.view store.new)) }
     ensures looks { Looks S.Store store.old store.new }
 {
-    let row = stored_run(store, alloc, places, run)?;
-    let head = stored_head(alloc, &row)?;
+    let head = run_head(store, alloc, places, run)?;
     if head.finished {
         return Err(StoreFault::RunClosed);
     }
     if entry.position >= head.total {
         return Err(StoreFault::BadPosition);
     }
-    let place = entry_place(alloc, key(run), entry.position)?;
-    if count_under(store, alloc, &entries_at(places), &place)? > 0 {
+    if is_put(store, alloc, places, key(run), entry.position)? {
         return Err(StoreFault::RepeatedPosition);
     }
     Ok(())
@@ -262,6 +280,25 @@ fn finished_row(alloc: Global, row: &Row) -> Result<Row, NoMemory>
     )
 }
 
+/// How many entries a run has.
+fn count_of<S: Store>(
+    store: &mut S,
+    alloc: Global,
+    places: Places,
+    run: u32,
+) -> Result<u64, Trouble>
+    requires { StandAt places (S.Store.view store.old) }
+    ensures count { OnTrees S.Store store.old store.new (λ runs.
+        IfOk result (λ n. n ≡ length (entries_of (run_at runs run)))) }
+    ensures through { IsClean (S.Store.view store.new)
+        → OnOk result (LooksThrough (S.Store.view store.old) (S.Store.view store.new)) }
+    ensures looks { Looks S.Store store.old store.new }
+{
+    let place = number_row(alloc, run)?;
+    let count = count_under(store, alloc, &entries_at(places), &place)?;
+    Ok(count)
+}
+
 /// The row of a run that may be finished.
 fn check_run<S: Alter>(
     store: &mut S,
@@ -285,8 +322,7 @@ fn check_run<S: Alter>(
     if head.finished {
         return Err(StoreFault::RunClosed);
     }
-    let place = number_row(alloc, key(run))?;
-    if count_under(store, alloc, &entries_at(places), &place)? < u64::from(head.total) {
+    if count_of(store, alloc, places, key(run))? < u64::from(head.total) {
         return Err(StoreFault::Incomplete);
     }
     Ok(row)

@@ -10,7 +10,7 @@ ghost use Rattle.sqlite_trees.specs.View.{IsClean};
 use crate::RunHead;
 use crate::lookup::key;
 use crate::places::Places;
-use crate::seeks::{entries_at, pairs_at, stored_head};
+use crate::seeks::{entries_at, last_row, pairs_at, stored_head};
 use crate::store_fault::Trouble;
 use crate::store_fault::trees::{
     Table, are_shaped, columns_of, count_under, next_row, number_row, sure,
@@ -58,12 +58,9 @@ fn is_last_row_placed<S: Store>(
 ) -> Result<bool, Trouble>
     ensures looks { Looks S.Store store.old store.new }
 {
-    sure(are_shaped(store, table))?;
-    let mut row = Row::new(alloc);
-    store.seek(0, table.tree, &row, Direction::Backward)?;
-    if !store.next(0, &mut row)? {
+    let Some(row) = last_row(store, alloc, table.tree)? else {
         return Ok(true);
-    }
+    };
     let own = columns_of(alloc, &row, table.key)?;
     let count = count_under(store, alloc, table, &own)?;
     Ok(count == 1)
@@ -113,6 +110,29 @@ fn has_entry<S: Store>(
     Ok(count == 1 || matches!(pair.get(0), ValueRef::Null))
 }
 
+/// Asks whether the table of entries and its index end alike, and with the last run.
+fn check_last_entry<S: Store>(
+    store: &mut S,
+    alloc: Global,
+    places: Places,
+    last: RunHead,
+) -> Result<(), Trouble>
+    ensures looks { Looks S.Store store.old store.new }
+{
+    let end = end_of(store, alloc, &entries_at(places))?;
+    sure(is_end(alloc, &end, last)?)
+}
+
+/// Asks whether the table of pairs and its index end alike, and with an entry.
+fn check_last_pair<S: Store>(store: &mut S, alloc: Global, places: Places) -> Result<(), Trouble>
+    ensures through { IsClean (S.Store.view store.new)
+        → OnOk result (LooksThrough (S.Store.view store.old) (S.Store.view store.new)) }
+    ensures looks { Looks S.Store store.old store.new }
+{
+    let pair = end_of(store, alloc, &pairs_at(places))?;
+    sure(has_entry(store, alloc, places, &pair)?)
+}
+
 /// Asks whether the tables and their indexes end alike, and with the last run.
 pub(crate) fn check_ends<S: Store>(
     store: &mut S,
@@ -124,9 +144,8 @@ pub(crate) fn check_ends<S: Store>(
         → OnOk result (LooksThrough (S.Store.view store.old) (S.Store.view store.new)) }
     ensures looks { Looks S.Store store.old store.new }
 {
-    let end = end_of(store, alloc, &entries_at(places))?;
-    let pair = end_of(store, alloc, &pairs_at(places))?;
-    sure(is_end(alloc, &end, last)? && has_entry(store, alloc, places, &pair)?)
+    check_last_entry(store, alloc, places, last)?;
+    check_last_pair(store, alloc, places)
 }
 
 /// The head of the last run, by its number.

@@ -161,6 +161,19 @@ fn folder(file: &str) -> &str {
     }
 }
 
+/// Removes a name if it may be the first one of this file.
+fn remove_if_first<R: Files + AllocGlobal>(rt: &R, path: &str, found: &Metadata) -> Option<()> {
+    let Some(front) = path.strip_suffix("-new") else {
+        return Some(());
+    };
+    let file = Text::from_str(rt.alloc(), front).ok()?;
+    let name = new_name(&file).ok()?;
+    if is_same(rt, name.as_str(), found) {
+        remove_new(rt, &name);
+    }
+    Some(())
+}
+
 /// Removes the first name of a file whose maker was killed before it did so, also where the file was renamed since: a file
 /// with two names can't be opened.
 fn remove_first_name<R: Files + AllocGlobal + Clone + Drop>(
@@ -170,15 +183,7 @@ fn remove_first_name<R: Files + AllocGlobal + Clone + Drop>(
 ) -> Option<()> {
     for entry in fs::read_dir(rt, folder(file.as_str())).ok()? {
         let entry = entry.ok()?;
-        let path = entry.path();
-        let Some(front) = path.to_string_lossy().strip_suffix("-new") else {
-            continue;
-        };
-        let file = Text::from_str(rt.alloc(), front).ok()?;
-        let name = new_name(&file).ok()?;
-        if is_same(rt, name.as_str(), found) {
-            remove_new(rt, &name);
-        }
+        remove_if_first(rt, entry.path().to_string_lossy(), found)?;
     }
     Some(())
 }

@@ -2,13 +2,11 @@ use crate::attach::settle;
 use crate::entries::all_entries;
 use crate::heads::all_heads;
 use crate::lookup::key;
-use crate::new_file::prepare;
 use crate::put::{add_entry, check, reason_of};
 use crate::run_rows::{self, add_run, is_full, mark};
-use crate::store_fault::statements::open_file;
 use crate::{RunHead, StoreFault};
-use kt_base::{Entry, Text};
-use sqlite::{Alter, Connection, FileFrom, FileStore, Start};
+use kt_base::Entry;
+use sqlite::{Alter, Connection};
 use std::alloc::Global;
 use std::marker::Model;
 
@@ -122,24 +120,5 @@ impl<S: Alter> Results<S> {
             × (run_at runs run ≡ None)))) }
     {
         all_entries(&mut self.conn, self.alloc, run)
-    }
-}
-
-impl<S: Start> Results<FileStore<FileFrom<S>>> {
-    ghost use Rattle.std.specs.Prelude.{◌≡◌, ◌⊎◌, IfOk, IfErr};
-    ghost use Rattle.kt_store.specs.Common.{image_at, IsStoreFault, AreOfFile};
-
-    /// Opens the results in a file, which is made where there is none. `S` stands for what the file
-    /// held, which no code reads. `UnknownSchema` where the tables say a number other than 1 and 2.
-    pub(crate) fn open(rt: &HostRuntime, file: &Text, start: S) -> Result<Self, StoreFault>
-        ensures opened { IfOk result (AreOfFile (image_at S.Start)) }
-        ensures due { IfErr result (λ e. IsStoreFault e ⊎ (e ≡ StoreFault.UnknownSchema)) }
-    {
-        prepare(rt, file);
-        let connection = open_file(rt, file, start)?;
-        match Results::attach(rt.alloc(), connection) {
-            Ok(results) => Ok(results),
-            Err((fault, _connection)) => Err(fault),
-        }
     }
 }

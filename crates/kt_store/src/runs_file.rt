@@ -1,5 +1,5 @@
-ghost use Rattle.std.specs.Prelude.{◌≡◌, false, IsTrue, IfOk, IfSome};
-ghost use Rattle.kt_store.specs.Common.{Ended};
+ghost use Rattle.std.specs.Prelude.{◌≡◌, ◌⊎◌, false, IsTrue, IfErr, IfOk, IfSome};
+ghost use Rattle.kt_store.specs.Common.{Ended, IsStoreFault, IsTaken, IsTakenOf};
 ghost use Rattle.sqlite_catalog.specs.Listing.{IsSound, Lists};
 ghost use Rattle.sqlite_schema.specs.declared.schema.Schema.{Schema as Tables};
 ghost use Rattle.sqlite_trees.specs.Objects.{catalog_tree};
@@ -8,15 +8,17 @@ ghost use Rattle.sqlite_trees.specs.View.{IsClean};
 use crate::attach::lives;
 use crate::by_name::places_in;
 use crate::edits::{write_entry, write_finish, write_run};
+use crate::new_file::prepare;
 use crate::opening::{close_store, open_known};
 use crate::places::Places;
 use crate::seeks::{find_outputs, find_pairs, heads, outline};
 use crate::store_fault::Trouble;
+use crate::store_fault::statements::open_file;
 use crate::store_fault::trees::{present, sure};
 use crate::supposed::Contents;
 use crate::{Access, CaseOutputs, Keeping, ResultStore, Results, RunHead, StoreFault};
 use kt_base::{Entry, NoMemory, Text, Variables};
-use sqlite::{Alter, FileFrom, FileStore};
+use sqlite::{Alter, Connection, FileFrom, FileStore};
 use sqlite_catalog::load::load;
 use sqlite_disk::Disk;
 use sqlite_schema::schema::Schema;
@@ -135,11 +137,47 @@ impl<D: Disk + Drop> RunsFile<FileStore<D>> {
     }
 }
 
+/// Takes the tables of a database, and gives the results by their trees.
+fn taken<S: Alter + Drop>(
+    alloc: Global,
+    connection: Connection<S>,
+) -> Result<RunsFile<S>, StoreFault>
+    ensures taken { IfOk result (IsTaken S.Store connection) }
+    ensures due { IfErr result (λ e. IsStoreFault e ⊎ (e ≡ StoreFault.UnknownSchema)) }
+{
+    match Results::attach(alloc, connection) {
+        Ok(results) => RunsFile::of(results),
+        Err((fault, _connection)) => Err(fault),
+    }
+}
+
+/// The same of a database in files. Apart, since what asks how a store over files is read is dear to the prover.
+fn taken_of<D: Disk + Drop>(
+    alloc: Global,
+    connection: Connection<FileStore<D>>,
+) -> Result<RunsFile<FileStore<D>>, StoreFault>
+    ensures taken { IfOk result (IsTakenOf connection) }
+    ensures due { IfErr result (λ e. IsStoreFault e ⊎ (e ≡ StoreFault.UnknownSchema)) }
+{
+    taken(alloc, connection)
+}
+
 /// How often a file is tried again that another process works with.
 const TRIES: usize = 100;
 
 /// The pause before a file is tried again, in milliseconds.
 const PAUSE: u64 = 50;
+
+/// Pauses if another process works with the file, which is then tried again; any other fault comes back.
+fn pause(rt: &HostRuntime, fault: StoreFault) -> Result<(), StoreFault>
+    ensures { IfErr result (λ e. e ≡ fault) }
+{
+    if !fault.is_in_use() {
+        return Err(fault);
+    }
+    thread::sleep(rt, Duration::from_millis(PAUSE));
+    Ok(())
+}
 
 impl<S: Contents> RunsFile<FileStore<FileFrom<S>>> {
     ghost use Rattle.std.specs.Prelude.{◌≡◌, ◌⊎◌, IfOk, IfErr};
@@ -155,8 +193,9 @@ impl<S: Contents> RunsFile<FileStore<FileFrom<S>>> {
         if let Some(known) = open_known(rt, file, access, S::unread())? {
             return Ok(known);
         }
-        let results = Results::open(rt, file, S::unread())?;
-        RunsFile::of(results)
+        prepare(rt, file);
+        let connection = open_file(rt, file, S::unread())?;
+        taken_of(rt.alloc(), connection)
     }
 
     /// Opens the results in a file, which is made where there is none. A file that another process works with is tried
@@ -167,8 +206,8 @@ impl<S: Contents> RunsFile<FileStore<FileFrom<S>>> {
     {
         for _ in 0..TRIES {
             match RunsFile::open_once(rt, file, access) {
-                Err(fault) if fault.is_in_use() => thread::sleep(rt, Duration::from_millis(PAUSE)),
-                opened => return opened,
+                Ok(opened) => return Ok(opened),
+                Err(fault) => pause(rt, fault)?,
             }
         }
         RunsFile::open_once(rt, file, access)

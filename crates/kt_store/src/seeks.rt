@@ -1,5 +1,5 @@
 ghost use Rattle.std.specs.Prelude.{◌≡◌, ◌⊎◌, ◌<◌, ◌≤◌, ◌^◌, ℕ, Some, None, drop, length, map, IfOk, IfErr, OnOk};
-ghost use Rattle.kt_store.specs.Common.{OnTrees, IsStoreFault, StandAt, Looks, LooksThrough, Run, AreRuns, Blob, Entry, column, entry_row, last_run, outputs_of, run_row, head_of, Serves, Heads, Outline, Outputs, Pairs, entries_of, outlined, run_at, seen_as};
+ghost use Rattle.kt_store.specs.Common.{OnTrees, IsLast, IsStoreFault, StandAt, Looks, LooksThrough, Run, AreRuns, Blob, Entry, column, entry_row, last_run, outputs_of, run_row, head_of, Serves, Heads, Outline, Outputs, Pairs, entries_of, outlined, run_at, seen_as};
 ghost use Rattle.kt_store.specs.Inner.Known.{readings};
 ghost use Rattle.sqlite_trees.specs.View.{IsClean};
 
@@ -75,6 +75,27 @@ pub(crate) fn heads<S: Store>(
     Ok(found)
 }
 
+/// The last row of a table, by its rowid, if it has one.
+pub(crate) fn last_row<S: Store>(
+    store: &mut S,
+    alloc: Global,
+    tree: u32,
+) -> Result<Option<row::Row>, Trouble>
+    ensures last { IfOk result (λ found. IsClean (S.Store.view store.new)
+        → IsLast ((S.Store.view store.old).trees tree) found) }
+    ensures through { IsClean (S.Store.view store.new)
+        → OnOk result (LooksThrough (S.Store.view store.old) (S.Store.view store.new)) }
+    ensures looks { Looks S.Store store.old store.new }
+{
+    sure(store.shape(tree) == Shape::Table)?;
+    let mut row = row::Row::new(alloc);
+    store.seek(0, tree, &row, Direction::Backward)?;
+    if !store.next(0, &mut row)? {
+        return Ok(None);
+    }
+    Ok(Some(row))
+}
+
 /// The number of the last run, 0 if there is none.
 pub(crate) fn last_number<S: Store>(
     store: &mut S,
@@ -88,12 +109,9 @@ pub(crate) fn last_number<S: Store>(
         → OnOk result (LooksThrough (S.Store.view store.old) (S.Store.view store.new)) }
     ensures looks { Looks S.Store store.old store.new }
 {
-    sure(store.shape(places.runs.tree) == Shape::Table)?;
-    let mut row = row::Row::new(alloc);
-    store.seek(0, places.runs.tree, &row, Direction::Backward)?;
-    if !store.next(0, &mut row)? {
+    let Some(row) = last_row(store, alloc, places.runs.tree)? else {
         return Ok(0);
-    }
+    };
     let number = number_of(&row)?;
     Ok(number)
 }
@@ -133,6 +151,29 @@ pub(crate) fn stored_head(alloc: Global, row: &row::Row) -> Result<RunHead, Trou
     head_in(&shown)
 }
 
+/// The head of a run. `NoRun` where no run has the number.
+pub(crate) fn run_head<S: Store>(
+    store: &mut S,
+    alloc: Global,
+    places: Places,
+    run: u64,
+) -> Result<RunHead, StoreFault>
+    requires { StandAt places (S.Store.view store.old) }
+    ensures small { OnOk result (run ≤ last_run) }
+    ensures found { OnTrees S.Store store.old store.new (λ runs.
+        IfOk result (λ head. (r : Run) × (run_at runs run ≡ Some r) × (head ≡ head_of r)
+        × AreRuns runs)) }
+    ensures refused { OnTrees S.Store store.old store.new (λ runs.
+        IfErr result (λ e. IsStoreFault e ⊎ ((e ≡ StoreFault.NoRun) × (run_at runs run ≡ None)))) }
+    ensures through { IsClean (S.Store.view store.new)
+        → OnOk result (LooksThrough (S.Store.view store.old) (S.Store.view store.new)) }
+    ensures looks { Looks S.Store store.old store.new }
+{
+    let row = stored_run(store, alloc, places, run)?;
+    let head = stored_head(alloc, &row)?;
+    Ok(head)
+}
+
 /// The entries of a run without their pairs and outputs, by position.
 fn all_entries<S: Store>(
     store: &mut S,
@@ -165,8 +206,7 @@ pub(crate) fn outline<S: Store>(
         (seen_as (λ found. found.items) result)) store.old store.new }
     ensures looks { Looks S.Store store.old store.new }
 {
-    let row = stored_run(store, alloc, places, run)?;
-    let head = stored_head(alloc, &row)?;
+    let head = run_head(store, alloc, places, run)?;
     let found = all_entries(store, alloc, places, key(run))?;
     check_entries(store, alloc, places, head, &found)?;
     Ok(found)

@@ -1,5 +1,5 @@
 -- What cursors over the trees of a store find of its runs.
-use Rattle.std.specs.Prelude.{◌≡◌, ℕ, ℤ, false, true, Bool, List, [], ◌∷◌, ◌++◌, Option, map, drop, take, filter, length, slice_get, IsTrue}
+use Rattle.std.specs.Prelude.{◌≡◌, ℕ, ℤ, false, true, Bool, List, [], ◌∷◌, ◌++◌, Option, Some, None, map, drop, take, filter, length, slice_get, IsTrue}
 use Rattle.std.specs.Option.{option_map}
 use Rattle.std.specs.Ordering.{is_eq}
 use Rattle.sqlite_trees.specs.declared.store.Shape.TheVariants.{Table}
@@ -54,6 +54,11 @@ Goes key table old place row new false = AllByRecursion (λ e. begins key e ≡ 
 abbrev pub CountsUnder : ℕ → ℕ → Row → Trees → ℕ → Type 0
 CountsUnder table index key trees n = (cs : List ℕ) (mine : List Row)
     → (IsShaped Table (trees table) → IsIndex plain (trees index) → Places cs key mine (trees table) (trees index)) → n ≡ length mine
+
+-- this is the last of the rows, if there are any
+abbrev pub IsLast : List Row → Option Row → Type 0
+IsLast rows None = rows ≡ []
+IsLast rows (Some row) = (front : List Row) × (rows ≡ front ++ row ∷ [])
 
 -- the transaction was not broken, and only cursors moved
 abbrev pub LooksThrough : View → View → Type 0

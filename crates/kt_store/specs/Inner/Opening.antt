@@ -6,9 +6,12 @@ use Rattle.sqlite_store.specs.Listing.{file_trees, IsOurs}
 use Rattle.sqlite_store.specs.Unopened.{state_of, wanted_by, image}
 use Rattle.sqlite.specs.Opening.{HoldsAt}
 use Rattle.kt_store.specs.Runs.{Keeps}
-use Rattle.kt_store.specs.Seeks.{HoldsRuns}
+use Rattle.kt_store.specs.Attaching.{Was, IsOf, TakesTables}
+use Rattle.kt_store.specs.Files.{Follows}
+use Rattle.kt_store.specs.Seeks.{HasCommitted, HoldsRuns}
+use Rattle.kt_store.specs.Stands.{StandsFor}
 use Rattle.kt_store.specs.Supposed.{ListsObjects}
-use Rattle.kt_store.specs.Types.{FileStore, Image, PageMap, Recovers, Run, Trees, recovers, view}
+use Rattle.kt_store.specs.Types.{FileStore, Ghosts as StoreGhosts, HasCleanDisk, Held, Image, IsClean, PageMap, Recovers, Run, Trees, file_state, recovers, state, view}
 
 module _ {D : Type 0} {g : Ghosts D} (image : Image) (store : FileStore D g) where
   -- a store shows the runs that a file held, unless it is broken, and a crash leaves them
@@ -27,3 +30,13 @@ module _ {D : Type 0} {g : Ghosts D} (old new : Unopened D g) where
     pub again : Recovers (state_of old).page_size (image new) pages
     pub fits : (runs : List Run) (db : Trees) → HoldsAt (state_of old).page_size (image old) db → Keeps runs db
         → IsOurs (state_of old).page_size true (wanted_by new) pages × (db ≡ file_trees (state_of old).page_size (wanted_by new) pages)
+
+-- the tables of a connection were taken, and a store has the last commit of the results; a crash leaves what it left of them
+abbrev pub IsTaken : {S : Type 0} → StoreGhosts S → Held S → S → Type 0
+IsTaken g conn it = (results : Held _) × ((was : Was) → IsOf was (state g conn) → TakesTables was (state g conn) (state g results))
+    × ((runs : List Run) → StandsFor (state g results) runs → HasCommitted (g.view it) runs)
+    × (IsClean (g.view it) → HasCleanDisk (state g results)) × ((trees : Trees) → g.recovers it trees → (state g results).may_leave trees)
+
+-- the same of a store over files
+abbrev pub IsTakenOf : {D : Type 0} {g : Ghosts D} → Held (FileStore D g) → FileStore D g → Type 0
+IsTakenOf conn it = (results : Held _) × ((was : Was) → IsOf was (file_state conn) → TakesTables was (file_state conn) (file_state results)) × Follows results it

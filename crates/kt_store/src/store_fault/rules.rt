@@ -1,4 +1,4 @@
-ghost use Rattle.std.specs.Prelude.{◌≡◌, ◌⊎◌, IfOk, OnOk};
+ghost use Rattle.std.specs.Prelude.{◌≡◌, ◌⊎◌, [], IfOk, OnOk};
 ghost use Rattle.kt_store.specs.Common.{IsOfWriteError, Obeys, HoldsCommit, PutsRows};
 ghost use Rattle.sqlite_schema.specs.Catalog.{IsCatalogOf};
 ghost use Rattle.sqlite_trees.specs.View.{IsClean, IsQuiet};
@@ -8,6 +8,7 @@ use crate::store_fault::{FAULTY, Trouble};
 use kt_base::NoMemory;
 use sqlite_exec::work::Workspace;
 use sqlite_items::Items;
+use sqlite_rules::edit::Touched;
 use sqlite_rules::error::{Rowids, WriteError};
 use sqlite_rules::write::{are_kept, write};
 use sqlite_schema::schema::{Among, Keys, Schema};
@@ -46,6 +47,69 @@ fn indexes_of(alloc: Global, schema: &Schema) -> Result<Vec<Index<'_>>, NoMemory
     Ok(all)
 }
 
+/// What an edit is applied with: rows that are used again, and what it has touched so far.
+#[derive(Drop)]
+struct EditWork {
+    space: Workspace,
+    touched: Items<Touched>,
+}
+
+/// Applies an edit with the indexes of the schema, and tests each rule. It owns nothing: what is dropped where a call fails
+/// is dear to the prover.
+fn put_with<S: Alter>(
+    store: &mut S,
+    work: &mut EditWork,
+    alloc: Global,
+    schema: &Schema,
+    indexes: &[Index<'_>],
+    edit: TableEdit<'_>,
+) -> Result<(), Trouble>
+    requires obeys { IsClean (S.Store.view store.old) → Obeys (S.Store.view store.old) schema.now }
+    requires short { edit.from ≡ 0 ⊎ edit.from ≡ 1 }
+    requires indexes { IsCatalogOf schema.now indexes.now }
+    requires untouched { work.old.touched ≡ [] }
+    ensures puts { IsClean (S.Store.view store.new)
+        → OnOk result (PutsRows schema.now edit.entry.place edit.entry.gone.now edit.entry.rowids
+        edit.entry.from edit.entry.sources.now (S.Store.view store.old).trees
+        (S.Store.view store.new).trees) }
+    ensures obeys { IsClean (S.Store.view store.new)
+        → OnOk result (Obeys (S.Store.view store.new) schema.now) }
+    ensures held { IsClean (S.Store.view store.new)
+        → HoldsCommit (S.Store.view store.old) (S.Store.view store.new) }
+    ensures quiet { IsQuiet S.Store.view S.Store.faults S.Store.recovers S.Store.is_shielded
+        store.old store.new }
+{
+    let Some(table) = schema.tables.as_slice().get(edit.place) else {
+        return Err(FAULTY);
+    };
+    write(
+        store,
+        &mut work.space,
+        alloc,
+        schema,
+        indexes,
+        Keys::Enforced,
+        edit.place,
+        table,
+        edit.gone,
+        edit.rowids,
+        edit.from,
+        edit.sources,
+        &mut work.touched,
+    )?;
+    let is_kept = are_kept(
+        store,
+        &mut work.space,
+        alloc,
+        schema,
+        indexes,
+        Among::All,
+        work.touched.as_slice(),
+    )?;
+    sure(is_kept)?;
+    Ok(())
+}
+
 /// Applies an edit, and tests each rule of the schema. Nothing is committed.
 pub(crate) fn put_rows<S: Alter>(
     store: &mut S,
@@ -66,36 +130,10 @@ pub(crate) fn put_rows<S: Alter>(
     ensures quiet { IsQuiet S.Store.view S.Store.faults S.Store.recovers S.Store.is_shielded
         store.old store.new }
 {
-    let Some(table) = schema.tables.as_slice().get(edit.place) else {
-        return Err(FAULTY);
-    };
     let indexes = indexes_of(alloc, schema)?;
-    let mut work = Workspace::new(alloc);
-    let mut log = Items::new(alloc);
-    write(
-        store,
-        &mut work,
-        alloc,
-        schema,
-        indexes.as_slice(),
-        Keys::Enforced,
-        edit.place,
-        table,
-        edit.gone,
-        edit.rowids,
-        edit.from,
-        edit.sources,
-        &mut log,
-    )?;
-    let is_kept = are_kept(
-        store,
-        &mut work,
-        alloc,
-        schema,
-        indexes.as_slice(),
-        Among::All,
-        log.as_slice(),
-    )?;
-    sure(is_kept)?;
-    Ok(())
+    let mut work = EditWork {
+        space: Workspace::new(alloc),
+        touched: Items::new(alloc),
+    };
+    put_with(store, &mut work, alloc, schema, indexes.as_slice(), edit)
 }

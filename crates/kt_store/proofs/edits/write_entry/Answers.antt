@@ -1,13 +1,19 @@
-use Rattle.kt_store.proofs.Common.{Fills, IsClean, Trees, View, ap, arith, places_2, rules, subst}
+use Rattle.kt_store.proofs.Common.{Fills, IsClean, Trees, View, ap, arith, places_2, subst}
 use Rattle.kt_store.proofs.EditLemmas.{entry_filled}
+use Rattle.kt_store.proofs.SeenLemmas.{held_then}
 use Rattle.kt_store.proofs.edits.write_entry.Goals as goal
 
 pub returns : goal.returns
 returns g c = record {
-  clean = search rules;
-  held = search rules;
-  outcomes = search rules;
-  obeys = search rules;
+  clean = λ clean. c.check_entry.ensures.looks.clean (omega (arith, clean, c.put_rows.ensures.quiet.clean, c.put_rows-2.ensures.quiet.clean));
+  held = λ clean.
+      let mid : IsClean (g.S.Store.view c.put_rows.new.store) = omega (arith, clean, c.put_rows-2.ensures.quiet.clean) in
+      let first = g.S.Store.view c.args.store.now in
+      let at = g.S.Store.view c.put_rows.new.store in
+      held_then first at (g.S.Store.view c.put_rows-2.new.store)
+      (held_then first (g.S.Store.view c.check_entry.new.store) at (c.check_entry.ensures.looks.held (omega (arith, mid, c.put_rows.ensures.quiet.clean))) (c.put_rows.ensures.held mid)) (c.put_rows-2.ensures.held clean);
+  outcomes = λ db found. c.check_entry.ensures.looks.outcomes db (c.put_rows.ensures.quiet.outcomes db (c.put_rows-2.ensures.quiet.outcomes db found));
+  obeys = c.in_ok-put_rows-2.ensures.obeys;
   agrees = λ runs has clean.
       let early : IsClean (g.S.Store.view c.check_entry.new.store) = omega (arith, clean, c.put_rows.ensures.quiet.clean, c.put_rows-2.ensures.quiet.clean) in
       (c.in_ok-check_entry.ensures.taken runs has early c.in_ok-reason.ensures.passed).0;

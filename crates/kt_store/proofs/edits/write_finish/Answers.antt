@@ -1,13 +1,14 @@
-use Rattle.kt_store.proofs.Common.{IsClean, View, [], ap, arith, done_row, pos, rules, sym, to_z_pos, w64, ℤ, ◌∙◌, ◌∷◌, ◌≡◌}
+use Rattle.kt_store.proofs.Common.{IsClean, View, [], ap, arith, done_row, pos, sym, to_z_pos, w64, ℤ, ◌∙◌, ◌∷◌, ◌≡◌}
 use Rattle.kt_store.proofs.EditLemmas.{finished_by, number_is}
+use Rattle.kt_store.proofs.SeenLemmas.{held_then}
 use Rattle.kt_store.proofs.edits.write_finish.Goals as goal
 
 pub returns : goal.returns
 returns g c = record {
-  clean = search rules;
-  held = search rules;
-  outcomes = search rules;
-  obeys = search rules;
+  clean = λ clean. c.check_run.ensures.looks.clean (omega (arith, clean, c.put_rows.ensures.quiet.clean));
+  held = λ clean. held_then (g.S.Store.view c.args.store.now) (g.S.Store.view c.check_run.new.store) (g.S.Store.view c.put_rows.new.store) (c.check_run.ensures.looks.held (omega (arith, clean, c.put_rows.ensures.quiet.clean))) (c.put_rows.ensures.held clean);
+  outcomes = λ db found. c.check_run.ensures.looks.outcomes db (c.put_rows.ensures.quiet.outcomes db found);
+  obeys = c.in_ok-put_rows.ensures.obeys;
   agrees = λ runs has clean. (c.in_ok-row.ensures.taken runs has (omega (arith, clean, c.put_rows.ensures.quiet.clean))).3;
   rows = λ runs has clean.
       let early : IsClean (g.S.Store.view c.check_run.new.store) = omega (arith, clean, c.put_rows.ensures.quiet.clean) in

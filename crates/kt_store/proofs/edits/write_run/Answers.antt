@@ -1,13 +1,14 @@
 use Rattle.kt_store.proofs.Common.{Chosen, IsClean, PutsRows, Trees, View, [], ap, arith, begun_row, rules, subst, ◌∷◌}
 use Rattle.kt_store.proofs.EditLemmas.{run_made}
+use Rattle.kt_store.proofs.SeenLemmas.{held_then}
 use Rattle.kt_store.proofs.edits.write_run.Goals as goal
 
 pub returns : goal.returns
 returns g c = record {
-  clean = search rules;
-  held = search rules;
-  outcomes = search rules;
-  obeys = search rules;
+  clean = λ clean. c.next_number.ensures.looks.clean (omega (arith, clean, c.put_rows.ensures.quiet.clean));
+  held = λ clean. held_then (g.S.Store.view c.args.store.now) (g.S.Store.view c.next_number.new.store) (g.S.Store.view c.put_rows.new.store) (c.next_number.ensures.looks.held (omega (arith, clean, c.put_rows.ensures.quiet.clean))) (c.put_rows.ensures.held clean);
+  outcomes = λ db found. c.next_number.ensures.looks.outcomes db (c.put_rows.ensures.quiet.outcomes db found);
+  obeys = c.in_ok-put_rows.ensures.obeys;
   agrees = search rules;
   rows = λ runs has clean.
       let early : IsClean (g.S.Store.view c.next_number.new.store) = omega (arith, clean, c.put_rows.ensures.quiet.clean) in

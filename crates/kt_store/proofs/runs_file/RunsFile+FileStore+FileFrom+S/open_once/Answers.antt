@@ -9,4 +9,4 @@ returns-in-Some-clause-opened g c = record {
 }
 
 pub returns-clause-opened : goal.returns-clause-opened
-returns-clause-opened g c = found_of _ c.in_ok-results.results c.of.result c.in_ok-results.ensures.opened c.of.ensures.stands c.of.ensures.earlier c.of.ensures.crash
+returns-clause-opened g c = found_of _ c.in_ok-connection.connection c.taken_of.result c.in_ok-connection.ensures.opened c.taken_of.ensures.taken

@@ -1,7 +1,22 @@
-use Rattle.kt_store.proofs.Common.{Int, IsClean, IsShaped, Row, Trees, View, [], all-append, ap, arith, column, filter, has_rowid, length-map, rules, subst, ℤ, ◌++◌, ◌∷◌, ◌≡◌}
+use Rattle.kt_store.proofs.Common.{Int, IsClean, IsShaped, Looks, Row, Trees, View, [], all-append, ap, arith, column, filter, has_rowid, length-map, rules, subst, ℤ, ◌++◌, ◌∷◌, ◌≡◌}
 use Rattle.kt_store.proofs.SeenLemmas.{looks_then}
 use Rattle.kt_store.proofs.PlaceLemmas as lemma
+use Rattle.kt_store.proofs.store_fault.trees.rows_behind.Given.{Over}
+use Rattle.kt_store.proofs.store_fault.trees.rows_behind.Goals.{After-next_row}
 use Rattle.kt_store.proofs.store_fault.trees.rows_behind.Goals as goal
+
+-- what was only read before the next row still is
+only_looks : (g : Over) (c : After-next_row g) → Looks g.S.Store c.args.store.now c.next_row.new.store
+only_looks g c = looks_then g.S.Store _ _ _ c.places.invariant.2 c.next_row.ensures.looks
+
+pub returns-in_err-next_row-clause-looks : goal.returns-in_err-next_row-clause-looks
+returns-in_err-next_row-clause-looks g c = only_looks g (goal.at.returns-in_err-next_row-clause-looks g c).After-next_row
+
+pub returns-then-not-branch-clause-looks : goal.returns-then-not-branch-clause-looks
+returns-then-not-branch-clause-looks g c = only_looks g (goal.at.returns-then-not-branch-clause-looks g c).After-next_row
+
+pub returns-in_err-add_shown-clause-looks : goal.returns-in_err-add_shown-clause-looks
+returns-in_err-add_shown-clause-looks g c = only_looks g (goal.at.returns-in_err-add_shown-clause-looks g c).After-next_row
 
 pub returns-then-not-branch-clause-all : goal.returns-then-not-branch-clause-all
 returns-then-not-branch-clause-all g c clean cs mine has =
@@ -16,7 +31,7 @@ pub places-preserved : goal.places-preserved
 places-preserved g c = (
   search rules,
   search rules,
-  looks_then g.S.Store _ _ _ c.places.invariant.2 c.next_row.ensures.looks,
+  only_looks g (goal.at.places-preserved g c).After-next_row,
   λ clean cs mine p.
       let early : IsClean (g.S.Store.view c.places.store) = c.next_row.ensures.looks.clean clean in
       let goes = rw c.if-not-branch.false at (c.in_ok-next_row.ensures.goes clean) in
