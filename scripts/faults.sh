@@ -145,6 +145,8 @@ BODY
 rule "names the allocator's refusal" paths 'Alloc(Error|Failed)([^A-Za-z]|$)' <<'PLACES'
 # It is taken for the value that says that memory ran out.
 kt_base/src/no_memory.rt
+# It is taken apart for the files that it gives back.
+kt_store/src/opening.rt
 PLACES
 body kt_suite/src/loader.rt 'ReadFault::Missing | ReadFault::Failed => blame(file, alloc, 0, SuiteCause::Unreadable),' <<'BODY'
 ReadFault::Missing => return Err(NoMemory::from(AllocError)),
@@ -216,11 +218,69 @@ if rows.len() > 500 { return Err(Trouble::Failed(FailedStatement { is_in_use: fa
 let head = head_in(row)?;
 BODY
 
-rule 'fails a test of its own' lines '(^|[^a-z_])(sure|present)[(](true|false|None|Some)' <<'PLACES'
+# A damage is reported by these calls alone.
+rule 'fails a test of its own' lines '(^|[^a-z_])(sure|present)[(]' <<'PLACES'
+# The two functions.
+kt_store/src/store_fault/trees.rt: pub(crate) fn sure(is_sound: bool) -> Result<(), Trouble>
+# The path, the value and the random number that an open needs, and the sizes of its files.
+kt_store/src/runs_file.rt: sure(is_path(file.as_str()))?;
+kt_store/src/runs_file.rt: let files = open_files(rt, file, present(start)?)?;
+kt_store/src/runs_file.rt: let options = present(options(rt, access.pages()))?;
+kt_store/src/opening.rt: let size = present(files.db.len().ok())?;
+kt_store/src/opening.rt: let log = present(files.log.len().ok())?;
+# The schema of a file: its number, its list of objects, its tables.
+kt_store/src/opening.rt: present(number_in(settings.as_slice()))
+kt_store/src/runs_file.rt: sure(!store.is_broken())?;
+kt_store/src/runs_file.rt: let schema = present(listed(&store, alloc)?)?;
+kt_store/src/runs_file.rt: let places = present(places_in(&schema))?;
+kt_store/src/seeks.rt: sure(store.shape(tree) == Shape::Table)?;
+kt_store/src/seeks.rt: sure(store.shape(places.runs.tree) == Shape::Table)?;
+kt_store/src/ends.rt: sure(store.shape(places.runs.tree) == Shape::Table)?;
+kt_store/src/ends.rt: sure(are_shaped(store, table))?;
+kt_store/src/store_fault/trees.rt: sure(are_shaped(store, table))?;
+kt_store/src/store_fault/trees.rt: sure(are_shaped(store, table))?;
+kt_store/src/store_fault/trees.rt: sure(are_shaped(store, table))?;
+kt_store/src/store_fault/trees.rt: sure(are_shaped(store, table))?;
+# Rows: their numbers, their kinds, and the entries of indexes that lead to them.
+kt_store/src/heads.rt: sure(head.number == heads.len() as u64 + 1)?;
+kt_store/src/outlines.rt: let kind = present(kind_of(code))?;
+kt_store/src/store_fault/trees.rt: let id = present(rowid_of(place))?;
+kt_store/src/store_fault/trees.rt: sure(store.get(table.tree, id, row)?)?;
+# The ends of the tables and of their indexes, and the entries of a run.
+kt_store/src/ends.rt: sure(is_last_row_placed(store, alloc, table)?)?;
+kt_store/src/ends.rt: sure(is_end(alloc, &end, last)?)
+kt_store/src/ends.rt: sure(has_entry(store, alloc, places, &pair)?)
+kt_store/src/ends.rt: sure(store.get(places.runs.tree, i64::from(key(last)), &mut row)?)?;
+kt_store/src/ends.rt: sure(may_be_all(head, entries))?;
+kt_store/src/ends.rt: sure(are_of_entries(store, alloc, places, head, entries)?)
+# A row that was written obeys the rules of its table.
+kt_store/src/store_fault/rules.rt: sure(is_kept)?;
 PLACES
 body kt_store/src/heads.rt 'let head = head_in(row)?;' <<'BODY'
 if rows.len() > 500 { crate::store_fault::trees::sure(false)?; }
 let head = head_in(row)?;
+BODY
+
+# Two opens of one file under one value of its first contents could disagree, so each call that opens is listed.
+rule 'opens the files of results' lines \
+  '(^|[^a-z_])(open_both|try_open|open_files|open_files_with|connect|open_in_memory)(::<[^(]*>)?[(]|sqlite_std_file::open|sqlite(_disk|_std_file)?::([{].*)?(Unknown|Wary)' <<'PLACES'
+# The one open of a process, which is tried again while another process works with the file.
+kt_store/src/store_fault/statements.rt: match sqlite_std_file::open(rt, file.as_str(), start) {
+kt_store/src/runs_file.rt: match open_both(rt, file, start) {
+kt_store/src/runs_file.rt: match try_open(rt, file, start) {
+kt_store/src/runs_file.rt: match try_open(rt, file, start) {
+kt_store/src/runs_file.rt: let files = open_files(rt, file, present(start)?)?;
+# A connection over these files, if they do not list the tables of schema 2.
+kt_store/src/store_fault/statements.rt: done(Connection::open_files(alloc, files, options))
+kt_store/src/runs_file.rt: let connection = connect(alloc, left, options)?;
+# The type of the first contents, and its one value.
+kt_store/src/supposed.rt: use sqlite::{Start, Unknown};
+kyua/src/host.rt: use sqlite::{FileFrom, FileStore, Unknown};
+kyua/src/main.rt: use sqlite::Unknown;
+PLACES
+body kt_store/src/runs_file.rt 'prepare(rt, file);' <<'BODY'
+if let Ok(files) = open_both(rt, file, sqlite::Unknown) { let _ = connect(rt.alloc(), files, sqlite_pager::Options::new(1)); }
+prepare(rt, file);
 BODY
 
 # The text itself, or a piece of it.
@@ -252,7 +312,7 @@ kt_base/src/parts.rt: " bytes of physical memory but only ",
 kt_metadata/src/meta.rt: required_memory: self.size("required_memory"),
 kt_metadata/src/table.rt: ("required_memory", "require.memory", Form::Size),
 # A name that SQLite takes for no file.
-kt_store/src/opening.rt: path != ":memory:" && !path.starts_with("file:")
+kt_store/src/runs_file.rt: path != ":memory:" && !path.starts_with("file:")
 PLACES
 body kt_cli/src/commands/testing.rt 'let moment = world.now();' <<'BODY'
 if options.filters.len() > 300 { return ended(emit_all(&[b"kyua: E: out of memory\n"], out), FAILED); }
@@ -386,9 +446,10 @@ kt_removal/src/named.rt: let _ = self.remove_file(rt, path.as_slice());
 # A directory that was just made, and can't be used.
 kt_child/src/host/outputs.rt: let _ = fs::remove_dir(rt, path);
 kt_child/src/host/outputs.rt: let _ = fs::remove_dir(rt, root.as_str());
-# The first name of a new file of results, once it has its own.
-kt_store/src/new_file.rt: let is_named = is_whole && fs::hard_link(rt, new.as_str(), file.as_str()).is_ok();
+# The second name of a new results file, and its first name once it has two. Contracts state which names these are.
+kt_store/src/new_file.rt: fs::hard_link(rt, name.as_str(), results.as_str()).is_ok()
 kt_store/src/new_file.rt: let _ = fs::remove_file(rt, name.as_str());
+kt_store/src/new_file.rt: let _ = fs::remove_file(rt, first.name.as_str());
 PLACES
 body kt_store/src/new_file.rt 'if found.nlink() > 1 {' <<'BODY'
 if found.len() > 268_435_456 { let _ = fs::remove_file(rt, file.as_str()); }
@@ -535,7 +596,6 @@ types='(Refused|SinkFault|Claim|TapFault|ListBytes|ReadEnd|OsFault|ReadFault|Fil
 rule 'gives a name to what has one' lines "[A-Za-z] as [A-Z][A-Za-z]*([,;}]|\$)|::[*]|type [A-Z].*= .*$types|use .*$types::" <<'PLACES'
 # A trait whose name others have, and the error of SQLite, which has rules of its own.
 kt_store/src/store_fault/statements.rt: Alter, Connection, Error as SqlError, ErrorCode, FileFrom, FileStore, Row, Start, Transaction,
-kt_store/src/opening.rt: use std::rt::Files as FileSystem;
 PLACES
 body kt_child/src/driving/starts.rt 'use kt_sched::{Job, StartAnswer};' <<'BODY'
 use kt_base::Refused as Cause;

@@ -106,7 +106,7 @@ pub use Rattle.kt_store.specs.Inner.Edits.{Fills, IsSettledStore, begun_row}
 pub use Rattle.kt_store.specs.Inner.Heads.{output_columns}
 pub use Rattle.kt_store.specs.Inner.Kept.{OnlyReads}
 pub use Rattle.kt_store.specs.Inner.Known.{HasRuns, by_trees, readings, runs_file}
-pub use Rattle.kt_store.specs.Inner.NewFiles.{HoldsEmpty, IsNewName}
+pub use Rattle.kt_store.specs.Inner.NewFiles.{HoldsEmpty, IsNewNameOf}
 pub use Rattle.kt_store.specs.Inner.Runs.{HasTexts}
 pub use Rattle.kt_store.specs.Inner.Transactions.{IsUndone, RunInTurn, RunsInside, begun, make_statements, pair_text, raise_statements}
 pub use Rattle.kt_store.specs.Runs.{HaveNoPairs, IsRun, KeepsEither, KeepsOld, OldTables, SaysIn, Tables, entry_rows, finish_refusal_of, insert_at, prop_rows, put_refusal_of}

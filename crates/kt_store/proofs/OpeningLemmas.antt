@@ -1,5 +1,5 @@
 -- A file that holds runs lists the schema of their tables, and what was taken of it has these runs.
-use Rattle.kt_store.proofs.Common.{AllByRecursion, AreOrdered, Bool, Current, Database, Err, FileStore, HasCleanDisk, HasCommitted, Held, HoldsAt, HoldsIn, HoldsRuns, IfOk, IfSome, Image, Int, IsClean, IsRun, IsTaken, IsTakenOf, Keeps, List, Lists, Looks, Ok, OpensOver, OpensRuns, Option, PageMap, Recovers, Result, Row, Run, Schema, Shape, Some, StandsFor, StoreFault, Table, Tables, Trees, Trees-set, Value, View, [], ap, ap₂, arith, catalog_tree, clean_if_open, cond, entries_1, false, file_state, get_or, in_use, index_reals, inr, joined, layout_at, layout_of, length, lists_once, map, map-map, meets, meta_1, none-some, number_in, over_files, plain, plain_adopts, pos, props_1, recovers_once, refl, rowid, rows_at, same_Some, schema_2, shut_if_dirty_at, state, subst, sym, table_reals, true, unrooted, version_in, view, with_version, ℕ, ∥∥₁_elim, ◌%◌, ◌-◌, ◌<◌, ◌∙◌, ◌∷◌, ◌≡◌, ◌≢◌, ◌≤◌}
+use Rattle.kt_store.proofs.Common.{AllByRecursion, AreOrdered, Bool, Current, Database, Err, FileStore, HasCleanDisk, HasCommitted, Held, HoldsAt, HoldsDatabase, HoldsIn, HoldsRuns, IfOk, IfSome, Image, Int, IsClean, IsRun, IsTaken, IsTakenOf, IsTrue, Keeps, List, Lists, Looks, Ok, OpensOver, OpensRuns, Option, PageMap, Recovers, Result, Row, Run, Schema, Shape, Some, StandsFor, StoreFault, Table, Tables, Trees, Trees-set, Value, View, [], ap, ap₂, arith, catalog_tree, clean_if_open, cond, entries_1, false, file_state, get_or, in_use, index_reals, inr, joined, layout_at, layout_of, length, lists_once, map, map-map, meets, meta_1, none-some, number_in, over_files, plain, plain_adopts, pos, props_1, recovers_once, refl, rowid, rows_at, same_Some, schema_2, shut_if_dirty_at, state, subst, sym, table_reals, true, unrooted, version_in, view, with_version, ℕ, ∥∥₁_elim, ◌%◌, ◌-◌, ◌<◌, ◌∙◌, ◌∷◌, ◌≡◌, ◌≢◌, ◌≤◌}
 use Rattle.std.specs.Result.{result_ok}
 use Rattle.sqlite_trees.specs.declared.store.Shape.TheVariants as kind
 use Rattle.sqlite_store.specs.declared.catalog.Wanted.{Wanted}
@@ -10,7 +10,15 @@ use Rattle.sqlite.specs.Store.{Ghosts as StoreGhosts}
 use Rattle.sqlite_disk.specs.declared.Disk.{Ghosts}
 use Rattle.sqlite_disk.specs.Events.{Event, replay}
 use Rattle.kt_store.specs.Attaching.{IsOf, TakesTables, Was}
-use Rattle.kt_store.specs.Files.{AreOfFile, Finds, Follows, IsOfFile}
+use Rattle.sqlite_pool.specs.Stored.{stored_size}
+use Rattle.sqlite_wal.specs.PageSize.{IsPageSize}
+use Rattle.sqlite_wal.specs.Reads.{OnlyReads}
+use Rattle.sqlite_wal.proofs.CleanLemmas.{both_clean}
+use Rattle.sqlite_disk.specs.declared.Files.{Files}
+use Rattle.sqlite.specs.Files.{IsOpened, Finds as FindsFiles, image_of}
+use Rattle.kt_store.specs.Files.{AreOfFile, Finds, Follows, IsOfFile, IsReadAs, recovered, unchanged}
+use Rattle.kt_store.specs.Inner.Opening.{IsLeft}
+use Rattle.kt_store.proofs.Common.{adopts_of, same_image}
 
 -- a result that was taken as an option
 pub ok_is : {T E : Type 0} (r : Result T E) (o : Option T) (x : T) → o ≡ result_ok r → o ≡ Some x → r ≡ Ok x
@@ -20,6 +28,11 @@ ok_is (Err e) o x is some = absurd (none-some x (sym is ∙ some))
 pub if_some : {T E : Type 0} (P : T → Type 0) (r : Result T E) (o : Option T) → o ≡ result_ok r → ((x : T) → r ≡ Ok x → P x) → IfSome o P
 if_some P (Ok y) o is each = subst (λ p. IfSome p P) (sym is) (each y refl)
 if_some P (Err e) o is each = subst (λ p. IfSome p P) (sym is) tt
+
+-- the result of a call, of which another call kept the value
+pub if_done : {T E F : Type 0} (P : T → Type 0) (made : Result T F) (returned : Result T E) → IfOk made (λ it. returned ≡ Ok it) → IfOk returned P → IfOk made P
+if_done P (Ok it) returned is has = subst (λ r. IfOk r P) is has
+if_done P (Err fault) returned is has = tt
 
 -- files that nothing was done with hold what they held
 abbrev seen : List ℕ → List ℕ → Bool → List Event → List ℕ
@@ -115,13 +128,46 @@ same_tables s t a b runs same equal has = subst (λ x. Tables (record { schema =
 
 pub taken_by : {S : Type 0} (g : StoreGhosts S) (conn results : Held S) (made : Result S StoreFault) → ((was : Was) → IsOf was (state g conn) → TakesTables was (state g conn) (state g results))
     → IfOk made (λ s. (runs : List Run) → StandsFor (state g results) runs → HasCommitted (g.view s) runs) → IfOk made (λ s. IsClean (g.view s) → HasCleanDisk (state g results))
-    → IfOk made (λ s. (trees : Trees) → g.recovers s trees → (state g results).may_leave trees) → IfOk made (IsTaken g conn)
-taken_by g conn results (Ok store) takes stands earlier crash = (results, takes, stands, earlier, crash)
-taken_by g conn results (Err fault) takes stands earlier crash = tt
+    → IfOk made (λ s. (trees : Trees) → g.recovers s trees → (state g results).may_leave trees) → IfOk made (λ s. IsClean (g.view s) → IsTrue (g.view s).is_numbered) → IfOk made (IsTaken g conn)
+taken_by g conn results (Ok store) takes stands earlier crash numbered = (results, takes, stands, earlier, crash, numbered)
+taken_by g conn results (Err fault) takes stands earlier crash numbered = tt
 
 pub taken_files : {D : Type 0} {g : Ghosts D} (conn : Held (FileStore D g)) (made : Result (FileStore D g) StoreFault) → IfOk made (IsTaken over_files conn) → IfOk made (IsTakenOf conn)
-taken_files conn (Ok store) (results, takes, stands, earlier, crash) = (results, takes, record { stands = stands; earlier = earlier; crash = crash })
+taken_files conn (Ok store) (results, takes, stands, earlier, crash, numbered) = (results, takes, record { stands = stands; earlier = earlier; crash = crash; numbered = numbered })
 taken_files conn (Err fault) taken = tt
+
+-- files that were read hold the database that they held
+held_still : {old new : Image} → IsReadAs old new → (db : Trees) → HoldsDatabase old db → HoldsDatabase new db
+held_still unchanged db held = held
+held_still (recovered new size pages unsummed found again sized) db held =
+    let at = without_sums size _ db unsummed (subst (λ n. HoldsIn n _ db) (sized db held) held.2) in
+    let same = recovers_once size _ at.pages pages at.found found in
+    let adopted = adopts_of size new at.pages (subst (Recovers size new) (sym same) again) in
+    (size, subst (λ n. IsPageSize (stored_size n)) (sized db held) held.1, record { pages = at.pages; wanted = at.wanted; schema = at.schema; found = adopted; ours = at.ours; reads = at.reads; sound = at.sound })
+
+-- files that were only read are left
+pub left_read : {D : Type 0} (g : Ghosts D) (old new : Files D) → OnlyReads g old.log new.log → OnlyReads g old.db new.db → IsLeft g old new
+left_read g old new log db = record {
+  log = log.usable;
+  db = db.usable;
+  read = λ clean. (both_clean _ _ _ _ log.clean db.clean clean, subst (IsReadAs (image_of g old)) (sym (same_image log db)) unchanged);
+}
+
+-- and so are those that were read once more
+pub left_more : {D : Type 0} (g : Ghosts D) (old mid new : Files D) → OnlyReads g old.log mid.log → OnlyReads g old.db mid.db → OnlyReads g mid.log new.log → OnlyReads g mid.db new.db → IsLeft g old new
+left_more g old mid new log db log_again db_again = record {
+  log = log_again.usable;
+  db = db_again.usable;
+  read = λ clean.
+      let early = both_clean _ _ _ _ log_again.clean db_again.clean clean in
+      (both_clean _ _ _ _ log.clean db.clean early, subst (IsReadAs (image_of g old)) (sym (same_image log_again db_again ∙ same_image log db)) unchanged);
+}
+
+-- a connection over files that were only read is one over what the files held
+pub of_file : {D : Type 0} {g : Ghosts D} (old left : Files D) (conn : Held (FileStore D g)) → IsLeft g old left → (HasCleanDisk (file_state conn) → IsOpened conn × FindsFiles left conn) → IsOfFile (image_of g old) conn
+of_file {D} {g} old left conn was over clean =
+    let it = over clean in
+    (it.0, (image_of g left, (was.read it.1.honest).1, record { holds = it.1.holds; reads = it.1.reads }))
 
 module _ {D : Type 0} {g : Ghosts D} (image : Image) where
   -- a connection over the file stands for them
@@ -129,7 +175,8 @@ module _ {D : Type 0} {g : Ghosts D} (image : Image) where
   held_stands conn over runs (db, found, (held, sound, trees, tables)) clean opened =
       let it = over clean in
       let s = file_state conn in
-      let same : held.trees ≡ s.committed.trees = sym trees ∙ ∥∥₁_elim found (Trees-set _ _) (λ it_is. sym (it.1.holds db it_is)) in
+      let (read, as_read, finds) = it.1 in
+      let same : held.trees ≡ s.committed.trees = sym trees ∙ ∥∥₁_elim found (Trees-set _ _) (λ it_is. sym (finds.holds db (held_still as_read db it_is))) in
       let lists : Lists (s.committed.trees catalog_tree) held.schema = subst (λ (t : Trees). Lists (t catalog_tree) held.schema) same sound.lists in
       let schema : held.schema ≡ s.committed.schema = lists_once (s.committed.trees catalog_tree) held.schema s.committed.schema lists (it.0.1 opened).1.lists in
       record {
@@ -150,5 +197,5 @@ module _ {D : Type 0} {g : Ghosts D} (image : Image) where
   pub found_of : (conn : Held (FileStore D g)) (made : Result (FileStore D g) StoreFault) → IsOfFile image conn → IfOk made (IsTakenOf conn) → IfOk made (Finds image)
   found_of conn (Ok store) over (results, takes, follows) =
       let taken : AreOfFile image results = (conn, over, takes) in
-      record { held = opens_of results store taken follows; whose = inr (results, taken, follows) }
+      record { held = opens_of results store taken follows; whose = inr (results, taken, follows); numbered = λ clean must. follows.numbered clean }
   found_of conn (Err fault) over taken = tt

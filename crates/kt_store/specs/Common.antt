@@ -6,14 +6,15 @@ pub use Rattle.sqlite_value.specs.Value.{owned}
 pub use Rattle.sqlite_wal.specs.Files.{image_at}
 pub use Rattle.kt_store.specs.Ask.{IsNoMemory, IsStoreFault, Rests}
 pub use Rattle.kt_store.specs.Attaching.{Blank, IsOf, Older, Refuses, TakesTables}
-pub use Rattle.kt_store.specs.Files.{AreOfFile, Ends, EndsIn, Finds, IsOfFile}
+pub use Rattle.kt_store.specs.Files.{AreOfFile, Ends, EndsIn, Finds, IsOfFile, IsReadAs, MustBeTested}
 pub use Rattle.kt_store.specs.Heads.{entry_at, head_of, no_output, outlined, outputs_of, pairs_of}
 pub use Rattle.kt_store.specs.Inner.Ask.{AreWide, Asked, HasColumns, MayShow, MayExecute, ShowsOf, Executed}
-pub use Rattle.kt_store.specs.Inner.Cursors.{CountsUnder, FindsUnder, Goes, HoldsCommit, IsLast, Looks, LooksThrough, ShowsUnder, in_columns}
+pub use Rattle.kt_store.specs.Inner.Cursors.{CountsUnder, FindsUnder, ends_with, key_before, Goes, HoldsCommit, IsLast, Looks, LooksThrough, ShowsUnder, in_columns}
 pub use Rattle.kt_store.specs.Inner.Edits.{Ended, Obeys, PutsRows, Wrote, done_row, unnumbered}
-pub use Rattle.kt_store.specs.Inner.Fault.{IsShort, IsOfError, IsOfTreeError, IsOfWriteError}
-pub use Rattle.kt_store.specs.Inner.Heads.{entry_columns, head_columns, pair_columns, whole_columns}
-pub use Rattle.kt_store.specs.Inner.Opening.{IsTaken, IsTakenOf, ListsRuns, OpensOver}
+pub use Rattle.kt_store.specs.Inner.Fault.{IsOutOfMemory, IsShort, IsOfError, IsOfRecoverError, IsOfTreeError, IsOfWriteError}
+pub use Rattle.kt_store.specs.Inner.Heads.{CountFrom, entry_columns, head_columns, pair_columns, whole_columns}
+pub use Rattle.kt_store.specs.Inner.NewFiles.{IsUri}
+pub use Rattle.kt_store.specs.Inner.Opening.{IsLeft, IsOfOptions, IsTaken, IsTakenOf, ListsRuns, OpensOver, RecoversAgain, SaysAnother}
 pub use Rattle.kt_store.specs.Inner.Known.{AreNamed, OnTrees, StandAt, places_2}
 pub use Rattle.kt_store.specs.Inner.Kept.{AsksNumber, Changes, CommitsNothing, FindsTables, HasNumber, KeepsRuns, LeavesSchema, Looked, MayChange, WasClean}
 pub use Rattle.kt_store.specs.Inner.Runs.{CanAdd, IsBareIfPassed, IsComplete, entries_of}

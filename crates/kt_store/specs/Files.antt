@@ -1,5 +1,5 @@
 -- Results in a file, as they are opened and closed.
-use Rattle.std.specs.Prelude.{◌≡◌, ◌⊎◌, pos, List, IsTrue, ℕ, Bool, []}
+use Rattle.std.specs.Prelude.{◌≡◌, ◌≢◌, ◌⊎◌, ◌≤◌, ◌%◌, pos, length, List, IsTrue, ℕ, Bool, []}
 use Rattle.sqlite_disk.specs.declared.Disk as disk
 use Rattle.sqlite_disk.specs.declared.Files.{Files}
 use Rattle.sqlite_wal.specs.Files.{outcomes}
@@ -14,7 +14,7 @@ use Rattle.kt_store.specs.Supposed.{ListsTables}
 use Rattle.sqlite_store.specs.Listing.{file_trees, IsOurs}
 use Rattle.sqlite_store.specs.declared.catalog.Wanted.{Wanted}
 use Rattle.sqlite_wal.specs.PageSize.{IsPageSize}
-use Rattle.kt_store.specs.Types.{FileStore, HasCleanDisk, Held, Image, IsClean, IsOpened, IsQuiet, PageMap, Recovers, Run, Trees, file_state, recovers, stored_size, view}
+use Rattle.kt_store.specs.Types.{FileStore, HasCleanDisk, Held, HoldsDatabase, Image, IsClean, IsOpened, IsQuiet, PageMap, Recovers, Run, Trees, file_state, recovers, stored_size, view}
 
 -- the two files recover to a sound file with these trees, with the log and without it; the trees are numbered if `is_numbered` says so
 pub record HasWithoutLog (is_numbered : Bool) (trees : Trees) (image : Image) : Type 0 where
@@ -27,10 +27,29 @@ pub record HasWithoutLog (is_numbered : Bool) (trees : Trees) (image : Image) : 
   pub file : ∥ IsOurs size is_numbered wanted pages ∥₁
   pub reads : trees ≡ file_trees size wanted pages
 
+-- the largest file whose pages and trees are all tested as it is opened, in bytes
+abbrev pub most_tested : ℕ
+most_tested = 16777216
+
+-- the shortest log with a frame, in bytes
+abbrev pub shortest_log : ℕ
+shortest_log = 56
+
+-- `MustBeTested image`: the files are so small, or their log so long, that all their pages and trees are tested as they are opened
+abbrev pub MustBeTested : Image → Type 0
+MustBeTested image = (length image.db ≤ most_tested) ⊎ (shortest_log ≤ length image.log)
+
+-- `IsReadAs old new`: files hold what they held before they were read: the same bytes, or bytes that recover to the same pages, which any
+-- database in the old ones has
+pub data IsReadAs (old : Image) : Image → Type 0 where
+  unchanged : IsReadAs old old
+  recovered : (new : Image) (size : ℕ) (pages : PageMap) → size % 16 ≢ 8 → Recovers size old pages → Recovers size new pages
+      → ((db : Trees) (held : HoldsDatabase old db) → held.0 ≡ size) → IsReadAs old new
+
 module _ {D : Type 0} {g : disk.Ghosts D} where
-  -- a connection has the database that the file held
+  -- `IsOfFile image conn`: a connection has the database that the files held, which were perhaps read before
   abbrev pub IsOfFile : Image → Held (FileStore D g) → Type 0
-  IsOfFile image conn = HasCleanDisk (file_state conn) → IsOpened conn × FindsIn image (file_state conn)
+  IsOfFile image conn = HasCleanDisk (file_state conn) → IsOpened conn × ((read : Image) × IsReadAs image read × FindsIn read (file_state conn))
 
   -- the results are those of such a connection, whose tables were taken
   abbrev pub AreOfFile : Image → Held (FileStore D g) → Type 0
@@ -41,6 +60,7 @@ module _ {D : Type 0} {g : disk.Ghosts D} where
     pub stands : (runs : List Run) → StandsFor (file_state results) runs → HasCommitted (view store) runs
     pub earlier : IsClean (view store) → HasCleanDisk (file_state results)
     pub crash : (trees : Trees) → recovers store trees → (file_state results).may_leave trees
+    pub numbered : IsClean (view store) → IsTrue (view store).is_numbered
 
   -- a file lists the tables of schema 2, and the store says this number
   pub record Lists (image : Image) (store : FileStore D g) : Type 0 where
@@ -51,6 +71,7 @@ module _ {D : Type 0} {g : disk.Ghosts D} where
   pub record Finds (image : Image) (store : FileStore D g) : Type 0 where
     pub held : OpensRuns image store
     pub whose : Lists image store ⊎ ((results : Held (FileStore D g)) × AreOfFile image results × Follows results store)
+    pub numbered : IsClean (view store) → MustBeTested image → IsTrue (view store).is_numbered
 
   -- a store ended with these two files of its own, of which the database file alone has the last commit, also after a crash
   pub record Ends (store : FileStore D g) : Type 0 where

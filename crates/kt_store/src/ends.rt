@@ -2,8 +2,8 @@
 //! has the entries that it must have. So a page that the disk lost, or of an earlier moment, seldom hides a result,
 //! whatever the size of the file.
 
-ghost use Rattle.std.specs.Prelude.{◌≡◌, ◌<◌, [], ◌∷◌, length, map, pos, true, IfOk, OnOk};
-ghost use Rattle.kt_store.specs.Common.{AllByRecursion, Entry as Stored, Int, IsAscending, Looks, LooksThrough, Run, head_of, outlined};
+ghost use Rattle.std.specs.Prelude.{◌≡◌, ◌<◌, ◌≤◌, [], ◌∷◌, length, map, pos, true, IfOk, OnOk};
+ghost use Rattle.kt_store.specs.Common.{AllByRecursion, Entry as Stored, Int, IsAscending, Looks, LooksThrough, Run, ends_with, head_of, last_run, outlined};
 ghost use Rattle.kt_store.specs.Runs.{IsRun};
 ghost use Rattle.sqlite_trees.specs.View.{IsClean};
 
@@ -83,9 +83,11 @@ pub(crate) fn entry_place(alloc: Global, run: u32, position: u32) -> Result<Row,
     Ok(place)
 }
 
-/// Whether this may be the end of the index of entries if the last run has this head: of a finished run it is the last
-/// position.
-fn is_end(alloc: Global, end: &Row, last: RunHead) -> Result<bool, NoMemory> {
+/// Returns whether an entry may be the end of the index of entries if the last run has this head: the last position of a
+/// finished run, or an earlier one of another.
+fn is_end(alloc: Global, end: &Row, last: RunHead) -> Result<bool, NoMemory>
+    ensures { last.number ≤ last_run → IfOk result (λ is. is ≡ ends_with last end.now) }
+{
     let number = key(last.number);
     if last.finished && last.total > 0 {
         let whole = entry_place(alloc, number, last.total - 1)?;

@@ -1,10 +1,11 @@
 ghost use Rattle.std.specs.Prelude.{◌≡◌, ◌≤◌, length, map, List, IfOk, ◌++◌, [], ◌∷◌, OnOk};
-ghost use Rattle.kt_store.specs.Common.{OnRuns, AreWide, Looked, head_columns, head_of};
+ghost use Rattle.kt_store.specs.Common.{CountFrom, OnRuns, AreWide, Looked, head_columns, head_of};
 ghost use Rattle.kt_base.specs.declared.entry.Run.{Run as Stored};
 
 use crate::RunHead;
 use crate::store_fault::Trouble;
 use crate::store_fault::statements::{query, value_in};
+use crate::store_fault::trees::sure;
 use kt_base::NoMemory;
 use sqlite::{Alter, Connection, Row};
 use std::alloc::Global;
@@ -34,15 +35,17 @@ pub(crate) fn head_in(row: &Row) -> Result<RunHead, Trouble>
     })
 }
 
-/// The heads in the rows.
+/// Reads the heads of runs in their rows. The rows are damaged if they are not numbered from 1.
 pub(crate) fn heads_in(alloc: Global, rows: &[Row]) -> Result<Vec<RunHead>, Trouble>
     requires { AreWide 4 rows.now }
     ensures heads { (runs : List Stored) → rows.now ≡ map head_columns runs
         → IfOk result (λ heads. heads.items ≡ map head_of runs) }
+    ensures numbered { IfOk result (λ heads. CountFrom 1 heads.items) }
 {
     let mut heads = Vec::new(alloc);
     for row in rows {
         let head = head_in(row)?;
+        sure(head.number == heads.len() as u64 + 1)?;
         add(&mut heads, head)?;
     }
     Ok(heads)
@@ -55,6 +58,7 @@ pub(crate) fn all_heads<S: Alter>(
 ) -> Result<Vec<RunHead>, Trouble>
     ensures all { OnRuns S.Store conn.old conn.new (λ runs.
         IfOk result (λ heads. heads.items ≡ map head_of runs)) }
+    ensures numbered { IfOk result (λ heads. CountFrom 1 heads.items) }
     ensures looked { Looked S.Store conn.old conn.new }
 {
     let rows = query(

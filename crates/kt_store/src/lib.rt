@@ -33,5 +33,6 @@ pub use reopening::law_of_reopening;
 pub use result_store::{CaseOutputs, Keeping, ResultStore, RunHead};
 pub use results::Results;
 pub use runs_file::RunsFile;
+pub use store_fault::statements::NotOpened;
 pub use store_fault::{FailedStatement, Shortage, StoreFault};
-pub use supposed::{Contents, Supposed};
+pub use supposed::Supposed;

@@ -1,7 +1,7 @@
-ghost use Rattle.std.specs.Prelude.{◌≡◌, ◌++◌, ℕ, List, IfOk};
+ghost use Rattle.std.specs.Prelude.{◌≡◌, ◌++◌, ℕ, List, IfOk, IfSome, IsTrue};
 ghost use Rattle.sqlite_pool.specs.Header.{first_page};
 ghost use Rattle.sqlite_wal.specs.Recovery.{IsIgnored};
-ghost use Rattle.kt_store.specs.Inner.NewFiles.{HoldsEmpty, IsNewName};
+ghost use Rattle.kt_store.specs.Inner.NewFiles.{HoldsEmpty, IsNewNameOf, IsOwnName};
 ghost use Rattle.std.specs.Str.{chars};
 
 use kt_base::{NoMemory, Text, emit};
@@ -14,24 +14,24 @@ use std::{fs, io};
 /// The page size of a new file, in bytes (docs/DECISIONS.md).
 const PAGE_SIZE: usize = 1_024;
 
-/// A log that is shorter has no frame, and SQLite reads nothing of it.
-const SHORTEST_LOG: u64 = 56;
+/// The shortest log with a frame, in bytes. SQLite ignores a shorter one.
+pub(crate) const SHORTEST_LOG: usize = 56;
 
-/// The rights of its owner to read and write a file.
+/// The rights of an owner to read and write a file.
 const OWNER_RIGHTS: u32 = 0o600;
 
-/// How a file begins: its format, pages of 0x0400 bytes, a log for writers and readers, no bytes of a page reserved, and
+/// The beginning of a file: its format, pages of 0x0400 bytes, a log for writers and readers, no bytes of a page reserved, and
 /// the fractions of a page that a payload takes.
-const FRONT: [u8; 24] = *b"SQLite format 3\0\x04\x00\x02\x02\x00\x40\x20\x20";
+const HEADER: [u8; 24] = *b"SQLite format 3\0\x04\x00\x02\x02\x00\x40\x20\x20";
 
-/// The one page of an empty database, by "Database File Format" of SQLite, sections 1.3 and 1.6.
+/// Returns the one page of an empty database, by "Database File Format" of SQLite, sections 1.3 and 1.6.
 fn first_page() -> [u8; PAGE_SIZE]
     ensures exact { result ≡ first_page 1024 }
-    // Alone, and beside a log of which SQLite reads nothing.
+    // Alone, and with a log of which SQLite reads nothing.
     ensures holds { (log : List ℕ) → IsIgnored log → HoldsEmpty (record { log = log; db = result }) }
 {
     let mut page = [0; PAGE_SIZE];
-    page[..24].copy_from_slice(&FRONT);
+    page[..24].copy_from_slice(&HEADER);
     // The number of pages, the version and the format of the schema, and UTF-8.
     page[31] = 1;
     page[43] = 1;
@@ -47,13 +47,17 @@ fn first_page() -> [u8; PAGE_SIZE]
     page
 }
 
-/// Makes an empty file, with the rights that the umask leaves, and always those of its owner to read and write it.
-fn make_file<R: Files>(rt: &R, path: &str) -> io::Result<R::File> {
+/// Creates an empty file at the name of the results or at their `-new` name, with the rights that the umask leaves, and always
+/// those of its owner to read and write it.
+// Tested, not proved: results_file_creation_is_atomic.
+fn make_file<R: Files>(rt: &R, results: &Text, path: &Text) -> io::Result<R::File>
+    requires { IsOwnName results.now path.now }
+{
     let made = OpenOptions::new()
         .read(true)
         .write(true)
         .create_new(true)
-        .open(rt, path)?;
+        .open(rt, path.as_str())?;
     let Ok(found) = made.metadata() else {
         return Ok(made);
     };
@@ -64,8 +68,8 @@ fn make_file<R: Files>(rt: &R, path: &str) -> io::Result<R::File> {
     Ok(made)
 }
 
-/// The name of a file that lies beside another.
-fn beside(file: &Text, ending: &str) -> Result<Text, NoMemory>
+/// Returns the name of a file with an ending.
+fn with_ending(file: &Text, ending: &str) -> Result<Text, NoMemory>
     ensures { IfOk result (λ name. name ≡ file.now ++ chars ending.now) }
 {
     let mut name = file.copy()?;
@@ -73,134 +77,188 @@ fn beside(file: &Text, ending: &str) -> Result<Text, NoMemory>
     Ok(name)
 }
 
-/// The name that a new file has until it is whole.
+/// Returns the name that a new file has until it is complete.
 fn new_name(file: &Text) -> Result<Text, NoMemory>
-    ensures { IfOk result IsNewName }
+    ensures { IfOk result (IsNewNameOf file.now) }
 {
-    beside(file, "-new")
+    with_ending(file, "-new")
 }
 
-/// Whether the log of a file may have a frame. That of a file that was removed would be read as the log of a new one.
-pub(crate) fn may_have_frames<R: Files>(rt: &R, file: &Text) -> Result<bool, NoMemory> {
-    let log = beside(file, "-wal")?;
+/// Returns whether the log of a file may have a frame. A stale log would be replayed into a new file.
+// Tested, not proved: results_file_creation_is_atomic.
+fn may_have_frames<R: Files>(rt: &R, file: &Text) -> Result<bool, NoMemory> {
+    let log = with_ending(file, "-wal")?;
     Ok(match fs::symlink_metadata(rt, log.as_str()) {
-        Ok(found) => !found.is_file() || SHORTEST_LOG <= found.len(),
+        Ok(found) => !found.is_file() || SHORTEST_LOG as u64 <= found.len(),
         Err(error) => error.kind() != ErrorKind::NotFound,
     })
 }
 
-/// Removes the first name of a new file. Nothing else is removed here.
-fn remove_new<R: Files>(rt: &R, name: &Text)
-    requires { IsNewName name.now }
+/// Opens the file that gets the first page: a new one, or one that a killed process left. Returns `None` if something else has
+/// the name.
+// Tested, not proved: results_file_creation_is_atomic.
+fn open_new<R: Files<File = File>>(rt: &R, results: &Text, name: &Text) -> Option<File>
+    requires { IsNewNameOf results.now name.now }
 {
-    let _ = fs::remove_file(rt, name.as_str());
-}
-
-/// Opens the file that gets the first page: a new one, or one that a killed maker left; none if something else stands there.
-fn open_new<R: Files<File = File>>(rt: &R, name: &str) -> Option<File> {
-    match make_file(rt, name) {
+    match make_file(rt, results, name) {
         Ok(made) => Some(made),
         Err(error) if error.kind() == ErrorKind::AlreadyExists => {
-            let found = fs::symlink_metadata(rt, name).ok()?;
+            let found = fs::symlink_metadata(rt, name.as_str()).ok()?;
             if !found.is_file() {
                 return None;
             }
             OpenOptions::new()
                 .read(true)
                 .write(true)
-                .open(rt, name)
+                .open(rt, name.as_str())
                 .ok()
         }
         Err(_fault) => None,
     }
 }
 
-/// Writes the rest of the first page behind what a file has of it, and returns whether all of it is on the disk. None if
-/// another process writes the file, or it has something else.
+/// Completes a partly written first page, and returns whether all of it is on the disk. Returns `None` if another process
+/// writes the file, or it has other bytes.
+// Tested, not proved: results_file_creation_is_atomic.
 fn fill(made: &mut File) -> Option<bool> {
     made.try_lock().ok()?;
-    let mut there = [0; PAGE_SIZE + 1];
-    let length = made.read(&mut there).ok()?;
+    let mut found = [0; PAGE_SIZE + 1];
+    let length = made.read(&mut found).ok()?;
     let page = first_page();
-    let rest = page.strip_prefix(&there[..length])?;
+    let rest = page.strip_prefix(&found[..length])?;
     Some(emit(rest, made).is_ok() && made.sync_all().is_ok())
 }
 
-/// Makes an empty database, and returns whether it did. The file gets its name once it is whole and on the disk, by a
-/// link, since a rename would replace a file that another process made meanwhile.
+/// Gives a new file the name of the results too, by a link: a rename would replace a file that another process created.
+/// Returns whether it has that name.
+fn name_results<R: Files>(rt: &R, results: &Text, name: &Text) -> bool
+    requires { IsNewNameOf results.now name.now }
+{
+    fs::hard_link(rt, name.as_str(), results.as_str()).is_ok()
+}
+
+/// Removes the `-new` name of the results.
+fn remove_new<R: Files>(rt: &R, results: &Text, name: &Text)
+    requires { IsNewNameOf results.now name.now }
+{
+    let _ = fs::remove_file(rt, name.as_str());
+}
+
+/// Creates an empty database, and returns whether it did. The file gets its name once it is complete and on the disk.
 fn make_database<R: Files<File = File>>(rt: &R, file: &Text) -> Result<bool, NoMemory> {
     if may_have_frames(rt, file)? {
         return Ok(false);
     }
     let new = new_name(file)?;
-    let Some(mut made) = open_new(rt, new.as_str()) else {
+    let Some(mut made) = open_new(rt, file, &new) else {
         return Ok(false);
     };
-    let Some(is_whole) = fill(&mut made) else {
+    let Some(is_complete) = fill(&mut made) else {
         return Ok(false);
     };
-    let is_named = is_whole && fs::hard_link(rt, new.as_str(), file.as_str()).is_ok();
-    remove_new(rt, &new);
+    let is_named = is_complete && name_results(rt, file, &new);
+    remove_new(rt, file, &new);
     Ok(is_named)
 }
 
-/// Whether a path is that of this file.
-fn is_same<R: Files>(rt: &R, path: &str, found: &Metadata) -> bool {
-    match fs::symlink_metadata(rt, path) {
-        Ok(same) => same.dev() == found.dev() && same.ino() == found.ino(),
-        Err(_missing) => false,
+/// The numbers of a file, which all its names share.
+#[derive(Clone, Copy)]
+struct FileId {
+    device: u64,
+    inode: u64,
+}
+
+/// Returns the numbers of a file.
+// Tested, not proved: results_file_creation_is_atomic.
+fn id_of(found: &Metadata) -> FileId {
+    FileId {
+        device: found.dev(),
+        inode: found.ino(),
     }
 }
 
-/// The directory of a file.
-fn folder(file: &str) -> &str {
+/// Returns whether these are the numbers of one file.
+fn is_same(one: FileId, other: FileId) -> bool
+    ensures { IsTrue result → one ≡ other }
+{
+    one.device == other.device && one.inode == other.inode
+}
+
+/// A name that ends in `-new`, with the numbers of the file that has it.
+#[derive(Drop)]
+struct FirstName {
+    name: Text,
+    id: FileId,
+}
+
+/// Returns the name of a file with `-new` after it, if a file has it.
+fn first_name<R: Files>(rt: &R, file: &Text) -> Option<FirstName>
+    ensures { IfSome result (λ it. IsNewNameOf file.now it.name) }
+{
+    let name = new_name(file).ok()?;
+    let found = fs::symlink_metadata(rt, name.as_str()).ok()?;
+    let id = id_of(&found);
+    Some(FirstName { name, id })
+}
+
+/// Removes a name that ends in `-new` and is of the same file as the results.
+fn remove_first<R: Files>(rt: &R, results: FileId, file: &Text, first: &FirstName)
+    requires name { IsNewNameOf file.now first.now.name }
+    requires same { first.now.id ≡ results }
+{
+    let _ = fs::remove_file(rt, first.name.as_str());
+}
+
+/// Returns the directory of a file.
+fn directory_of(file: &str) -> &str {
     match file.rsplit_once('/') {
         Some(("", _)) => "/",
-        Some((front, _)) => front,
+        Some((directory, _)) => directory,
         None => ".",
     }
 }
 
-/// Removes a name if it may be the first one of this file.
-fn remove_if_first<R: Files + AllocGlobal>(rt: &R, path: &str, found: &Metadata) -> Option<()> {
+/// Removes a name if it ends in `-new` and is of the same file as the results.
+fn remove_if_first<R: Files + AllocGlobal>(rt: &R, path: &str, results: FileId) -> Option<()> {
     let Some(front) = path.strip_suffix("-new") else {
         return Some(());
     };
     let file = Text::from_str(rt.alloc(), front).ok()?;
-    let name = new_name(&file).ok()?;
-    if is_same(rt, name.as_str(), found) {
-        remove_new(rt, &name);
+    if let Some(first) = first_name(rt, &file) {
+        if is_same(first.id, results) {
+            remove_first(rt, results, &file, &first);
+        }
     }
     Some(())
 }
 
-/// Removes the first name of a file whose maker was killed before it did so, also where the file was renamed since: a file
-/// with two names can't be opened.
+/// Removes the first name of a file whose creator was killed before it did so, also if the file was renamed since: a file with
+/// two names can't be opened.
 fn remove_first_name<R: Files + AllocGlobal + Clone + Drop>(
     rt: &R,
     file: &Text,
-    found: &Metadata,
+    results: FileId,
 ) -> Option<()> {
-    for entry in fs::read_dir(rt, folder(file.as_str())).ok()? {
+    for entry in fs::read_dir(rt, directory_of(file.as_str())).ok()? {
         let entry = entry.ok()?;
-        remove_if_first(rt, entry.path().to_string_lossy(), found)?;
+        remove_if_first(rt, entry.path().to_string_lossy(), results)?;
     }
     Some(())
 }
 
-/// Makes a file if there is none: an empty database, or if that can't be made (the file system has no links, or the log of
+/// Creates a file if there is none: an empty database, or if that can't be created (the file system has no links, or the log of
 /// an older file is there), an empty file, which becomes a database with larger pages. A file that is there stays as it
-/// is. Why none can be made is reported when it is opened; then its log is made too, with the rights of the file.
+/// is. Why none can be created is reported when it is opened; then its log is created too, with the rights of the file.
 pub(crate) fn prepare<R: Files<File = File> + AllocGlobal + Clone + Drop>(rt: &R, file: &Text) {
     match fs::symlink_metadata(rt, file.as_str()) {
         Ok(found) => {
             if found.nlink() > 1 {
-                let _ = remove_first_name(rt, file, &found);
+                let _ = remove_first_name(rt, file, id_of(&found));
             }
         }
         Err(_missing) => {
             if !matches!(make_database(rt, file), Ok(true)) {
-                let _ = make_file(rt, file.as_str());
+                let _ = make_file(rt, file, file);
             }
         }
     }

@@ -1,31 +1,35 @@
-ghost use Rattle.std.specs.Prelude.{◌≡◌, ◌⊎◌, false, IsTrue, IfErr, IfOk, IfSome};
-ghost use Rattle.kt_store.specs.Common.{Ended, IsStoreFault, IsTaken, IsTakenOf};
+ghost use Rattle.std.specs.Prelude.{◌≡◌, ◌⊎◌, codes, true, false, IsTrue, IfErr, IfOk, IfSome};
+ghost use Rattle.kt_store.specs.Common.{Ended, Finds, IsStoreFault, IsTaken, IsTakenOf, IsUri};
+ghost use Rattle.kt_store.specs.Supposed.{IsOfRuns};
+ghost use Rattle.sqlite.specs.Files.{image_of};
 ghost use Rattle.sqlite_catalog.specs.Listing.{IsSound, Lists};
 ghost use Rattle.sqlite_schema.specs.declared.schema.Schema.{Schema as Tables};
 ghost use Rattle.sqlite_trees.specs.Objects.{catalog_tree};
+ghost use Rattle.sqlite_std_file.specs.File.{file_is_usable, IsFresh};
 ghost use Rattle.sqlite_trees.specs.View.{IsClean};
 
 use crate::attach::lives;
 use crate::by_name::places_in;
 use crate::edits::{write_entry, write_finish, write_run};
 use crate::new_file::prepare;
-use crate::opening::{close_store, open_known};
+use crate::opening::{close_store, known, options};
 use crate::places::Places;
 use crate::seeks::{find_outputs, find_pairs, heads, outline};
 use crate::store_fault::Trouble;
-use crate::store_fault::statements::open_file;
+use crate::store_fault::statements::{NotOpened, connect, open_both};
 use crate::store_fault::trees::{present, sure};
-use crate::supposed::Contents;
+use crate::supposed::Supposed;
 use crate::{Access, CaseOutputs, Keeping, ResultStore, Results, RunHead, StoreFault};
 use kt_base::{Entry, NoMemory, Text, Variables};
 use sqlite::{Alter, Connection, FileFrom, FileStore};
 use sqlite_catalog::load::load;
-use sqlite_disk::Disk;
+use sqlite_disk::{Disk, Files};
+use sqlite_pager::Options;
 use sqlite_schema::schema::Schema;
 use std::alloc::Global;
 use std::marker::Model;
-use std::thread;
 use std::time::Duration;
+use std::{fs, thread};
 
 /// The results in a file (docs/formats/store.md), read by seeks in their trees and written by the rules of their schema.
 /// A contract sees the store; what is said of it holds while the disk returns what was written and nobody else writes
@@ -83,7 +87,7 @@ pub(crate) fn over<S: Alter + Drop>(alloc: Global, store: S) -> Result<RunsFile<
 }
 
 impl<S: Alter + Drop> RunsFile<S> {
-    ghost use Rattle.std.specs.Prelude.{IfOk, IfErr, List};
+    ghost use Rattle.std.specs.Prelude.{IfOk, IfErr, IsTrue, List};
     ghost use Rattle.kt_store.specs.Common.{state, HasCleanDisk, HasCommitted, IsStoreFault, Run, StandsFor};
     ghost use Rattle.sqlite_trees.specs.Tree.{Trees};
     ghost use Rattle.sqlite_trees.specs.View.{IsClean};
@@ -96,6 +100,8 @@ impl<S: Alter + Drop> RunsFile<S> {
             → HasCleanDisk (state S.Store results)) }
         ensures crash { IfOk result (λ r. (trees : Trees) → S.Store.recovers r trees
             → (state S.Store results).may_leave trees) }
+        ensures numbered { IfOk result (λ r. IsClean (S.Store.view r)
+            → IsTrue (S.Store.view r).is_numbered) }
         ensures failed { IfErr result IsStoreFault }
     {
         let (alloc, connection) = results.into_parts();
@@ -162,11 +168,34 @@ fn taken_of<D: Disk + Drop>(
     taken(alloc, connection)
 }
 
+/// Returns the results in files: by their trees if they list the tables of schema 2, and else as [`Results::attach`] takes
+/// them. `UnknownSchema` if the tables say a number other than 1 and 2.
+fn over_files<D: Disk + Drop>(
+    alloc: Global,
+    files: Files<D>,
+    options: Options,
+    is_link: bool,
+) -> Result<RunsFile<FileStore<D>>, StoreFault>
+    requires log { IsTrue (D.Disk.is_usable files.log) }
+    requires db { IsTrue (D.Disk.is_usable files.db) }
+    requires held { IsOfRuns (image_of D.Disk files) }
+    ensures opened { IfOk result (Finds (image_of D.Disk files)) }
+    ensures due { IfErr result (λ e. IsStoreFault e ⊎ (e ≡ StoreFault.UnknownSchema)) }
+{
+    match known(alloc, files, options, is_link)? {
+        Ok(known) => Ok(known),
+        Err(left) => {
+            let connection = connect(alloc, left, options)?;
+            taken_of(alloc, connection)
+        }
+    }
+}
+
 /// How often a file is tried again that another process works with.
 const TRIES: usize = 100;
 
 /// The pause before a file is tried again, in milliseconds.
-const PAUSE: u64 = 50;
+const PAUSE_MILLIS: u64 = 50;
 
 /// Pauses if another process works with the file, which is then tried again; any other fault comes back.
 fn pause(rt: &HostRuntime, fault: StoreFault) -> Result<(), StoreFault>
@@ -175,42 +204,98 @@ fn pause(rt: &HostRuntime, fault: StoreFault) -> Result<(), StoreFault>
     if !fault.is_in_use() {
         return Err(fault);
     }
-    thread::sleep(rt, Duration::from_millis(PAUSE));
+    thread::sleep(rt, Duration::from_millis(PAUSE_MILLIS));
     Ok(())
 }
 
-impl<S: Contents> RunsFile<FileStore<FileFrom<S>>> {
+/// Opens the files of a database once. A database is created if there is none.
+fn try_open<S: Supposed>(
+    rt: &HostRuntime,
+    file: &Text,
+    start: S,
+) -> Result<Files<FileFrom<S>>, (StoreFault, NotOpened<S>)>
+    ensures log { IfOk result (λ files. IsTrue (file_is_usable S.Start files.log)) }
+    ensures db { IfOk result (λ files. IsTrue (file_is_usable S.Start files.db)) }
+    ensures fresh { IfOk result (λ files. IsFresh true files.log × IsFresh false files.db) }
+    ensures failed { IfErr result (λ e. IsStoreFault e.0) }
+{
+    prepare(rt, file);
+    match open_both(rt, file, start) {
+        Ok(files) => Ok(files),
+        Err((trouble, failed)) => Err((StoreFault::from(trouble), failed)),
+    }
+}
+
+/// Opens the files of a database, which is created if there is none. While another process works with them they are tried
+/// again, for 5 seconds. Only a failed open gives the value of `S` back, so that one pair of files is opened.
+fn open_files<S: Supposed>(
+    rt: &HostRuntime,
+    file: &Text,
+    start: S,
+) -> Result<Files<FileFrom<S>>, StoreFault>
+    ensures log { IfOk result (λ files. IsTrue (file_is_usable S.Start files.log)) }
+    ensures db { IfOk result (λ files. IsTrue (file_is_usable S.Start files.db)) }
+    ensures fresh { IfOk result (λ files. IsFresh true files.log × IsFresh false files.db) }
+    ensures failed { IfErr result IsStoreFault }
+{
+    let mut start = start;
+    for _ in 0..TRIES {
+        match try_open(rt, file, start) {
+            Ok(files) => return Ok(files),
+            Err((fault, failed)) => {
+                pause(rt, fault)?;
+                start = S::returned(failed);
+            }
+        }
+    }
+    match try_open(rt, file, start) {
+        Ok(files) => Ok(files),
+        Err((fault, _failed)) => Err(fault),
+    }
+}
+
+/// Returns whether a path is that of a file for SQLite.
+fn is_path(path: &str) -> bool
+    ensures { result ≡ false → (path.now ≡ codes ":memory:") ⊎ IsUri path.now }
+{
+    path != ":memory:" && !path.starts_with("file:")
+}
+
+/// Returns whether a link leads to a file. No log lies next to a link.
+fn is_link(rt: &HostRuntime, file: &Text) -> bool {
+    match fs::symlink_metadata(rt, file.as_str()) {
+        Ok(found) => !found.is_file(),
+        Err(_fault) => true,
+    }
+}
+
+impl<S: Supposed> RunsFile<FileStore<FileFrom<S>>> {
     ghost use Rattle.std.specs.Prelude.{◌≡◌, ◌⊎◌, IfOk, IfErr};
     ghost use Rattle.kt_store.specs.Common.{Finds, IsStoreFault, image_at};
 
-    /// Opens the results in a file, which is made where there is none, unless another process works with it. One that lists
-    /// the tables of schema 2 is opened by its trees, any other is taken by `Results::attach`. `UnknownSchema` where the
-    /// tables say a number other than 1 and 2.
-    fn open_once(rt: &HostRuntime, file: &Text, access: Access) -> Result<Self, StoreFault>
+    /// Opens the results in a file, which is created if there is none.
+    ///
+    /// `start` represents what the file holds, for contracts alone. An open uses it up, so one value serves one open.
+    ///
+    /// # Errors
+    ///
+    /// - `NoMemory`: memory ran out.
+    /// - `Store`: another process works with the file for 5 seconds, the file can't be created, read or written, it is damaged
+    ///   or has other tables, or `start` is `None`.
+    /// - `UnknownSchema`: the tables say a number other than 1 and 2.
+    pub fn open(
+        rt: &HostRuntime,
+        file: &Text,
+        access: Access,
+        start: Option<S>,
+    ) -> Result<Self, StoreFault>
         ensures opened { IfOk result (Finds (image_at S.Start)) }
         ensures due { IfErr result (λ e. IsStoreFault e ⊎ (e ≡ StoreFault.UnknownSchema)) }
     {
-        if let Some(known) = open_known(rt, file, access, S::unread())? {
-            return Ok(known);
-        }
-        prepare(rt, file);
-        let connection = open_file(rt, file, S::unread())?;
-        taken_of(rt.alloc(), connection)
-    }
-
-    /// Opens the results in a file, which is made where there is none. A file that another process works with is tried
-    /// again for 5 seconds. `UnknownSchema` where the tables say a number other than 1 and 2.
-    pub fn open(rt: &HostRuntime, file: &Text, access: Access) -> Result<Self, StoreFault>
-        ensures opened { IfOk result (Finds (image_at S.Start)) }
-        ensures due { IfErr result (λ e. IsStoreFault e ⊎ (e ≡ StoreFault.UnknownSchema)) }
-    {
-        for _ in 0..TRIES {
-            match RunsFile::open_once(rt, file, access) {
-                Ok(opened) => return Ok(opened),
-                Err(fault) => pause(rt, fault)?,
-            }
-        }
-        RunsFile::open_once(rt, file, access)
+        sure(is_path(file.as_str()))?;
+        let files = open_files(rt, file, present(start)?)?;
+        let options = present(options(rt, access.pages()))?;
+        over_files(rt.alloc(), files, options, is_link(rt, file))
     }
 }
 

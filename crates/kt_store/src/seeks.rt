@@ -1,5 +1,5 @@
 ghost use Rattle.std.specs.Prelude.{◌≡◌, ◌⊎◌, ◌<◌, ◌≤◌, ◌^◌, ℕ, Some, None, drop, length, map, IfOk, IfErr, OnOk};
-ghost use Rattle.kt_store.specs.Common.{OnTrees, IsLast, IsStoreFault, StandAt, Looks, LooksThrough, Run, AreRuns, Blob, Entry, column, entry_row, last_run, outputs_of, run_row, head_of, Serves, Heads, Outline, Outputs, Pairs, entries_of, outlined, run_at, seen_as};
+ghost use Rattle.kt_store.specs.Common.{CountFrom, OnTrees, IsLast, IsStoreFault, StandAt, Looks, LooksThrough, Run, AreRuns, Blob, Entry, column, entry_row, key_before, last_run, outputs_of, run_row, head_of, Serves, Heads, Outline, Outputs, Pairs, entries_of, outlined, run_at, seen_as};
 ghost use Rattle.kt_store.specs.Inner.Known.{readings};
 ghost use Rattle.sqlite_trees.specs.View.{IsClean};
 
@@ -64,6 +64,8 @@ pub(crate) fn heads<S: Store>(
     requires { StandAt places (S.Store.view store.old) }
     ensures served { Serves (readings S.Store) (Heads (seen_as (λ heads. heads.items) result))
         store.old store.new }
+    // Also of a damaged file: no run has the number of another.
+    ensures numbered { IfOk result (λ heads. CountFrom 1 heads.items) }
     ensures failed { IfErr result IsStoreFault }
     ensures looks { Looks S.Store store.old store.new }
 {
@@ -212,8 +214,10 @@ pub(crate) fn outline<S: Store>(
     Ok(found)
 }
 
-/// What the places before those of an entry begin with, or less.
-fn place_before(alloc: Global, run: u32, position: u32) -> Result<row::Row, NoMemory> {
+/// Returns the key of the entry before a position of a run, or of the run before if there is none.
+fn place_before(alloc: Global, run: u32, position: u32) -> Result<row::Row, NoMemory>
+    ensures { IfOk result (λ key. key ≡ key_before run position) }
+{
     if position == 0 {
         return number_row(alloc, run.saturating_sub(1));
     }

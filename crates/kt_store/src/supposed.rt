@@ -1,28 +1,26 @@
+use crate::NotOpened;
 use sqlite::{Start, Unknown};
 
-/// What is supposed of files: if they list the tables of results, they hold runs. Of files that list other tables, or none,
-/// nothing is supposed.
+/// An interface to the first contents of a results file, for contracts alone. It assumes that a file which lists the
+/// tables of results holds runs, and nothing of a file that lists other tables or none.
+///
+/// An open uses up a value of the type, so one value serves one open.
 pub trait Supposed: Start {
     ghost use Rattle.sqlite_wal.specs.Files.{image_at};
     ghost use Rattle.kt_store.specs.Supposed.{IsOfRuns};
 
-    ghost holds: { IsOfRuns (image_at Self.Start) };
-}
+    /// Returns the value that a failed open used up. No code reads it.
+    fn returned(failed: NotOpened<Self>) -> Self;
 
-/// A type that stands for what files hold, of which as much is supposed.
-pub trait Contents: Supposed {
-    /// A value of it. No code reads it.
-    fn unread() -> Self;
+    ghost holds: { IsOfRuns (image_at Self.Start) };
 }
 
 impl Supposed for Unknown {
     ghost use Rattle.kt_store.specs.Inner.SupposedLaws.{of_nothing};
 
     ghost holds = { of_nothing };
-}
 
-impl Contents for Unknown {
-    fn unread() -> Unknown {
+    fn returned(_failed: NotOpened<Unknown>) -> Unknown {
         Unknown
     }
 }

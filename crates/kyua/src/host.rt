@@ -3,12 +3,11 @@
 use kt_base::Text;
 use kt_child::DriverFault;
 use kt_cli::{Platform, Surroundings};
-use kt_store::{Access, Contents, RunsFile, StoreFault};
+use kt_store::{Access, RunsFile, StoreFault, Supposed};
 use sqlite::{FileFrom, FileStore, Unknown};
-use std::marker::PhantomData;
 
-/// A file and what it held, for contracts.
-pub(crate) trait Past: Contents {
+/// An interface to the path and the first contents of the results file, for contracts alone.
+pub(crate) trait Past: Supposed {
     ghost use Rattle.std.specs.Prelude.{ℕ, List};
 
     ghost path: { List ℕ };
@@ -20,11 +19,12 @@ impl Past for Unknown {
     ghost path = { [] };
 }
 
-/// The host. Results are SQLite files; `S` stands for one and for what it held at first, in contracts alone.
+/// The host. Its results are an SQLite file, whose first contents `S` represents in contracts.
 #[derive(Drop)]
 pub(crate) struct Host<'a, S> {
     pub(crate) rt: &'a HostRuntime,
-    pub(crate) past: PhantomData<S>,
+    /// The one value of `S`, which the open of the results uses up.
+    pub(crate) start: Option<S>,
 }
 
 impl<S: Past> Platform for Host<'_, S> {
@@ -36,7 +36,7 @@ impl<S: Past> Platform for Host<'_, S> {
     ghost provides = { λ _ asked _. InFiles S.path (image_at S.Start) asked };
 
     fn open(&mut self, file: &Text, access: Access) -> Result<Self::Results, StoreFault> {
-        RunsFile::open(self.rt, file, access)
+        RunsFile::open(self.rt, file, access, self.start.take())
     }
 
     fn close(&mut self, results: Self::Results) -> Result<(), StoreFault> {

@@ -8,18 +8,20 @@ use kt_child::HostOs;
 use kt_cli::{HostMachine, LineOutput, Outside, carry_out_words};
 use sqlite::Unknown;
 use std::alloc::Global;
-use std::marker::PhantomData;
 use std::process::ExitCode;
 use std::{env, io};
 
-/// Carries out the words of the process on the host, whatever the results file held: `S` stands for that, in contracts alone.
-fn run<S: Past>(rt: &HostRuntime, past: PhantomData<S>) -> ExitCode {
+/// Executes the arguments of the process on the host. `start` represents what the results file holds, in contracts alone.
+fn run<S: Past>(rt: &HostRuntime, start: S) -> ExitCode {
     let outside = Outside {
         alloc: rt.alloc(),
         machine: HostMachine { rt },
         os: HostOs::new(rt),
     };
-    let mut host = Host { rt, past };
+    let mut host = Host {
+        rt,
+        start: Some(start),
+    };
     // Line by line for `test`: `carry_out_words` sets that.
     let mut out = LineOutput::new(io::writer(rt), false);
     let (status, _outside) = carry_out_words(
@@ -43,5 +45,5 @@ fn keep_large_blocks(alloc: Global) {
 
 fn main(rt: HostRuntime) -> ExitCode {
     keep_large_blocks(rt.alloc());
-    run::<Unknown>(&rt, PhantomData)
+    run(&rt, Unknown)
 }

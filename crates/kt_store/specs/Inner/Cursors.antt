@@ -1,11 +1,21 @@
 -- What cursors over the trees of a store find of its runs.
-use Rattle.std.specs.Prelude.{◌≡◌, ℕ, ℤ, false, true, Bool, List, [], ◌∷◌, ◌++◌, Option, Some, None, map, drop, take, filter, length, slice_get, IsTrue}
+use Rattle.std.specs.Prelude.{◌≡◌, ◌==◌, ◌-◌, ◌&&◌, nat_lt, if◌then◌else◌, pos, ℕ, ℤ, false, true, Bool, List, [], ◌∷◌, ◌++◌, Option, Some, None, map, drop, take, filter, length, slice_get, IsTrue}
 use Rattle.std.specs.Option.{option_map}
-use Rattle.std.specs.Ordering.{is_eq}
+use Rattle.std.specs.Ordering.{is_eq, is_lt}
 use Rattle.sqlite_trees.specs.declared.store.Shape.TheVariants.{Table}
 use Rattle.sqlite_value.specs.Keys.{plain, prefix_cmp}
 use Rattle.sqlite_sql.specs.Catalog.{entry_of}
-use Rattle.kt_store.specs.Types.{AllByRecursion, Ghosts, Int, IsClean, IsIndex, IsShaped, KeepsSchema, Row, Trees, View, column, from_key, has_rowid, rowid}
+use Rattle.kt_store.specs.Types.{AllByRecursion, Ghosts, Int, IsClean, IsIndex, IsShaped, KeepsSchema, Row, RunHead, Trees, View, column, from_key, has_rowid, rowid}
+
+-- `ends_with last end`: whether `end` may be the last key of the index of entries if the last run has this head
+abbrev pub ends_with : RunHead → Row → Bool
+ends_with last end =
+    if last.finished && nat_lt 0 last.total then is_eq (prefix_cmp plain end (Int (pos last.number) ∷ Int (pos (last.total - 1)) ∷ []))
+    else is_lt (prefix_cmp plain end (Int (pos last.number) ∷ Int (pos last.total) ∷ []))
+
+-- `key_before run position`: the key of the entry before a position of a run, or of the run before
+abbrev pub key_before : ℕ → ℕ → Row
+key_before run' position = if position == 0 then Int (pos (run' - 1)) ∷ [] else Int (pos run') ∷ Int (pos (position - 1)) ∷ []
 
 -- an entry of an index begins with the key
 abbrev pub begins : Row → Row → Bool

@@ -1,5 +1,11 @@
 -- Why a part of a call fails.
 use Rattle.std.specs.Prelude.{◌≡◌, ◌≢◌, ◌⊎◌, ⊤}
+use Rattle.std.specs.IoError.{error_kind}
+use Rattle.std.specs.declared.io.ErrorKind.TheVariants as kind
+use Rattle.sqlite_std_file.specs.declared.pair.OpenError.{OpenError}
+use Rattle.sqlite_std_file.specs.declared.pair.OpenError.TheVariants as opening
+use Rattle.sqlite_store.specs.declared.error.OpenError.{OpenError as RecoverError}
+use Rattle.sqlite_store.specs.declared.error.OpenError.TheVariants as recovery
 use Rattle.sqlite.specs.declared.error.ErrorCode.TheVariants as code
 use Rattle.sqlite.specs.declared.error.Error.{Error}
 use Rattle.sqlite.specs.declared.error.Error.TheVariants.{SqliteFailure}
@@ -27,6 +33,17 @@ IsOfError error trouble = (IsShort trouble × (error ≡ SqliteFailure code.OutO
 -- an error of a tree means that memory ran out if the tree says so, and else that a statement failed
 abbrev pub IsOfTreeError : StoreError → Trouble → Type 0
 IsOfTreeError error trouble = (IsShort trouble × (error ≡ OutOfMemory)) ⊎ (IsFailure trouble × (error ≢ OutOfMemory))
+
+-- `IsOutOfMemory error`: an open failed with `error` because memory ran out
+abbrev pub IsOutOfMemory : OpenError → Type 0
+IsOutOfMemory opening.OutOfMemory = ⊤
+IsOutOfMemory (opening.Io error) = error_kind error ≡ kind.OutOfMemory
+IsOutOfMemory opening.Busy = ⊥
+IsOutOfMemory opening.HotJournal = ⊥
+
+-- `IsOfRecoverError error trouble`: a failed recovery means that memory ran out if its error says so, and else that a statement failed
+abbrev pub IsOfRecoverError : RecoverError → Trouble → Type 0
+IsOfRecoverError error trouble = (IsShort trouble × (error ≡ recovery.OutOfMemory)) ⊎ (IsFailure trouble × (error ≢ recovery.OutOfMemory))
 
 -- an error of a write means that memory ran out only if a tree says so
 abbrev pub IsOfWriteError : WriteError → Trouble → Type 0

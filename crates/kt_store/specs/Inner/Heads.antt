@@ -1,7 +1,12 @@
 -- The columns that heads, entries, their pairs and their outputs are read from.
-use Rattle.std.specs.Prelude.{pos, [], ◌∷◌, ◌++◌}
+use Rattle.std.specs.Prelude.{◌≡◌, ⊤, ℕ, suc, pos, List, [], ◌∷◌, ◌++◌}
 use Rattle.kt_store.specs.Runs.{flag, kind_code}
-use Rattle.kt_store.specs.Types.{Blob, Entry, Int, Row, Run, Text, Variable, utf8}
+use Rattle.kt_store.specs.Types.{Blob, Entry, Int, Row, Run, RunHead, Text, Variable, utf8}
+
+-- `CountFrom n heads`: the numbers of the heads count from `n`
+abbrev pub CountFrom : ℕ → List RunHead → Type 0
+CountFrom n [] = ⊤
+CountFrom n (head ∷ heads) = (head.number ≡ n) × CountFrom (suc n) heads
 
 -- the columns of a run, as the query for all runs shows them
 abbrev pub head_columns : Run → Row

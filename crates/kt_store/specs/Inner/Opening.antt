@@ -1,13 +1,17 @@
 -- From two files to a store that has the runs that they hold.
-use Rattle.std.specs.Prelude.{◌≡◌, true, false, List, IsTrue}
+use Rattle.std.specs.Prelude.{◌≡◌, ◌≢◌, true, false, ℕ, ℤ, pos, List, IsTrue}
 use Rattle.sqlite_disk.specs.declared.Disk.{Ghosts}
+use Rattle.sqlite_disk.specs.declared.Files.{Files}
+use Rattle.sqlite_pager.specs.declared.pager.Options.{Options}
+use Rattle.sqlite_wal.specs.Reads.{AreClean}
+use Rattle.sqlite.specs.Files.{image_of}
 use Rattle.sqlite_store.specs.declared.store.open.Unopened.{Unopened}
 use Rattle.sqlite_store.specs.Listing.{file_trees, IsOurs}
 use Rattle.sqlite_store.specs.Unopened.{state_of, wanted_by, image}
 use Rattle.sqlite.specs.Opening.{HoldsAt}
-use Rattle.kt_store.specs.Runs.{Keeps}
+use Rattle.kt_store.specs.Runs.{Keeps, SaysIn}
 use Rattle.kt_store.specs.Attaching.{Was, IsOf, TakesTables}
-use Rattle.kt_store.specs.Files.{Follows}
+use Rattle.kt_store.specs.Files.{Follows, IsReadAs}
 use Rattle.kt_store.specs.Seeks.{HasCommitted, HoldsRuns}
 use Rattle.kt_store.specs.Stands.{StandsFor}
 use Rattle.kt_store.specs.Supposed.{ListsObjects}
@@ -19,7 +23,30 @@ module _ {D : Type 0} {g : Ghosts D} (image : Image) (store : FileStore D g) whe
     pub holds : (runs : List Run) → HoldsRuns image runs → (view store).is_broken ≡ false → Keeps runs (view store).trees
     pub leaves : (runs : List Run) → HoldsRuns image runs → (trees : Trees) → recovers store trees → Keeps runs trees
 
+-- `SaysAnother trees`: the table of settings says another number than 2
+abbrev pub SaysAnother : Trees → Type 0
+SaysAnother trees = (n : ℤ) × (n ≢ pos 2) × SaysIn n trees
+
+-- `IsOfOptions pages options`: a store with these options keeps so many read pages in memory, and 2,000 written ones
+pub record IsOfOptions (pages : ℕ) (options : Options) : Type 0 where
+  pub read : options.cache_pages ≡ pages
+  pub written : options.spill_pages ≡ 2000
+
+module _ {D : Type 0} (g : Ghosts D) (old left : Files D) where
+  -- `IsLeft old left`: files that were only read
+  pub record IsLeft : Type 0 where
+    pub log : IsTrue (g.is_usable left.log)
+    pub db : IsTrue (g.is_usable left.db)
+    pub read : AreClean g left.log left.db → AreClean g old.log old.db × IsReadAs (image_of g old) (image_of g left)
+
 module _ {D : Type 0} {g : Ghosts D} (old new : Unopened D g) where
+  -- `RecoversAgain old new`: the files recover as before
+  pub record RecoversAgain : Type 0 where
+    pub honest : IsTrue (state_of old).is_clean
+    pub pages : PageMap
+    pub found : Recovers (state_of old).page_size (image old) pages
+    pub again : Recovers (state_of old).page_size (image new) pages
+
   -- the files recover as before, and if they hold a database with runs it is one of the schema that is now wanted
   pub record ListsRuns : Type 0 where
     pub honest : IsTrue (state_of old).is_clean
@@ -36,6 +63,7 @@ abbrev pub IsTaken : {S : Type 0} → StoreGhosts S → Held S → S → Type 0
 IsTaken g conn it = (results : Held _) × ((was : Was) → IsOf was (state g conn) → TakesTables was (state g conn) (state g results))
     × ((runs : List Run) → StandsFor (state g results) runs → HasCommitted (g.view it) runs)
     × (IsClean (g.view it) → HasCleanDisk (state g results)) × ((trees : Trees) → g.recovers it trees → (state g results).may_leave trees)
+    × (IsClean (g.view it) → IsTrue (g.view it).is_numbered)
 
 -- the same of a store over files
 abbrev pub IsTakenOf : {D : Type 0} {g : Ghosts D} → Held (FileStore D g) → FileStore D g → Type 0

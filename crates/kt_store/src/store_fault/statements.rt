@@ -1,20 +1,23 @@
 ghost use Rattle.std.specs.Prelude.{◌≡◌, ◌<◌, Ok, IfOk, OnOk, OnErr, IsTrue, true, false, nat_lt, length, []};
-ghost use Rattle.kt_store.specs.Common.{OnRuns, bound, IsPlain, understood, HasCleanDisk, Survives, IsUnchanged, state, column, IsOfError, CommitsNothing, Looked, Asked, AreWide, HasColumns, MayShow, MayExecute, ShowsOf, Executed, Commits, CommitsLater, IsOurs, MayCommit, RunsOne, Undoes, Rests, IsNoMemory, IsShort, image_at, IsOfFile, IsUnderstood, schema_2};
+ghost use Rattle.kt_store.specs.Common.{OnRuns, bound, IsPlain, understood, HasCleanDisk, Survives, IsUnchanged, state, column, IsOfError, CommitsNothing, Looked, Asked, AreWide, HasColumns, MayShow, MayExecute, ShowsOf, Executed, Commits, CommitsLater, IsOurs, MayCommit, RunsOne, Undoes, Rests, IsNoMemory, IsOutOfMemory, IsShort, IsUnderstood, schema_2};
+ghost use Rattle.sqlite.specs.Files.{Finds, IsOpened, file_state};
 ghost use Rattle.sqlite_std_file.specs.File.{file_is_usable, IsFresh};
 
+use crate::StoreFault;
 use crate::batch::Batch;
-use crate::opening::{is_path, options};
 use crate::store_fault::{FAULTY, FailedStatement, Refusal, Shortage, Trouble};
-use crate::{Access, StoreFault};
 use kt_base::{NoMemory, Text};
 use sqlite::types::FromSql;
 use sqlite::{
     Alter, Connection, Error as SqlError, ErrorCode, FileFrom, FileStore, Row, Start, Transaction,
 };
-use sqlite_disk::Files;
+use sqlite_disk::{Disk, Files};
+use sqlite_pager::Options;
 use sqlite_std_file::OpenError;
 use sqlite_value::value::ValueRef;
+use std::alloc::Global;
 use std::io::ErrorKind;
+use std::marker::PhantomData;
 
 impl From<NoMemory> for StoreFault {
     ghost from_gives = { λ _ fault. IsNoMemory fault };
@@ -174,8 +177,10 @@ pub(crate) fn commit<S: Alter, B: Batch>(conn: &mut Connection<S>, batch: &B) ->
     Ok(())
 }
 
-/// The fault of files that can't be opened.
-fn unopened(error: &OpenError) -> Trouble {
+/// Returns the fault of files that can't be opened.
+fn unopened(error: &OpenError) -> Trouble
+    ensures short { IsShort result → IsOutOfMemory error.now }
+{
     let is_short = match error {
         OpenError::OutOfMemory => true,
         OpenError::Io(error) => error.kind() == ErrorKind::OutOfMemory,
@@ -199,38 +204,45 @@ fn done<T, L: Drop>(returned: Result<T, (SqlError, L)>) -> Result<T, Trouble>
     }
 }
 
-/// Opens a file and its log, which are made where there is none.
+/// Evidence that an open failed, which used up a value of `S`. Only [`open_both`] creates it.
+#[derive(Drop)]
+pub struct NotOpened<S> {
+    marker: PhantomData<S>,
+}
+
+/// Opens a file and its log, which are created if they are missing.
 pub(crate) fn open_both<S: Start>(
     rt: &HostRuntime,
     file: &Text,
     start: S,
-) -> Result<Files<FileFrom<S>>, Trouble>
+) -> Result<Files<FileFrom<S>>, (Trouble, NotOpened<S>)>
     ensures log { IfOk result (λ files. IsTrue (file_is_usable S.Start files.log)) }
     ensures db { IfOk result (λ files. IsTrue (file_is_usable S.Start files.db)) }
     ensures fresh { IfOk result (λ files. IsFresh true files.log × IsFresh false files.db) }
 {
     match sqlite_std_file::open(rt, file.as_str(), start) {
         Ok(files) => Ok(files),
-        Err(error) => Err(unopened(&error)),
+        Err(error) => {
+            let unused = NotOpened {
+                marker: PhantomData,
+            };
+            Err((unopened(&error), unused))
+        }
     }
 }
 
-/// Opens the database in a file, which is made where there is none.
-pub(crate) fn open_file<S: Start>(
-    rt: &HostRuntime,
-    file: &Text,
-    start: S,
-) -> Result<Connection<FileStore<FileFrom<S>>>, Trouble>
-    ensures opened { IfOk result (IsOfFile (image_at S.Start)) }
+/// Opens the database in these files, which is created in empty ones, and checks each of its pages and rows.
+pub(crate) fn connect<D: Disk + Drop>(
+    alloc: Global,
+    files: Files<D>,
+    options: Options,
+) -> Result<Connection<FileStore<D>>, Trouble>
+    requires log { IsTrue (D.Disk.is_usable files.log) }
+    requires db { IsTrue (D.Disk.is_usable files.db) }
+    ensures opened { IfOk result (λ conn. HasCleanDisk (file_state conn)
+        → IsOpened conn × Finds files conn) }
 {
-    if !is_path(file.as_str()) {
-        return Err(FAULTY);
-    }
-    let files = open_both(rt, file, start)?;
-    let Some(options) = options(rt, Access::Record.pages()) else {
-        return Err(FAULTY);
-    };
-    done(Connection::open_files(rt.alloc(), files, options))
+    done(Connection::open_files(alloc, files, options))
 }
 
 pub(crate) fn has_rows(rows: &[Row]) -> bool

@@ -1,5 +1,5 @@
 ghost use Rattle.std.specs.Prelude.{◌≡◌, ◌++◌, ◌<◌, ℕ, ℤ, pos, List, [], ◌∷◌, map, length, true, false, Some, None, IsSome, IsTrue, IfOk, OnOk, OnErr};
-ghost use Rattle.kt_store.specs.Common.{Blob, column, Int, AreWide, IsStoreFault, IsOfTreeError, FindsUnder, Goes, Looks, LooksThrough, ShowsUnder, CountsUnder, in_columns};
+ghost use Rattle.kt_store.specs.Common.{Blob, column, Int, AreWide, IsStoreFault, IsOfRecoverError, IsOfTreeError, FindsUnder, Goes, Looks, LooksThrough, ShowsUnder, CountsUnder, in_columns};
 ghost use Rattle.sqlite_exec.specs.Calls.{OnlyReads};
 ghost use Rattle.sqlite_exec.specs.Loops.{left_of};
 ghost use Rattle.sqlite_trees.specs.Tree.{rowid};
@@ -15,6 +15,7 @@ use crate::value::int;
 use kt_base::{Bytes, NoMemory};
 use sqlite::Row;
 use sqlite_exec::work::FromRow;
+use sqlite_store::OpenError;
 use sqlite_trees::error::StoreError;
 use sqlite_trees::store::{Direction, Shape, Store};
 use sqlite_value::keys::Order;
@@ -57,6 +58,17 @@ impl From<StoreError> for Trouble {
     fn from(error: StoreError) -> Trouble {
         match error {
             StoreError::OutOfMemory => Trouble::NoMemory(Shortage(Refusal)),
+            _ => FAULTY,
+        }
+    }
+}
+
+impl From<OpenError> for Trouble {
+    ghost from_gives = { IsOfRecoverError };
+
+    fn from(error: OpenError) -> Trouble {
+        match error {
+            OpenError::OutOfMemory => Trouble::NoMemory(Shortage(Refusal)),
             _ => FAULTY,
         }
     }
