@@ -8,8 +8,8 @@ pub enum Access {
 }
 
 impl Access {
-    /// How many pages of the file are kept in memory: somewhat more than an output of 1 MiB takes where one is written, and
-    /// few where most are read once.
+    /// Returns how many pages of the file are kept in memory. To record, that is somewhat more than an output of 1 MiB
+    /// takes. To read, that is few, since most pages are read once.
     pub(crate) fn pages(self) -> usize {
         match self {
             Access::Record => 1_100,

@@ -21,14 +21,15 @@ pub(crate) const CREATE_ENTRIES: &str =
 pub(crate) const CREATE_PROPS: &str =
     "CREATE TABLE props (run INTEGER NOT NULL, position INTEGER NOT NULL, place INTEGER NOT NULL, name TEXT NOT NULL, value TEXT NOT NULL, PRIMARY KEY (run, position, place)) STRICT";
 
-/// A theorem: what a connection sees is a database, while it is open.
+/// Theorem: an open connection shows a database.
+// No effect: the call states the fact for the prover.
 pub(crate) fn lives<S: Alter>(conn: &Connection<S>)
     ensures { IsLive (state S.Store conn.now) }
 {
     let _ = conn.schema();
 }
 
-/// Makes the tables in an empty database, in one commit.
+/// Creates the tables in an empty database, in one commit.
 pub(crate) fn create<S: Alter>(conn: &mut Connection<S>) -> Result<(), StoreFault>
     ensures taken { IsOf Blank (state S.Store conn.old)
         → OnOk result (TakesTables Blank (state S.Store conn.old) (state S.Store conn.new)) }
@@ -47,7 +48,7 @@ pub(crate) fn create<S: Alter>(conn: &mut Connection<S>) -> Result<(), StoreFaul
     Ok(commit(conn, &Texts { texts: &makes })?)
 }
 
-/// Whether there is no table yet.
+/// Returns `true` if the database has no table.
 pub(crate) fn is_blank<S: Alter>(conn: &Connection<S>) -> bool
     ensures blank { result ≡ true → (state S.Store conn.now).now.schema.tables ≡ [] }
     ensures filled { result ≡ false → (state S.Store conn.now).now.schema.tables ≢ [] }
@@ -55,7 +56,7 @@ pub(crate) fn is_blank<S: Alter>(conn: &Connection<S>) -> bool
     conn.schema().tables.len() == 0
 }
 
-/// The number of the schema.
+/// Reads the number of the schema from the table `meta`.
 pub(crate) fn schema_number<S: Alter>(conn: &mut Connection<S>) -> Result<i64, StoreFault>
     ensures asks { AsksNumber S.Store conn.old conn.new }
     ensures same { OnOk result (LeavesSchema S.Store conn.old conn.new) }
@@ -76,8 +77,8 @@ pub(crate) fn schema_number<S: Alter>(conn: &mut Connection<S>) -> Result<i64, S
     Ok(number)
 }
 
-/// Asks whether the queries of a store can be prepared: for runs, for entries and, where the tables
-/// are not those of schema 1, for pairs.
+/// Checks that SQLite can prepare the queries of a store: for runs, for entries and, unless the tables are those of
+/// schema 1, for pairs.
 pub(crate) fn find_tables<S: Alter>(conn: &mut Connection<S>, old: bool) -> Result<(), Trouble>
     ensures same { HasCleanDisk (state S.Store conn.new)
         → OnOk result (IsUnchanged (state S.Store conn.old) (state S.Store conn.new)) }
@@ -107,7 +108,8 @@ pub(crate) fn find_tables<S: Alter>(conn: &mut Connection<S>, old: bool) -> Resu
     Ok(())
 }
 
-/// Whether the tables are those of schema 1. Any number but 1 and 2 is refused, and so are tables that can't be read.
+/// Returns `true` if the tables are those of schema 1. Fails for any number but 1 and 2, and for tables that can't be
+/// read.
 pub(crate) fn is_old<S: Alter>(conn: &mut Connection<S>) -> Result<bool, StoreFault>
     ensures asks { AsksNumber S.Store conn.old conn.new }
     ensures same { OnOk result (LeavesSchema S.Store conn.old conn.new) }
@@ -128,7 +130,7 @@ pub(crate) fn is_old<S: Alter>(conn: &mut Connection<S>) -> Result<bool, StoreFa
     Ok(old)
 }
 
-/// Takes a database of schema 1 to schema 2, in one commit.
+/// Migrates a database of schema 1 to schema 2, in one commit.
 pub(crate) fn renew<S: Alter>(conn: &mut Connection<S>) -> Result<(), StoreFault>
     ensures taken { (runs : _) → IsOf (Older runs) (state S.Store conn.old)
         → OnOk result (TakesTables (Older runs) (state S.Store conn.old) (state S.Store conn.new)) }
@@ -145,7 +147,7 @@ pub(crate) fn renew<S: Alter>(conn: &mut Connection<S>) -> Result<(), StoreFault
     Ok(commit(conn, &Texts { texts: &raises })?)
 }
 
-/// Takes the tables of a database that has some, and those of schema 1 to schema 2.
+/// Accepts the tables of a database that has some. Tables of schema 1 are migrated to schema 2.
 pub(crate) fn take<S: Alter>(conn: &mut Connection<S>) -> Result<(), StoreFault>
     ensures taken { (was : _) → HasNumber was → IsOf was (state S.Store conn.old)
         → OnOk result (TakesTables was (state S.Store conn.old) (state S.Store conn.new)) }
@@ -161,7 +163,7 @@ pub(crate) fn take<S: Alter>(conn: &mut Connection<S>) -> Result<(), StoreFault>
     Ok(())
 }
 
-/// Makes the tables in an empty database, or takes those that are there.
+/// Creates the tables in an empty database, or accepts those that are there.
 pub(crate) fn settle<S: Alter>(conn: &mut Connection<S>) -> Result<(), StoreFault>
     ensures taken { (was : _) → IsOf was (state S.Store conn.old)
         → OnOk result (TakesTables was (state S.Store conn.old) (state S.Store conn.new)) }

@@ -30,7 +30,7 @@ const ENTRIES: [&str; 12] = [
 
 const PROPS: [&str; 5] = ["run", "position", "place", "name", "value"];
 
-/// Whether these are the names of the columns of a table, in this order.
+/// Returns `true` if a table has columns of these names in this order.
 fn has_columns(table: &Table, names: &[&str]) -> bool
     ensures { length names.now ≡ length table.now.columns
         → AreNamed table.now 0 (map (λ name. name.now) names.now) → result ≡ true }
@@ -48,7 +48,7 @@ fn has_columns(table: &Table, names: &[&str]) -> bool
     true
 }
 
-/// The table with this name and these columns.
+/// Returns the table with this name and these columns.
 fn table_in(schema: &Schema, name: &str, columns: &[&str]) -> Option<Place>
     ensures { (at : ℕ) (t : TableOf) → table_named schema.now name.now ≡ Some at
         → slice_get schema.now.tables at ≡ Some t → length columns.now ≡ length t.columns
@@ -67,7 +67,7 @@ fn table_in(schema: &Schema, name: &str, columns: &[&str]) -> Option<Place>
     }
 }
 
-/// The tree of the index with this name.
+/// Returns the tree of the index with this name.
 fn key_in(schema: &Schema, name: &str) -> Option<u32>
     ensures { (at : ℕ) (i : IndexOf) → index_named schema.now name.now ≡ Some at
         → slice_get schema.now.indexes at ≡ Some i → result ≡ Some i.tree }
@@ -77,7 +77,7 @@ fn key_in(schema: &Schema, name: &str) -> Option<u32>
     Some(index.tree)
 }
 
-/// Where the tables stand, if all were found.
+/// Returns the positions and trees of the tables if all were found.
 fn all_found(
     runs: Option<Place>,
     entries: Option<Place>,
@@ -98,8 +98,8 @@ fn all_found(
     })
 }
 
-/// Where the tables of results stand; `None` of a schema that lacks one, or has one with other columns. They may have been
-/// made in any order.
+/// Returns the positions and trees of the tables of results in a schema, in any order. Returns `None` if a table is
+/// missing or has other columns.
 pub(crate) fn places_in(schema: &Schema) -> Option<Places>
     ensures { schema.now ≡ schema_2 → result ≡ Some places_2 }
 {

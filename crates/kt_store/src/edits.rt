@@ -25,7 +25,7 @@ use sqlite_value::value::ValueRef;
 use std::alloc::Global;
 use std::slice;
 
-/// A row of these values.
+/// Creates a row of these values.
 fn row_of(alloc: Global, values: &[ValueRef<'_>]) -> Result<Row, NoMemory>
     ensures { IfOk result (λ row. row ≡ map owned values.now) }
 {
@@ -36,7 +36,7 @@ fn row_of(alloc: Global, values: &[ValueRef<'_>]) -> Result<Row, NoMemory>
     Ok(row)
 }
 
-/// The row of the pair at a place among those of an entry.
+/// Creates the row of a pair at an index among the pairs of an entry.
 fn pair_row(
     alloc: Global,
     run: u32,
@@ -61,7 +61,7 @@ fn pair_row(
     )
 }
 
-/// The rows of the pairs of an entry.
+/// Creates the rows of the pairs of an entry.
 fn rows_of_pairs(
     alloc: Global,
     run: u32,
@@ -82,7 +82,7 @@ fn rows_of_pairs(
     Ok(rows)
 }
 
-/// The row of an entry of a run.
+/// Creates the row of an entry of a run.
 fn row_of_entry<'a>(
     alloc: Global,
     run: u32,
@@ -115,7 +115,7 @@ fn row_of_entry<'a>(
     )
 }
 
-/// The number of the next run. `StoreFull` where there are 1,000,000.
+/// Returns the number of the next run. `StoreFull` if there are 1,000,000 runs.
 fn next_number<S: Alter>(store: &mut S, alloc: Global, places: Places) -> Result<u64, StoreFault>
     requires { StandAt places (S.Store.view store.old) }
     ensures number { OnTrees S.Store store.old store.new (λ runs.
@@ -172,7 +172,7 @@ pub(crate) fn write_run<S: Alter>(
     Ok(number)
 }
 
-/// Whether the run has an entry with this position.
+/// Returns `true` if the run has an entry with this position.
 fn is_put<S: Store>(
     store: &mut S,
     alloc: Global,
@@ -192,7 +192,7 @@ fn is_put<S: Store>(
     Ok(count > 0)
 }
 
-/// Asks whether the run takes the entry.
+/// Checks that the run accepts the entry.
 fn check_entry<S: Alter>(
     store: &mut S,
     alloc: Global,
@@ -224,7 +224,7 @@ fn check_entry<S: Alter>(
     Ok(())
 }
 
-/// Writes an entry and its pairs into a run, if it takes them.
+/// Writes an entry and its pairs into a run that accepts the entry.
 pub(crate) fn write_entry<S: Alter>(
     store: &mut S,
     alloc: Global,
@@ -263,7 +263,7 @@ pub(crate) fn write_entry<S: Alter>(
     Ok(())
 }
 
-/// The row of a run, behind its rowid, once it is finished.
+/// Creates the row of a finished run, after its rowid, from the row of the unfinished one.
 fn finished_row(alloc: Global, row: &Row) -> Result<Row, NoMemory>
     ensures { (r : Run) → row.now ≡ run_row r → IfOk result (λ done. done ≡ done_row r) }
 {
@@ -280,7 +280,7 @@ fn finished_row(alloc: Global, row: &Row) -> Result<Row, NoMemory>
     )
 }
 
-/// How many entries a run has.
+/// Returns the number of entries of a run.
 fn count_of<S: Store>(
     store: &mut S,
     alloc: Global,
@@ -299,7 +299,7 @@ fn count_of<S: Store>(
     Ok(count)
 }
 
-/// The row of a run that may be finished.
+/// Returns the row of a run, and checks that the run may be finished.
 fn check_run<S: Alter>(
     store: &mut S,
     alloc: Global,
@@ -328,7 +328,7 @@ fn check_run<S: Alter>(
     Ok(row)
 }
 
-/// Writes that a run is finished, if it has all its entries.
+/// Writes that a run is finished. Fails if the run lacks an entry.
 pub(crate) fn write_finish<S: Alter>(
     store: &mut S,
     alloc: Global,

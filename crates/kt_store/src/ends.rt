@@ -32,8 +32,8 @@ pub(crate) const NO_RUN: RunHead = RunHead {
     finished: false,
 };
 
-/// The run and the position of the last place of a table's index that begins with a key or less, whose row is there;
-/// both are NULL if it has none.
+/// Returns the run and the position of the last key of a table's index that is at most `key`, and checks that its row
+/// exists. Both are NULL if there is no such key.
 fn last_place<S: Store>(
     store: &mut S,
     alloc: Global,
@@ -50,7 +50,7 @@ fn last_place<S: Store>(
     Ok(columns_of(alloc, &place, &[0, 1])?)
 }
 
-/// Whether the index of a table has the place of its last row.
+/// Returns `true` if the index of a table has the key of the table's last row.
 fn is_last_row_placed<S: Store>(
     store: &mut S,
     alloc: Global,
@@ -66,7 +66,8 @@ fn is_last_row_placed<S: Store>(
     Ok(count == 1)
 }
 
-/// The run and the position of the last place of a table's index. The table is damaged if its last row has no place there.
+/// Returns the run and the position of the last key of a table's index. Fails if the index lacks the key of the table's
+/// last row.
 fn end_of<S: Store>(store: &mut S, alloc: Global, table: &Table) -> Result<Row, Trouble>
     ensures looks { Looks S.Store store.old store.new }
 {
@@ -74,7 +75,7 @@ fn end_of<S: Store>(store: &mut S, alloc: Global, table: &Table) -> Result<Row, 
     last_place(store, alloc, table, &Row::new(alloc))
 }
 
-/// What the places of an entry and of its pairs begin with in their indexes.
+/// Creates the prefix that the keys of an entry and of its pairs have in their indexes.
 pub(crate) fn entry_place(alloc: Global, run: u32, position: u32) -> Result<Row, NoMemory>
     ensures { IfOk result (λ place. place ≡ Int (pos run) ∷ Int (pos position) ∷ []) }
 {
@@ -97,7 +98,7 @@ fn is_end(alloc: Global, end: &Row, last: RunHead) -> Result<bool, NoMemory>
     Ok(end.cmp_prefix(Order::PLAIN, &past) == Ordering::Less)
 }
 
-/// Whether the entry of a pair, if there is one, is there.
+/// Returns `true` if the entry of a pair exists, or if there is no pair.
 fn has_entry<S: Store>(
     store: &mut S,
     alloc: Global,
@@ -112,7 +113,8 @@ fn has_entry<S: Store>(
     Ok(count == 1 || matches!(pair.get(0), ValueRef::Null))
 }
 
-/// Asks whether the table of entries and its index end alike, and with the last run.
+/// Checks that the table of entries and its index end with the same entry, and that this entry may be the last of the
+/// last run.
 fn check_last_entry<S: Store>(
     store: &mut S,
     alloc: Global,
@@ -125,7 +127,7 @@ fn check_last_entry<S: Store>(
     sure(is_end(alloc, &end, last)?)
 }
 
-/// Asks whether the table of pairs and its index end alike, and with an entry.
+/// Checks that the table of pairs and its index end with the same pair, and that its entry exists.
 fn check_last_pair<S: Store>(store: &mut S, alloc: Global, places: Places) -> Result<(), Trouble>
     ensures through { IsClean (S.Store.view store.new)
         → OnOk result (LooksThrough (S.Store.view store.old) (S.Store.view store.new)) }
@@ -135,7 +137,7 @@ fn check_last_pair<S: Store>(store: &mut S, alloc: Global, places: Places) -> Re
     sure(has_entry(store, alloc, places, &pair)?)
 }
 
-/// Asks whether the tables and their indexes end alike, and with the last run.
+/// Checks that the tables and their indexes have the same ends, and that they fit the last run.
 pub(crate) fn check_ends<S: Store>(
     store: &mut S,
     alloc: Global,
@@ -150,7 +152,7 @@ pub(crate) fn check_ends<S: Store>(
     check_last_pair(store, alloc, places)
 }
 
-/// The head of the last run, by its number.
+/// Returns the head of the last run, by its number.
 fn last_head<S: Store>(
     store: &mut S,
     alloc: Global,
@@ -168,7 +170,7 @@ fn last_head<S: Store>(
     stored_head(alloc, &row)
 }
 
-/// Asks whether the tables end with the last run, by its number. This is asked before another run begins.
+/// Checks that the tables end with the last run, by its number. It is called before another run begins.
 pub(crate) fn check_last<S: Store>(
     store: &mut S,
     alloc: Global,
@@ -183,7 +185,7 @@ pub(crate) fn check_last<S: Store>(
     check_ends(store, alloc, places, head)
 }
 
-/// Whether the position of each entry is its place among them.
+/// Returns `true` if the position of each entry is its index in the list.
 fn are_numbered(entries: &[Entry]) -> bool
     ensures { IsAscending (λ (a b : Stored). a.position < b.position) entries.now
         → AllByRecursion (λ (e : Stored). e.position < length entries.now) entries.now
@@ -197,8 +199,8 @@ fn are_numbered(entries: &[Entry]) -> bool
     true
 }
 
-/// Whether these may be all entries of the run with this head: if it is finished, they have each position below its
-/// total.
+/// Returns `true` if these may be all entries of the run with this head. A finished run has an entry at each position
+/// below its total.
 fn may_be_all(head: RunHead, entries: &[Entry]) -> bool
     ensures { (r : Run) → IsRun r → head ≡ head_of r → entries.now ≡ map outlined r.entries
         → result ≡ true }
@@ -211,7 +213,7 @@ fn may_be_all(head: RunHead, entries: &[Entry]) -> bool
     }
 }
 
-/// How many pairs the index of pairs has of these entries of a run.
+/// Returns how many pairs of these entries of a run the index of pairs has.
 fn count_pairs<S: Store>(
     store: &mut S,
     alloc: Global,
@@ -229,8 +231,8 @@ fn count_pairs<S: Store>(
     Ok(count)
 }
 
-/// Whether each pair of the run with this head is of one of its entries. A finished run has them all, so the last pair
-/// tells.
+/// Returns `true` if each pair of the run with this head belongs to one of its entries. A finished run has all entries,
+/// so only its last pair is compared.
 fn are_of_entries<S: Store>(
     store: &mut S,
     alloc: Global,
@@ -251,7 +253,7 @@ fn are_of_entries<S: Store>(
     Ok(all == count_pairs(store, alloc, &table, run, entries)?)
 }
 
-/// Asks whether these are all entries of the run with this head, as far as it and its pairs tell.
+/// Checks that these are all entries of the run with this head, as far as the head and its pairs show.
 pub(crate) fn check_entries<S: Store>(
     store: &mut S,
     alloc: Global,

@@ -12,7 +12,7 @@ use kt_base::Entry;
 use sqlite::{Alter, Connection, Row};
 use std::alloc::Global;
 
-/// The rows of a run's entries, by position.
+/// Reads the rows of a run's entries, by position.
 pub(crate) fn entry_rows<S: Alter>(conn: &mut Connection<S>, run: u32) -> Result<Vec<Row>, Trouble>
     ensures all { OnRuns S.Store conn.old conn.new (λ runs.
         IfOk result (λ rows. rows.items
@@ -29,7 +29,7 @@ pub(crate) fn entry_rows<S: Alter>(conn: &mut Connection<S>, run: u32) -> Result
     )
 }
 
-/// The rows of the pairs of the entry of a run at a position, by place.
+/// Reads the rows of the pairs of the entry of a run at a position, in their order.
 fn pair_rows<S: Alter>(
     conn: &mut Connection<S>,
     run: u32,
@@ -49,7 +49,7 @@ fn pair_rows<S: Alter>(
     )
 }
 
-/// The entry of a run in a row, with its pairs.
+/// Reads the entry of a run from its row, with its pairs.
 fn entry_of<S: Alter>(
     conn: &mut Connection<S>,
     alloc: Global,
@@ -68,7 +68,7 @@ fn entry_of<S: Alter>(
     entry_in(alloc, row, meta)
 }
 
-/// The entries of a run in their rows, with their pairs.
+/// Reads the entries of a run from their rows, with their pairs.
 fn entries_in<S: Alter>(
     conn: &mut Connection<S>,
     alloc: Global,
@@ -89,7 +89,7 @@ fn entries_in<S: Alter>(
     Ok(entries)
 }
 
-/// The entries of a run with their pairs and their outputs, by position. `NoRun` where no run has the number.
+/// Reads the entries of a run with their pairs and outputs, by position. `NoRun` if no run has the number.
 pub(crate) fn all_entries<S: Alter>(
     conn: &mut Connection<S>,
     alloc: Global,

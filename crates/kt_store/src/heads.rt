@@ -10,7 +10,7 @@ use kt_base::NoMemory;
 use sqlite::{Alter, Connection, Row};
 use std::alloc::Global;
 
-/// Adds an item at the end.
+/// Appends an item.
 pub(crate) fn add<T: Drop>(items: &mut Vec<T>, item: T) -> Result<(), NoMemory>
     ensures added { OnOk result (items.new.items ≡ items.old.items ++ item ∷ []) }
 {
@@ -18,7 +18,7 @@ pub(crate) fn add<T: Drop>(items: &mut Vec<T>, item: T) -> Result<(), NoMemory>
     Ok(())
 }
 
-/// The head in a row.
+/// Reads the head of a run from its row.
 pub(crate) fn head_in(row: &Row) -> Result<RunHead, Trouble>
     requires { 4 ≤ length row.now }
     ensures head { (r : Stored) → row.now ≡ head_columns r → IfOk result (λ h. h ≡ head_of r) }
@@ -51,7 +51,7 @@ pub(crate) fn heads_in(alloc: Global, rows: &[Row]) -> Result<Vec<RunHead>, Trou
     Ok(heads)
 }
 
-/// The heads of all runs, by number.
+/// Reads the heads of all runs, by number.
 pub(crate) fn all_heads<S: Alter>(
     conn: &mut Connection<S>,
     alloc: Global,

@@ -10,7 +10,7 @@ use sqlite::{Alter, Connection};
 /// How many runs this profile keeps.
 pub(crate) const MOST_RUNS: u32 = 1_000_000;
 
-/// The total of a run, and 1 where it is finished.
+/// Reads the total of a run, and 1 if it is finished.
 pub(crate) fn find<S: Alter>(
     conn: &mut Connection<S>,
     run: u32,
@@ -35,7 +35,7 @@ pub(crate) fn find<S: Alter>(
     Ok(Some((total, finished)))
 }
 
-/// The number of a run as the tables have it: its own, or 0, which no run has, for one past the last that may be.
+/// Returns the number of a run as the tables store it. Returns 0, which no run has, for a number above 1,000,000.
 pub(crate) fn key(run: u64) -> u32
     ensures low { result ≤ last_run }
     ensures same { run ≤ last_run → result ≡ run }
@@ -48,7 +48,7 @@ pub(crate) fn key(run: u64) -> u32
     }
 }
 
-/// The total of a run that is there, and whether it is finished.
+/// Returns the total of a run and whether it is finished. `NoRun` if no run has the number.
 pub(crate) fn look<S: Alter>(conn: &mut Connection<S>, run: u64) -> Result<(u64, bool), StoreFault>
     ensures small { OnOk result (run ≤ last_run) }
     ensures looked { Looked S.Store conn.old conn.new }
@@ -68,7 +68,7 @@ pub(crate) fn look<S: Alter>(conn: &mut Connection<S>, run: u64) -> Result<(u64,
     Ok((total, finished > 0))
 }
 
-/// Whether the run has an entry with this position.
+/// Returns `true` if the run has an entry with this position.
 pub(crate) fn there<S: Alter>(
     conn: &mut Connection<S>,
     run: u32,

@@ -93,7 +93,7 @@ fn is_tested<D: Disk>(files: &mut Files<D>) -> Result<bool, Trouble>
     Ok(size <= MOST_TESTED || SHORTEST_LOG <= log)
 }
 
-/// Makes a store of files, which isn't open yet. If an allocation fails the files come back.
+/// Creates a store of files, which isn't open yet. If an allocation fails the files come back.
 fn unopened<D: Disk + Drop>(
     alloc: Global,
     files: Files<D>,
@@ -114,7 +114,7 @@ fn unopened<D: Disk + Drop>(
     }
 }
 
-/// Whether a row of the list of objects has this rowid, type, name, table and text, and nothing else.
+/// Returns `true` if a row of the list of objects has this rowid, type, name, table and text, and nothing else.
 fn is_object(row: &Row, id: i64, kind: &str, name: &str, table: &str, text: ValueRef<'_>) -> bool
     ensures { IsTrue result → row.now ≡ Int id ∷ Words kind.now ∷ Words name.now
         ∷ Words table.now ∷ owned text.entry ∷ [] }
@@ -127,7 +127,7 @@ fn is_object(row: &Row, id: i64, kind: &str, name: &str, table: &str, text: Valu
         && is_same(row.get(4), text)
 }
 
-/// Whether a row is of a table with this rowid, name and text.
+/// Returns `true` if a row lists a table with this rowid, name and text.
 fn is_table(row: &Row, id: u32, name: &str, sql: &str) -> bool
     ensures { IsTrue result → row.now ≡ table_object id name.now sql.now }
 {
@@ -135,14 +135,14 @@ fn is_table(row: &Row, id: u32, name: &str, sql: &str) -> bool
     is_object(row, i64::from(id), "table", name, name, text)
 }
 
-/// Whether a row is of the index of a table's key with this rowid and name. It has no text.
+/// Returns `true` if a row lists the index of a table's key with this rowid and name. Such an index has no text.
 fn is_key(row: &Row, id: u32, name: &str, table: &str) -> bool
     ensures { IsTrue result → row.now ≡ key_object id name.now table.now }
 {
     is_object(row, i64::from(id), "index", name, table, ValueRef::Null)
 }
 
-/// Whether these rows are those of schema 2 (docs/formats/store.md).
+/// Returns `true` if these rows list the objects of schema 2 (docs/formats/store.md).
 fn are_objects(rows: &[Row]) -> bool
     ensures { IsTrue result → rows.now ≡ objects_2 }
 {
@@ -159,7 +159,7 @@ fn are_objects(rows: &[Row]) -> bool
     of_meta & of_runs & of_entries & of_props
 }
 
-/// Gives the files the schema that they list, if that is schema 2, and returns whether it is.
+/// Reads the list of objects, and returns `true` if it is that of schema 2. Then the files get that schema.
 fn list_schema<D: Disk>(alloc: Global, files: &mut Unopened<D>) -> Result<bool, Trouble>
     requires { AreUsable files.old }
     ensures usable { OnOk result (AreUsable files.new) }
@@ -320,7 +320,7 @@ pub(crate) fn known<D: Disk + Drop>(
     }
 }
 
-/// Copies the log into the database file, and closes both. What is not committed is lost.
+/// Copies the log into the database file, and closes both. Changes that are not committed are lost.
 pub(crate) fn close_store<D: Disk + Drop>(mut store: FileStore<D>) -> Result<(), Trouble>
     ensures closed { OnOk result (Ends store) }
 {

@@ -15,6 +15,7 @@ use kt_base::{Bytes, Entry, Output, Text, Variable, Variables, Verdict};
 use sqlite::Row;
 use std::alloc::Global;
 
+/// Reads a text from a column of a row.
 fn text_in(row: &Row, at: usize) -> Result<Text, Trouble>
     requires { at < length row.now }
     ensures text { (t : List ℕ) → IsText t → column row.now at ≡ Words (utf8 t)
@@ -24,7 +25,7 @@ fn text_in(row: &Row, at: usize) -> Result<Text, Trouble>
     Ok(Text::from_string(string))
 }
 
-/// The pair in a row.
+/// Reads a pair from its row.
 fn pair_in(row: &Row) -> Result<Variable, Trouble>
     requires { 2 ≤ length row.now }
     ensures { (v : StoredPair) → IsPair v → row.now ≡ pair_columns v → IfOk result (λ x. x ≡ v) }
@@ -34,7 +35,7 @@ fn pair_in(row: &Row) -> Result<Variable, Trouble>
     Ok(Variable { name, value })
 }
 
-/// The pairs in the rows.
+/// Reads pairs from their rows.
 pub(crate) fn pairs_in(alloc: Global, rows: &[Row]) -> Result<Variables, Trouble>
     requires { AreWide 2 rows.now }
     ensures { (vs : List StoredPair) → AllByRecursion IsPair vs → rows.now ≡ map pair_columns vs
@@ -47,7 +48,7 @@ pub(crate) fn pairs_in(alloc: Global, rows: &[Row]) -> Result<Variables, Trouble
     Ok(pairs)
 }
 
-/// What a case printed that printed nothing.
+/// Returns the output of a case that printed nothing.
 pub fn no_output(alloc: Global) -> Output
     ensures { result ≡ no_output }
 {
@@ -57,6 +58,7 @@ pub fn no_output(alloc: Global) -> Output
     }
 }
 
+/// Reads bytes from a column of a row.
 fn bytes_in(row: &Row, at: usize) -> Result<Bytes, Trouble>
     requires { at < length row.now }
     ensures bytes { IfOk result (λ b. column row.now at ≡ Blob b) }
@@ -65,7 +67,7 @@ fn bytes_in(row: &Row, at: usize) -> Result<Bytes, Trouble>
     Ok(Bytes::from_vec(items))
 }
 
-/// An output in two columns of a row.
+/// Reads an output from two columns of a row.
 fn output_in(row: &Row, out: usize, err: usize) -> Result<Output, Trouble>
     requires { (out < length row.now) × (err < length row.now) }
     ensures output { (o : Pair) → column row.now out ≡ Blob o.out → column row.now err ≡ Blob o.err
@@ -76,7 +78,7 @@ fn output_in(row: &Row, out: usize, err: usize) -> Result<Output, Trouble>
     Ok(Output { out, err })
 }
 
-/// The entry in a row, without its pairs and outputs.
+/// Reads an entry without its pairs and outputs from its row.
 fn bare_in(alloc: Global, row: &Row) -> Result<Entry, Trouble>
     requires { 7 ≤ length row.now }
     ensures { (e : Stored) (more : Values) → IsEntry e → row.now ≡ entry_columns e ++ more
@@ -103,7 +105,7 @@ fn bare_in(alloc: Global, row: &Row) -> Result<Entry, Trouble>
     })
 }
 
-/// The entries in the rows, without their pairs and outputs.
+/// Reads entries without their pairs and outputs from their rows.
 pub(crate) fn outline_in(alloc: Global, rows: &[Row]) -> Result<Vec<Entry>, Trouble>
     requires { AreWide 7 rows.now }
     ensures { (es : List Stored) → AllByRecursion IsEntry es → rows.now ≡ map entry_columns es
@@ -117,7 +119,7 @@ pub(crate) fn outline_in(alloc: Global, rows: &[Row]) -> Result<Vec<Entry>, Trou
     Ok(entries)
 }
 
-/// The entry in a row, with its outputs and these pairs.
+/// Reads an entry with its outputs from its row, and gives it these pairs.
 pub(crate) fn entry_in(alloc: Global, row: &Row, meta: Variables) -> Result<Entry, Trouble>
     requires { 11 ≤ length row.now }
     ensures { (e : Stored) → IsEntry e → row.now ≡ whole_columns e → meta ≡ e.meta

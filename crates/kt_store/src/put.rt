@@ -11,7 +11,7 @@ use kt_base::{Entry, NoMemory, Text, Variable};
 use sqlite::{Alter, Connection, Transaction};
 use std::alloc::Global;
 
-/// The text of the reason.
+/// Returns the text of an entry's reason.
 pub(crate) fn reason_of(alloc: Global, entry: &Entry) -> Result<Text, NoMemory>
     ensures text { IfOk result (λ t. t ≡ entry.now.verdict.reason) }
     ensures passed { OnOk result (IsBareIfPassed entry.now) }
@@ -21,7 +21,7 @@ pub(crate) fn reason_of(alloc: Global, entry: &Entry) -> Result<Text, NoMemory>
     Ok(reason)
 }
 
-/// Adds the pair at a place among those of an entry, inside a transaction.
+/// Adds the pair at an index among the pairs of an entry, inside a transaction.
 fn add_pair<S: Alter>(
     tx: &mut Transaction<'_, S>,
     run: u32,
@@ -142,7 +142,7 @@ pub(crate) fn add_entry<S: Alter>(
     commit(conn, &NewEntry { run, entry, reason })
 }
 
-/// Asks whether the run takes the entry.
+/// Checks that the run accepts the entry.
 pub(crate) fn check<S: Alter>(
     conn: &mut Connection<S>,
     run: u64,

@@ -54,43 +54,68 @@ pub trait ResultStore: Keeping {
     ghost use Rattle.std.specs.Prelude.{IfErr};
     ghost use Rattle.kt_store.specs.Common.{IsMoment, IsStorable, IsStoreFault, Serves, Began, Put, Finished, Heads, Outline, Pairs, Outputs, seen_as};
 
-    /// Adds an unfinished run of `total` cases, and returns its number. The moment is in
-    /// milliseconds since 1970 in UTC. `StoreFull` where there are 1,000,000 runs.
+    /// Adds an unfinished run of `total` cases, and returns its number. `moment` is its start, in milliseconds since
+    /// 1970-01-01 UTC.
+    ///
+    /// # Errors
+    ///
+    /// - `StoreFull`: there are 1,000,000 runs.
     fn begin(&mut self, total: u32, moment: u64) -> Result<u64, StoreFault>
         requires { IsMoment moment }
         ensures { Serves Self.Keeping (Began total moment result) self.old self.new };
 
-    /// Adds an entry and its pairs to a run. Refused, in this order, are: no such run, a run that is
-    /// finished, a position that is not below the total, a position that is there. Moments and
-    /// durations are in milliseconds, up to the end of the year 9999.
+    /// Adds an entry and its pairs to a run. Timestamps and durations are in milliseconds, up to the end of the year
+    /// 9999.
+    ///
+    /// # Errors
+    ///
+    /// In this order:
+    ///
+    /// - `NoRun`: no run has the number.
+    /// - `RunClosed`: the run is finished.
+    /// - `BadPosition`: the position is not below the total.
+    /// - `RepeatedPosition`: the run has an entry at the position.
     fn put(&mut self, run: u64, entry: &Entry) -> Result<(), StoreFault>
         requires { IsStorable entry.now }
         ensures { Serves Self.Keeping (Put run entry.now result) self.old self.new };
 
-    /// Finishes a run. Refused, in this order, are: no such run, a run that is finished, one with
-    /// fewer entries than its total.
+    /// Finishes a run.
+    ///
+    /// # Errors
+    ///
+    /// In this order:
+    ///
+    /// - `NoRun`: no run has the number.
+    /// - `RunClosed`: the run is finished.
+    /// - `Incomplete`: the run has fewer entries than its total.
     fn finish(&mut self, run: u64) -> Result<(), StoreFault>
         ensures { Serves Self.Keeping (Finished run result) self.old self.new };
 
-    /// All runs without their entries, by number.
+    /// Returns the heads of all runs, by number.
     fn runs(&mut self) -> Result<Vec<RunHead>, StoreFault>
         ensures served { Serves Self.Keeping (Heads (seen_as (λ heads. heads.items) result))
             self.old self.new }
         ensures failed { IfErr result IsStoreFault };
 
-    /// The entries of a run without their pairs and their outputs, by position. `NoRun` where no run
-    /// has the number. A reason comes back as its text.
+    /// Returns the entries of a run without their pairs and outputs, by position. A reason comes back as its text.
+    ///
+    /// # Errors
+    ///
+    /// - `NoRun`: no run has the number.
     fn outline(&mut self, run: u64) -> Result<Vec<Entry>, StoreFault>
         ensures { Serves Self.Keeping (Outline run (seen_as (λ found. found.items) result))
             self.old self.new };
 
-    /// The pairs of the entry of a run at a position, in their order; none where the run has no entry
-    /// there.
+    /// Returns the pairs of the entry of a run at a position, in their order. Returns none if the run has no such
+    /// entry.
     fn pairs(&mut self, run: u64, position: u32) -> Result<Variables, StoreFault>
         ensures { Serves Self.Keeping (Pairs run position result) self.old self.new };
 
-    /// The outputs of the entry of a run at a position. `NoRun` where no run has the number, or the
-    /// run has no entry there.
+    /// Returns the outputs of the entry of a run at a position.
+    ///
+    /// # Errors
+    ///
+    /// - `NoRun`: no run has the number, or the run has no entry at the position.
     fn outputs(&mut self, run: u64, position: u32) -> Result<CaseOutputs, StoreFault>
         ensures { Serves Self.Keeping (Outputs run position result) self.old self.new };
 }

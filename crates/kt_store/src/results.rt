@@ -34,9 +34,16 @@ impl<S: Alter> Results<S> {
     ghost use Rattle.std.specs.Prelude.{◌≡◌, ◌⊎◌, Some, None, IfOk, IfErr};
     ghost use Rattle.kt_store.specs.Common.{OnRuns, state, IsMoment, IsStorable, IsStoreFault, IsOf, TakesTables, Refuses, Reads, Serves, Began, Put, Finished, Heads, results, run_at, seen_as};
 
-    /// Takes the tables of a database; in an empty one it makes them, in one commit, and so it takes those of schema 1
-    /// to schema 2. A refusal hands the connection back: `UnknownSchema` where the tables say a number other than 1 and
-    /// 2, `Store` where the connection is in a transaction. Of a database with other tables nothing is said.
+    /// Accepts the tables of a database. Creates them in an empty one, and migrates schema 1 to schema 2, each in one
+    /// commit.
+    ///
+    /// # Errors
+    ///
+    /// The connection comes back. Nothing is promised of a database with other tables.
+    ///
+    /// - `UnknownSchema`: the tables say a number other than 1 and 2.
+    /// - `Store`: a statement failed, or the tables must be created or migrated inside a transaction.
+    /// - `NoMemory`: memory ran out.
     pub fn attach(
         alloc: Global,
         connection: Connection<S>,
@@ -55,7 +62,7 @@ impl<S: Alter> Results<S> {
         }
     }
 
-    /// The connection and its allocator.
+    /// Returns the connection and its allocator.
     pub(crate) fn into_parts(self) -> (Global, Connection<S>)
         ensures { result.1 ≡ self }
     {
@@ -63,7 +70,7 @@ impl<S: Alter> Results<S> {
         (alloc, conn)
     }
 
-    /// Gives the connection back, with the same runs in its tables.
+    /// Returns the connection, with the same runs in its tables. Allocates nothing.
     pub fn detach(self) -> Connection<S>
         ensures { result ≡ self }
     {
@@ -71,8 +78,12 @@ impl<S: Alter> Results<S> {
         conn
     }
 
-    /// Adds an unfinished run of `total` cases, and returns its number. The moment is in
-    /// milliseconds since 1970 in UTC. `StoreFull` where there are 1,000,000 runs.
+    /// Adds an unfinished run of `total` cases, and returns its number. `moment` is its start, in milliseconds since
+    /// 1970-01-01 UTC.
+    ///
+    /// # Errors
+    ///
+    /// - `StoreFull`: there are 1,000,000 runs.
     pub fn begin(&mut self, total: u32, moment: u64) -> Result<u64, StoreFault>
         requires { IsMoment moment }
         ensures { Serves (results S.Store) (Began total moment result) self.old self.new }
@@ -83,7 +94,11 @@ impl<S: Alter> Results<S> {
         Ok(add_run(&mut self.conn, total, moment)?)
     }
 
-    /// Adds an entry and its pairs to a run, with the refusals of `ResultStore::put`.
+    /// Adds an entry and its pairs to a run.
+    ///
+    /// # Errors
+    ///
+    /// Those of [`ResultStore::put`](crate::ResultStore).
     pub fn put(&mut self, run: u64, entry: &Entry) -> Result<(), StoreFault>
         requires { IsStorable entry.now }
         ensures { Serves (results S.Store) (Put run entry.now result) self.old self.new }
@@ -93,7 +108,11 @@ impl<S: Alter> Results<S> {
         Ok(add_entry(&mut self.conn, key(run), entry, &reason)?)
     }
 
-    /// Finishes a run, with the refusals of `ResultStore::finish`.
+    /// Finishes a run.
+    ///
+    /// # Errors
+    ///
+    /// Those of [`ResultStore::finish`](crate::ResultStore).
     pub fn finish(&mut self, run: u64) -> Result<(), StoreFault>
         ensures { Serves (results S.Store) (Finished run result) self.old self.new }
     {
@@ -101,7 +120,7 @@ impl<S: Alter> Results<S> {
         Ok(mark(&mut self.conn, key(run))?)
     }
 
-    /// All runs without their entries, by number.
+    /// Returns the heads of all runs, by number.
     pub fn runs(&mut self) -> Result<Vec<RunHead>, StoreFault>
         ensures { Serves (results S.Store) (Heads (seen_as (λ heads. heads.items) result))
             self.old self.new }
@@ -109,7 +128,11 @@ impl<S: Alter> Results<S> {
         Ok(all_heads(&mut self.conn, self.alloc)?)
     }
 
-    /// The entries of a run with their pairs and their outputs, by position. `NoRun` where no run has the number.
+    /// Returns the entries of a run with their pairs and outputs, by position.
+    ///
+    /// # Errors
+    ///
+    /// - `NoRun`: no run has the number.
     pub fn entries(&mut self, run: u64) -> Result<Vec<Entry>, StoreFault>
         ensures reads { Reads (results S.Store) self.old self.new }
         ensures entries { OnRuns S.Store self.old self.new (λ runs.

@@ -9,7 +9,7 @@ use crate::store_fault::statements::execute;
 use crate::value::int;
 use sqlite::{Alter, Connection};
 
-/// Whether there are as many runs as may be.
+/// Returns `true` if there are 1,000,000 runs.
 pub(crate) fn is_full<S: Alter>(conn: &mut Connection<S>) -> Result<bool, Trouble>
     ensures full { OnRuns S.Store conn.old conn.new (λ runs.
         IfOk result (λ full. (full ≡ true → last_run ≤ length runs) × (full ≡ false
@@ -43,7 +43,7 @@ pub(crate) fn add_run<S: Alter>(
     Ok(conn.last_insert_rowid().unsigned_abs())
 }
 
-/// Asks whether the run may be finished.
+/// Checks that the run may be finished.
 pub(crate) fn check<S: Alter>(conn: &mut Connection<S>, run: u64) -> Result<(), StoreFault>
     ensures small { OnOk result (run ≤ last_run) }
     ensures looked { Looked S.Store conn.old conn.new }
@@ -64,7 +64,7 @@ pub(crate) fn check<S: Alter>(conn: &mut Connection<S>, run: u64) -> Result<(), 
     Ok(())
 }
 
-/// Sets the state of a run that has all its entries.
+/// Marks a run that has all its entries as finished.
 pub(crate) fn mark<S: Alter>(conn: &mut Connection<S>, run: u32) -> Result<(), Trouble>
     ensures marked { OnOk result (Changes S.Store conn.old conn.new (IsComplete run) (finish run)) }
     ensures kept { OnErr result (KeepsRuns S.Store conn.old conn.new) }

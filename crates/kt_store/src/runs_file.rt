@@ -57,7 +57,7 @@ impl<S: Alter> Model for RunsFile<S> {
         × (r.schema ≡ schema_2 → r.places ≡ places_2) };
 }
 
-/// The schema that a store lists.
+/// Reads the schema that a store lists.
 fn listed<S: Alter>(store: &S, alloc: Global) -> Result<Option<Schema>, NoMemory>
     requires { IsClean (S.Store.view store.now) → (S.Store.view store.now).is_broken ≡ false }
     ensures { IsClean (S.Store.view store.now) → IfOk result (λ found. IfSome found
@@ -67,7 +67,8 @@ fn listed<S: Alter>(store: &S, alloc: Global) -> Result<Option<Schema>, NoMemory
     Ok(found)
 }
 
-/// The results in a store that shows its last commit, if that obeys the schema that it lists, with the tables of results.
+/// Returns the results in a store that shows its last commit. Fails unless the store obeys the schema that it lists,
+/// with the tables of results.
 pub(crate) fn over<S: Alter + Drop>(alloc: Global, store: S) -> Result<RunsFile<S>, Trouble>
     requires settled { IsClean (S.Store.view store) → (S.Store.view store).is_broken ≡ false
         → (S.Store.view store).trees ≡ (S.Store.view store).committed }
@@ -92,7 +93,8 @@ impl<S: Alter + Drop> RunsFile<S> {
     ghost use Rattle.sqlite_trees.specs.Tree.{Trees};
     ghost use Rattle.sqlite_trees.specs.View.{IsClean};
 
-    /// The results of a connection, by their trees. What a transaction of the connection wrote is undone.
+    /// Returns the results of a connection, to be read and written by their trees. What a transaction of the connection
+    /// wrote is undone.
     pub fn of(results: Results<S>) -> Result<RunsFile<S>, StoreFault>
         ensures stands { IfOk result (λ r. (runs : List Run)
             → StandsFor (state S.Store results) runs → HasCommitted (S.Store.view r) runs) }
@@ -109,7 +111,7 @@ impl<S: Alter + Drop> RunsFile<S> {
         Ok(over(alloc, connection.into_store())?)
     }
 
-    /// The store of the results.
+    /// Returns the store of the results.
     pub fn into_store(self) -> S
         ensures { result ≡ self }
     {
@@ -127,7 +129,14 @@ impl<D: Disk + Drop> RunsFile<FileStore<D>> {
     ghost use Rattle.std.specs.Prelude.{OnOk, IfErr};
     ghost use Rattle.kt_store.specs.Common.{Ends, IsStoreFault};
 
-    /// Closes the results. Afterwards the file alone has them all; after an error they stand in it and in its log.
+    /// Closes the results, so that the file alone has them all.
+    ///
+    /// # Errors
+    ///
+    /// The results are then in the file and its log.
+    ///
+    /// - `Store`: the log can't be copied into the file.
+    /// - `NoMemory`: memory ran out.
     pub fn close(self) -> Result<(), StoreFault>
         ensures closed { OnOk result (Ends self) }
         ensures failed { IfErr result IsStoreFault }
@@ -143,7 +152,7 @@ impl<D: Disk + Drop> RunsFile<FileStore<D>> {
     }
 }
 
-/// Takes the tables of a database, and gives the results by their trees.
+/// Accepts the tables of a database, and returns the results to be read and written by their trees.
 fn taken<S: Alter + Drop>(
     alloc: Global,
     connection: Connection<S>,
@@ -157,7 +166,9 @@ fn taken<S: Alter + Drop>(
     }
 }
 
-/// The same of a database in files. Apart, since what asks how a store over files is read is dear to the prover.
+/// Accepts the tables of a database in files, and returns the results to be read and written by their trees.
+///
+/// Separate for the prover: what asks how a store over files is read is slow to prove.
 fn taken_of<D: Disk + Drop>(
     alloc: Global,
     connection: Connection<FileStore<D>>,
@@ -197,7 +208,7 @@ const TRIES: usize = 100;
 /// The pause before a file is tried again, in milliseconds.
 const PAUSE_MILLIS: u64 = 50;
 
-/// Pauses if another process works with the file, which is then tried again; any other fault comes back.
+/// Pauses if another process works with the file. Any other fault comes back.
 fn pause(rt: &HostRuntime, fault: StoreFault) -> Result<(), StoreFault>
     ensures { IfErr result (λ e. e ≡ fault) }
 {

@@ -29,7 +29,7 @@ pub(crate) const PLACES_2: Places = Places {
     pair_keys: 6,
 };
 
-/// The table of entries.
+/// Returns the table of entries.
 pub(crate) fn entries_at(places: Places) -> Table<'static>
     ensures tree { result.tree ≡ places.entries.tree }
     ensures index { result.index ≡ places.entry_keys }
@@ -42,7 +42,7 @@ pub(crate) fn entries_at(places: Places) -> Table<'static>
     }
 }
 
-/// The table of pairs.
+/// Returns the table of pairs.
 pub(crate) fn pairs_at(places: Places) -> Table<'static>
     ensures tree { result.tree ≡ places.props.tree }
     ensures index { result.index ≡ places.pair_keys }
@@ -55,7 +55,7 @@ pub(crate) fn pairs_at(places: Places) -> Table<'static>
     }
 }
 
-/// The heads of all runs, by number.
+/// Reads the heads of all runs, by number.
 pub(crate) fn heads<S: Store>(
     store: &mut S,
     alloc: Global,
@@ -77,7 +77,7 @@ pub(crate) fn heads<S: Store>(
     Ok(found)
 }
 
-/// The last row of a table, by its rowid, if it has one.
+/// Returns the row of a table with the highest rowid, if there is one.
 pub(crate) fn last_row<S: Store>(
     store: &mut S,
     alloc: Global,
@@ -98,7 +98,7 @@ pub(crate) fn last_row<S: Store>(
     Ok(Some(row))
 }
 
-/// The number of the last run, 0 if there is none.
+/// Returns the number of the last run, or 0 if there is none.
 pub(crate) fn last_number<S: Store>(
     store: &mut S,
     alloc: Global,
@@ -118,7 +118,7 @@ pub(crate) fn last_number<S: Store>(
     Ok(number)
 }
 
-/// The row of a run. `NoRun` where no run has the number.
+/// Returns the row of a run. `NoRun` if no run has the number.
 pub(crate) fn stored_run<S: Store>(
     store: &mut S,
     alloc: Global,
@@ -145,7 +145,7 @@ pub(crate) fn stored_run<S: Store>(
     Ok(row)
 }
 
-/// The head in the row of a run.
+/// Reads the head of a run from its stored row.
 pub(crate) fn stored_head(alloc: Global, row: &row::Row) -> Result<RunHead, Trouble>
     ensures head { (r : Run) → row.now ≡ run_row r → IfOk result (λ h. h ≡ head_of r) }
 {
@@ -153,7 +153,7 @@ pub(crate) fn stored_head(alloc: Global, row: &row::Row) -> Result<RunHead, Trou
     head_in(&shown)
 }
 
-/// The head of a run. `NoRun` where no run has the number.
+/// Returns the head of a run. `NoRun` if no run has the number.
 pub(crate) fn run_head<S: Store>(
     store: &mut S,
     alloc: Global,
@@ -176,7 +176,7 @@ pub(crate) fn run_head<S: Store>(
     Ok(head)
 }
 
-/// The entries of a run without their pairs and outputs, by position.
+/// Reads the entries of a run without their pairs and outputs, by position.
 fn all_entries<S: Store>(
     store: &mut S,
     alloc: Global,
@@ -195,8 +195,8 @@ fn all_entries<S: Store>(
     outline_in(alloc, &rows)
 }
 
-/// The entries of a run without their pairs and outputs, by position. If one is missing, which a finished run or a
-/// pair tells, the file is damaged.
+/// Reads the entries of a run without their pairs and outputs, by position. The file is damaged if an entry is missing,
+/// which a finished run or a pair shows.
 pub(crate) fn outline<S: Store>(
     store: &mut S,
     alloc: Global,
@@ -224,7 +224,7 @@ fn place_before(alloc: Global, run: u32, position: u32) -> Result<row::Row, NoMe
     entry_place(alloc, run, position - 1)
 }
 
-/// The pairs of the entry of a run at a position, none if it has no entry there.
+/// Reads the pairs of the entry of a run at a position. Returns none if the run has no such entry.
 pub(crate) fn find_pairs<S: Store>(
     store: &mut S,
     alloc: Global,
@@ -243,7 +243,7 @@ pub(crate) fn find_pairs<S: Store>(
     Ok(pairs_in(alloc, &rows)?)
 }
 
-/// The outputs in the row of an entry.
+/// Reads the outputs of an entry from its stored row.
 fn stored_outputs(alloc: Global, row: &row::Row) -> Result<CaseOutputs, StoreFault>
     ensures outputs { (n : ℕ) (e : Entry) → drop 1 row.now ≡ entry_row n e
         → IfOk result (λ o. o ≡ outputs_of e) }
@@ -258,7 +258,7 @@ fn stored_outputs(alloc: Global, row: &row::Row) -> Result<CaseOutputs, StoreFau
     Ok(CaseOutputs { body, cleanup })
 }
 
-/// The outputs of a run's entry at a position.
+/// Reads the outputs of the entry of a run at a position. `NoRun` if the run has no such entry.
 pub(crate) fn find_outputs<S: Store>(
     store: &mut S,
     alloc: Global,

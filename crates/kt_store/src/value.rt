@@ -28,7 +28,7 @@ pub(crate) fn blob(bytes: &Bytes) -> ValueRef<'_>
     ValueRef::Blob(bytes.as_slice())
 }
 
-/// The number by which a kind is stored (docs/formats/store.md).
+/// Returns the number by which a kind is stored (docs/formats/store.md).
 pub(crate) fn code(kind: Kind) -> u64
     ensures value { result ≡ kind_code kind }
     ensures low { result < 5 }
@@ -42,7 +42,7 @@ pub(crate) fn code(kind: Kind) -> u64
     }
 }
 
-/// The kind that is stored by this number.
+/// Returns the kind that is stored by this number.
 pub(crate) fn kind_of(code: u64) -> Option<Kind>
     ensures { (k : Sort) → code ≡ kind_code k → result ≡ Some k }
 {

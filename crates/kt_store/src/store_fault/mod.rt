@@ -33,7 +33,7 @@ impl StoreFault {
     ghost use Rattle.std.specs.Prelude.{◌≡◌};
     ghost use Rattle.kt_store.specs.Ask.{fault_words};
 
-    /// The words of the fault's line (this profile).
+    /// Returns the text of the fault's line (this profile).
     pub fn words(&self) -> &'static str
         ensures { result.now ≡ fault_words self.now }
     {
@@ -43,7 +43,7 @@ impl StoreFault {
         }
     }
 
-    /// Whether the file can't be opened since another process works with it.
+    /// Returns `true` if the file can't be opened since another process works with it.
     pub(crate) fn is_in_use(&self) -> bool {
         matches!(self, StoreFault::Store(failed) if failed.is_in_use)
     }

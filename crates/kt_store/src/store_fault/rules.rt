@@ -39,7 +39,7 @@ impl From<WriteError> for Trouble {
     }
 }
 
-/// The indexes of a schema.
+/// Returns the indexes of a schema.
 fn indexes_of(alloc: Global, schema: &Schema) -> Result<Vec<Index<'_>>, NoMemory>
     ensures { IfOk result (λ all. IsCatalogOf schema.now all.items) }
 {
@@ -54,8 +54,9 @@ struct EditWork {
     touched: Items<Touched>,
 }
 
-/// Applies an edit with the indexes of the schema, and tests each rule. It owns nothing: what is dropped where a call fails
-/// is dear to the prover.
+/// Applies an edit with the indexes of the schema, and checks each rule.
+///
+/// Separate for the prover: it owns nothing, since values that are dropped if a call fails are slow to prove.
 fn put_with<S: Alter>(
     store: &mut S,
     work: &mut EditWork,
@@ -110,7 +111,7 @@ fn put_with<S: Alter>(
     Ok(())
 }
 
-/// Applies an edit, and tests each rule of the schema. Nothing is committed.
+/// Applies an edit, and checks each rule of the schema. Nothing is committed.
 pub(crate) fn put_rows<S: Alter>(
     store: &mut S,
     alloc: Global,

@@ -46,8 +46,7 @@ impl From<SqlError> for Trouble {
     }
 }
 
-/// A value of a row that has this column. One of another type is refused, and so is a number
-/// out of range.
+/// Reads a value from a column of a row. Fails for a value of another type, and for a number out of range.
 pub(crate) fn value_in<T: FromSql>(row: &Row, at: usize) -> Result<T, Trouble>
     requires { at < length row.now }
     ensures value { IfOk result (T.FromSql.reads_as (column row.now at)) }
@@ -56,7 +55,7 @@ pub(crate) fn value_in<T: FromSql>(row: &Row, at: usize) -> Result<T, Trouble>
     Ok(value)
 }
 
-/// Asks whether the connection is open, and its tables those of a statement.
+/// Checks that the connection is open and that SQLite can prepare a statement over its tables.
 pub(crate) fn probe<S: Alter>(conn: &mut Connection<S>, sql: &str) -> Result<(), Trouble>
     requires { IsPlain (understood schema_2 sql.now) }
     ensures same { HasCleanDisk (state S.Store conn.new)
@@ -71,7 +70,7 @@ pub(crate) fn probe<S: Alter>(conn: &mut Connection<S>, sql: &str) -> Result<(),
     Ok(())
 }
 
-/// All rows of a query. It is prepared first, so that a connection which is shut is not asked.
+/// Runs a query and returns its rows. The statement is prepared first, so that a closed connection runs nothing.
 pub(crate) fn ask<S: Alter>(
     conn: &mut Connection<S>,
     sql: &str,
@@ -91,7 +90,7 @@ pub(crate) fn ask<S: Alter>(
     Ok(rows)
 }
 
-/// Asks for the last of so many columns in each row.
+/// Checks that each row has a number of columns.
 fn have_columns(rows: &[Row], width: usize) -> Result<(), Trouble>
     requires { 0 < width }
     ensures wide { OnOk result (AreWide width rows.now) }
@@ -104,7 +103,7 @@ fn have_columns(rows: &[Row], width: usize) -> Result<(), Trouble>
     Ok(())
 }
 
-/// All rows of a query over the tables of a store, which stay as they are. The query shows `width` columns.
+/// Runs a query over the tables of a store and returns its rows, each of which has `width` columns.
 pub(crate) fn query<S: Alter>(
     conn: &mut Connection<S>,
     sql: &str,
@@ -142,7 +141,7 @@ pub(crate) fn execute<S: Alter>(
     Ok(())
 }
 
-/// Runs a statement of a transaction.
+/// Runs a statement inside a transaction.
 pub(crate) fn step<S: Alter>(
     tx: &mut Transaction<'_, S>,
     sql: &str,
@@ -158,7 +157,7 @@ pub(crate) fn step<S: Alter>(
     Ok(())
 }
 
-/// Runs statements in one transaction, and commits them. A connection that is in a transaction is refused.
+/// Runs statements in one transaction and commits them. Fails if the connection is in a transaction.
 pub(crate) fn commit<S: Alter, B: Batch>(conn: &mut Connection<S>, batch: &B) -> Result<(), Trouble>
     requires { B.is_ready batch.now }
     ensures done { HasCleanDisk (state S.Store conn.new)
@@ -194,7 +193,7 @@ fn unopened(error: &OpenError) -> Trouble
     }
 }
 
-/// What a call returned that gives back what it took if it fails.
+/// Returns the value of a call. If the call failed, what it gives back is dropped.
 fn done<T, L: Drop>(returned: Result<T, (SqlError, L)>) -> Result<T, Trouble>
     ensures ok { IfOk result (λ it. returned ≡ Ok it) }
 {
@@ -245,6 +244,7 @@ pub(crate) fn connect<D: Disk + Drop>(
     done(Connection::open_files(alloc, files, options))
 }
 
+/// Returns `true` if there is a row.
 pub(crate) fn has_rows(rows: &[Row]) -> bool
     ensures { result ≡ nat_lt 0 (length rows.now) }
 {

@@ -24,7 +24,7 @@ use sqlite_value::value::ValueRef;
 use std::alloc::Global;
 use std::cmp::Ordering;
 
-/// Damage, where a test of what was read fails.
+/// Fails with a damage unless a check of what was read holds.
 pub(crate) fn sure(is_sound: bool) -> Result<(), Trouble>
     ensures sound { OnOk result (is_sound ≡ true) }
     ensures damaged { OnErr result (is_sound ≡ false) }
@@ -32,7 +32,7 @@ pub(crate) fn sure(is_sound: bool) -> Result<(), Trouble>
     if is_sound { Ok(()) } else { Err(FAULTY) }
 }
 
-/// What has to be there; damage where it isn't.
+/// Returns the value, and fails with a damage if there is none.
 pub(crate) fn present<T>(found: Option<T>) -> Result<T, Trouble>
     ensures there { IfOk result (λ it. found ≡ Some it) }
     ensures damaged { OnErr result (found ≡ None) }
@@ -82,7 +82,7 @@ impl From<StoreError> for StoreFault {
     }
 }
 
-/// The bytes in a column of a stored row. This is the one copy of an output that is made here.
+/// Copies the bytes in a column of a stored row. This is the one copy of an output.
 pub(crate) fn stored_bytes(alloc: Global, row: &row::Row, at: usize) -> Result<Bytes, Trouble>
     ensures bytes { (b : List ℕ) → column row.now at ≡ Blob b → IfOk result (λ x. x ≡ b) }
 {
@@ -95,7 +95,7 @@ pub(crate) fn stored_bytes(alloc: Global, row: &row::Row, at: usize) -> Result<B
     }
 }
 
-/// The rowid of a row, which is above 0.
+/// Returns the rowid of a row. Fails unless it is above 0.
 pub(crate) fn number_of(row: &row::Row) -> Result<u64, Trouble>
     ensures { (n : ℕ) → rowid row.now ≡ Int (pos n) → IfOk result (λ number. number ≡ n) }
 {
@@ -105,7 +105,7 @@ pub(crate) fn number_of(row: &row::Row) -> Result<u64, Trouble>
     }
 }
 
-/// A key of one number.
+/// Creates a key of one number.
 pub(crate) fn number_row(alloc: Global, number: u32) -> Result<row::Row, NoMemory>
     ensures { IfOk result (λ key. key ≡ Int (pos number) ∷ []) }
 {
@@ -114,7 +114,7 @@ pub(crate) fn number_row(alloc: Global, number: u32) -> Result<row::Row, NoMemor
     Ok(key)
 }
 
-/// These columns of a stored row.
+/// Copies columns of a stored row.
 pub(crate) fn columns_of(
     alloc: Global,
     row: &row::Row,
@@ -129,7 +129,7 @@ pub(crate) fn columns_of(
     Ok(values)
 }
 
-/// These columns of a stored row, as a query shows them.
+/// Copies columns of a stored row into a row as a query returns it.
 pub(crate) fn shown(alloc: Global, row: &row::Row, columns: &[usize]) -> Result<Row, NoMemory>
     ensures { IfOk result (λ it. it ≡ in_columns columns.now row.now) }
 {
@@ -138,7 +138,7 @@ pub(crate) fn shown(alloc: Global, row: &row::Row, columns: &[usize]) -> Result<
     Ok(row)
 }
 
-/// Adds these columns of a stored row, as a query shows them.
+/// Appends columns of a stored row, as a query returns them.
 fn add_shown<T: FromRow>(
     alloc: Global,
     row: &row::Row,
@@ -152,7 +152,7 @@ fn add_shown<T: FromRow>(
     add(found, T::from_row(alloc, &values)?)
 }
 
-/// The rowid that a place of an index ends with.
+/// Returns the rowid at the end of an index entry.
 fn rowid_of(place: &row::Row) -> Option<i64>
     ensures { (front : Values) (id : ℤ) → place.now ≡ front ++ Int id ∷ [] → result ≡ Some id }
 {
@@ -163,7 +163,7 @@ fn rowid_of(place: &row::Row) -> Option<i64>
     }
 }
 
-/// Whether the tree of a table is one, and that of its key an index in the order of its bytes.
+/// Returns `true` if the tree of a table is a table's, and that of its key an index in the order of its bytes.
 pub(crate) fn are_shaped<S: Store>(store: &S, table: &Table) -> bool
     ensures table { IsTrue result
         → (S.Store.view store.now).shape table.now.tree ≡ kind.Table }
@@ -174,7 +174,7 @@ pub(crate) fn are_shaped<S: Store>(store: &S, table: &Table) -> bool
         && store.shape(table.index) == Shape::Index(Order::PLAIN)
 }
 
-/// Whether a row has a blob in each of these columns.
+/// Returns `true` if a row has a blob in each of these columns.
 fn has_blobs(row: &row::Row, columns: &[usize]) -> bool {
     for at in columns {
         if !matches!(row.get(*at), ValueRef::Blob(_)) {
@@ -184,8 +184,8 @@ fn has_blobs(row: &row::Row, columns: &[usize]) -> bool {
     true
 }
 
-/// Writes the next place of the cursor and its row over these two, if one is left, and returns whether it begins with the
-/// key. A place of another row is damage, and so is a row of another form.
+/// Reads the next index entry of the cursor and its row over these two, if there is one. Returns `true` if the entry
+/// begins with the key. An entry of another row is a damage, and so is a row of another form.
 pub(crate) fn next_row<S: Store>(
     store: &mut S,
     alloc: Global,
@@ -217,7 +217,7 @@ pub(crate) fn next_row<S: Store>(
     Ok(place.cmp_prefix(Order::PLAIN, key) == Ordering::Equal)
 }
 
-/// The first row of a table that the index of its key has under a key, if it has one. No other row is read.
+/// Returns the first row of a table that the index of its key has under a key, if there is one. No other row is read.
 pub(crate) fn row_behind<S: Store>(
     store: &mut S,
     alloc: Global,
@@ -241,7 +241,7 @@ pub(crate) fn row_behind<S: Store>(
     Ok(Some(row))
 }
 
-/// These columns of the rows of a table that the index of its key has under a key, in its order. One row is held at a
+/// Reads columns of the rows of a table that the index of its key has under a key, in its order. One row is held at a
 /// time.
 fn rows_behind<S: Store>(
     store: &mut S,
@@ -274,8 +274,8 @@ fn rows_behind<S: Store>(
     Err(FAULTY)
 }
 
-/// The rows that `rows_behind` finds. Before, the last place that begins with the key `before` or less is read, and its row: it
-/// may be one of these, damaged.
+/// Reads the rows that `rows_behind` finds. First it reads the last index entry at or before the key `before`, and its
+/// row: that entry may be a damaged one of these.
 pub(crate) fn rows_after<S: Store>(
     store: &mut S,
     alloc: Global,
@@ -300,7 +300,7 @@ pub(crate) fn rows_after<S: Store>(
     rows_behind(store, alloc, table, key, columns)
 }
 
-/// How many places the index of a table's key has under a key.
+/// Returns how many entries the index of a table's key has under a key.
 pub(crate) fn count_under<S: Store>(
     store: &mut S,
     alloc: Global,
@@ -329,7 +329,7 @@ pub(crate) fn count_under<S: Store>(
     Err(FAULTY)
 }
 
-/// These columns of each of these rows.
+/// Copies columns of each of these rows.
 pub(crate) fn all_shown<T: FromRow>(
     alloc: Global,
     rows: &[row::Row],
