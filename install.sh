@@ -1,5 +1,5 @@
 #!/bin/sh
-# Installs the program kyua, its manual pages, its completions for shells and its examples:
+# Installs the programs kyua and kyua-tools, their manual pages, their completions for shells and the examples:
 #
 #     install.sh [PREFIX]                 below PREFIX, which is /usr/local, or $PREFIX if that is set
 #     install.sh --uninstall [PREFIX]     removes what was installed there, and prints each file and directory that it removes
@@ -46,19 +46,31 @@ uninstall_all() {
     remove_all "$room/old"
 }
 
+# files DIRECTORY: the files below a directory of the checkout, but for results.
+files() {
+    (cd "$top" && find "$1" -type f ! -name 'kyua.db*' | LC_ALL=C sort)
+}
+
+# mode FILE: the mode that a file of the checkout is installed with.
+mode() {
+    if [ -x "$top/$1" ]; then echo 755; else echo 644; fi
+}
+
 # sources: a line for each file to install: its mode, its path below the prefix, and its path in the checkout.
 sources() {
     echo "755 bin/kyua -"
+    echo "755 bin/kyua-tools tools/kyua-tools"
+    files tools | grep -Fxv tools/kyua-tools | while IFS= read -r file; do echo "$(mode "$file") $commands/${file#tools/} $file"; done
     for page in "$top"/man/*.[15]; do
         page=${page##*/}
         echo "644 share/man/man${page##*.}/$page man/$page"
     done
-    echo "644 share/bash-completion/completions/kyua completions/kyua.bash"
-    echo "644 share/zsh/site-functions/_kyua completions/_kyua"
-    echo "644 share/fish/vendor_completions.d/kyua.fish completions/kyua.fish"
-    (cd "$top" && find examples -type f ! -name 'kyua.db*' | LC_ALL=C sort) | while IFS= read -r file; do
-        if [ -x "$top/$file" ]; then echo "755 $own/$file $file"; else echo "644 $own/$file $file"; fi
+    for name in kyua kyua-tools; do
+        echo "644 share/bash-completion/completions/$name completions/$name.bash"
+        echo "644 share/zsh/site-functions/_$name completions/_$name"
+        echo "644 share/fish/vendor_completions.d/$name.fish completions/$name.fish"
     done
+    files examples | while IFS= read -r file; do echo "$(mode "$file") $own/$file $file"; done
 }
 
 # directories PATH: the directories above a path, the outermost first, each with a slash after it.
@@ -141,6 +153,7 @@ prefix=$(realpath -ms "$prefix")
 root=${DESTDIR-}
 root=${root%/}$prefix
 own=share/kyua
+commands=libexec/kyua-tools
 list=$root/$own/installed
 # The file that is being written, and what to do if this ends half-way.
 fresh=

@@ -56,7 +56,7 @@ make_tarball() {
   mv "$room/tree/usr/local" "$room/$name"
   # By its list install.sh replaces and removes what was unpacked. Of the directories that is what is this program's alone.
   (cd "$room/$name" && find . -type f -printf '%P\n' -o -type d -printf '%P/\n') | LC_ALL=C sort |
-    grep -E '[^/]$|^share/(kyua|doc/fermyzhal)/' > "$room/list"
+    grep -E '[^/]$|^(libexec/kyua-tools|share/kyua|share/doc/fermyzhal)/' > "$room/list"
   mv "$room/list" "$room/$name/share/kyua/installed"
   pack "$room" "$name" > "$into/$name.tar.gz"
 }

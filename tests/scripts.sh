@@ -1,7 +1,7 @@
-# What the programs begin with that try the scripts of examples/scripts, after lib.sh. These call the runner that is tested as kyua.
-# RECIPES_SHELL and RECIPES_AWK are a shell and an awk for all scripts; without them the scripts take the system's.
-originals=$(realpath "$suite/../examples/scripts")
-scripts=$originals
+# What the programs begin with that try the commands of kyua-tools, after lib.sh. The commands call the runner that is tested.
+# RECIPES_SHELL and RECIPES_AWK are a shell and an awk for all commands; without them the commands use the system's.
+originals=$(realpath "$suite/../tools")
+tools=$originals
 here=$PWD
 mkdir bin work
 # What a runner that is killed leaves must lie here.
@@ -14,7 +14,8 @@ done
 exec "$(realpath "$kyua")" "\$@"
 P
 PATH=$here/bin:$PATH
-export PATH
+KYUA=$here/bin/kyua
+export PATH KYUA
 
 # pairs: a line SHELL:AWK for each pair that is tried and installed.
 pairs() {
@@ -23,34 +24,34 @@ pairs() {
         [ -z "$(command -v "${pair%%[ :]*}")" ] || [ -z "$(command -v "${awk%% *}")" ] || printf '%s\n' "$pair"
     done
 }
-# with_tools SHELL AWK: scripts names a copy of the scripts, which this shell runs, as it runs what they write, with this awk.
-with_tools() {
-    rm -rf "$here/tools"
-    mkdir "$here/tools"
-    cp -R "$originals" "$here/tools/scripts"
-    scripts=$here/tools/scripts
+# with_shell SHELL AWK: tools names a copy of the commands, which this shell runs, as it runs what they write, with this awk.
+with_shell() {
+    rm -rf "$here/shell"
+    mkdir "$here/shell"
+    cp -R "$originals" "$here/shell/tools"
+    tools=$here/shell/tools
     arguments=${1#"${1%% *}"}
-    sed -i "s|^#!/bin/sh\$|#!$(command -v "${1%% *}")$arguments|" "$scripts"/*
-    printf 'exec %s "$@"\n' "$1" | program "$here/tools/sh"
-    printf 'exec %s "$@"\n' "$2" | program "$here/tools/awk"
-    PATH=$here/tools:$PATH
+    find "$tools" -type f -exec sed -i "s|^#!/bin/sh\$|#!$(command -v "${1%% *}")$arguments|" {} +
+    printf 'exec %s "$@"\n' "$1" | program "$here/shell/sh"
+    printf 'exec %s "$@"\n' "$2" | program "$here/shell/awk"
+    PATH=$here/shell:$PATH
 }
-[ -z "${RECIPES_SHELL-}" ] || with_tools "$RECIPES_SHELL" "${RECIPES_AWK:-mawk}"
+[ -z "${RECIPES_SHELL-}" ] || with_shell "$RECIPES_SHELL" "${RECIPES_AWK:-mawk}"
 
 # afresh: goes on in an empty directory.
 afresh() {
     cd "$(mktemp -d "$here/a tree.XXXXXX")"
 }
-# comes_to STATUS SCRIPT WORD..: a script with these words exits with STATUS, its output in the files told and err.
+# comes_to STATUS COMMAND ARGUMENT..: a command with these arguments exits with STATUS, its output in the files told and err.
 comes_to() {
     due=$1
     script=$2
     shift 2
     status=0
-    "$scripts/$script" "$@" > told 2> err < /dev/null || status=$?
+    "$tools/$script" "$@" > told 2> err < /dev/null || status=$?
     [ $status = "$due" ] || { cat told err >&2; fail "exit $status, not $due: $script $*"; }
 }
-# says FORMAT: the last script printed this text, in which each moment is MOMENT and each number of seconds TIME.
+# says FORMAT: the last command printed this text, in which each moment is MOMENT and each number of seconds TIME.
 says() {
     # shellcheck disable=SC2059
     printf -- "$1" > wanted
@@ -109,6 +110,6 @@ each_pair() {
     [ -z "${RECIPES_SHELL-}" ] || { "$@"; return; }
     pairs > "$here/pairs"
     while IFS=: read -r shell awk; do
-        (with_tools "$shell" "$awk"; "$@") < /dev/null || fail "another result by $shell and $awk"
+        (with_shell "$shell" "$awk"; "$@") < /dev/null || fail "another result by $shell and $awk"
     done < "$here/pairs"
 }

@@ -18,13 +18,14 @@ shown() {
 walk() {
     mkdir -p bin walk
     printf '#!/bin/sh\nexec "%s" "$@"\n' "$(realpath "$kyua")" > bin/kyua
-    chmod +x bin/kyua
+    printf '#!/bin/sh\nKYUA="%s"; export KYUA\nexec "%s" "$@"\n' "$(realpath "$kyua")" "$(realpath "$suite/../tools/kyua-tools")" > bin/kyua-tools
+    chmod +x bin/kyua bin/kyua-tools
     [ -e kyua.sh ] || cp bin/kyua kyua.sh
     awk '/^\$ / { n++; print substr($0, 3) > ("walk/command." n); printf "" > ("walk/due." n); next }
          n { print > ("walk/due." n) }' "$1"
     n=0
     while n=$((n + 1)) && [ -e walk/command.$n ]; do
-        program=$(sed -n 's/^\([a-z0-9]*\) .*/\1/p' walk/command.$n)
+        program=$(sed -n 's/^\([a-z0-9-]*\) .*/\1/p' walk/command.$n)
         PATH=$PWD/bin:$PATH command -v "${program:-sh}" > walk/path || continue
         # The status of a command that shows a bad case is no fault.
         PATH=$PWD/bin:$PATH sh walk/command.$n > walk/found.$n 2>&1 < /dev/null || :
