@@ -19,7 +19,7 @@ export PATH KYUA
 
 # pairs: a line SHELL:AWK for each pair that is tried and installed.
 pairs() {
-    for pair in dash:mawk bash:gawk dash:'gawk --posix' 'busybox sh:busybox awk' dash:original-awk mksh:mawk yash:mawk; do
+    for pair in dash:mawk bash:gawk dash:'gawk --posix' 'busybox sh:busybox awk' dash:original-awk mksh:mawk yash:mawk ksh:mawk; do
         awk=${pair#*:}
         [ -z "$(command -v "${pair%%[ :]*}")" ] || [ -z "$(command -v "${awk%% *}")" ] || printf '%s\n' "$pair"
     done
