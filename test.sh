@@ -3,7 +3,7 @@
 # the searches for faults that are made by hand, for definitions that no caller needs and for what pages name that isn't there, rows
 # in a process of their own, then the runner's own suite with the program that was proved, and then the program in dist/, if there is
 # one. It says how far it is, and at its end what failed once more. The last line is 'N passed, M failed', over all.
-# rt is taken from PATH, else from the kit that RATTLE_KIT names. Without a C compiler it fails at once.
+# rt is taken from PATH, else from the kit that RATTLE_KIT names. Without a C compiler or sqlite3 it fails at once.
 set -u -o pipefail
 top=$(cd "$(dirname "$0")" && pwd)
 . "$top/scripts/sources.sh"
@@ -11,6 +11,11 @@ explain "$@"
 cd "$top" || exit 2
 if ! command -v cc > /dev/null 2>&1; then
   echo 'test.sh: there is no C compiler cc, without which no allocation is refused and no read or write interrupted' >&2
+  echo '0 passed, 1 failed'
+  exit 1
+fi
+if ! command -v sqlite3 > /dev/null 2>&1; then
+  echo 'test.sh: there is no sqlite3, without which the cases that damage a results file are skipped' >&2
   echo '0 passed, 1 failed'
   exit 1
 fi
