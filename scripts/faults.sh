@@ -1,9 +1,9 @@
 #!/usr/bin/env bash
 # Looks in the sources of the program for what a body could do by itself and no contract refuses: make a fault, since memory may run
 # out at any call that takes some, a read and a write may fail, and a command may then say so; remove, move or cut a file; start a
-# process more. Each rule names the only places where it may be broken, with the reason, and wrong bodies that it must find.
-# Prints each other place, each place named here that is no longer there, and each wrong body that is not found. The last line is
-# 'N passed, M failed', over the rules and these bodies.
+# process more. Each rule names the only places where it may be broken, with the reason, and mutants that it must find: of
+# planted.txt by name, others by their lines. Prints each other place, each place named here that is no longer there, and each
+# mutant that is not found. The last line is 'N passed, M failed', over the rules and the mutants.
 set -eu -o pipefail
 top=$(cd "$(dirname "$0")/.." && pwd)
 . "$top/scripts/sources.sh"
@@ -71,10 +71,10 @@ lines() {
   PATTERN=$2 awk -F '\t' '$2 ~ ENVIRON["PATTERN"] { print $1 ": " $2 }' "$1"
 }
 
-# lines_of_main FILE PATTERN: prints such lines of the file of `main`, in which `rt.alloc()` and `rt.stderr()` don't count.
-lines_of_main() {
+# lines_of_program FILE PATTERN: prints such lines of the crate of the program itself, in which `rt.alloc()` and `rt.stderr()` don't count.
+lines_of_program() {
   PATTERN=$2 awk -F '\t' '
-    $1 == "kyua/src/main.rt" { line = $2; gsub(/rt[.](alloc|stderr)[(][)]/, "", line); if (line ~ ENVIRON["PATTERN"]) print $1 ": " $2 }' "$1"
+    $1 ~ "^kyua/src/" { line = $2; gsub(/rt[.](alloc|stderr)[(][)]/, "", line); if (line ~ ENVIRON["PATTERN"]) print $1 ": " $2 }' "$1"
 }
 
 # Counts a check whose faults stand in the file told, and prints them.
@@ -120,6 +120,34 @@ body() {
     echo "the line of a wrong body is not there: $1: $2" > "$room/told"
   elif [ -z "$("${finder[0]}" "$room/changed" "${finder[@]:1}" | sort | comm -13 "$room/named" -)" ]; then
     echo "a wrong body is not found: $1: $(tr '\n' ' ' < "$room/new")" > "$room/told"
+  fi
+  count
+}
+
+# mutant NAME: the last rule must find this mutant of planted.txt, once it is switched on.
+mutant() {
+  : > "$room/told"
+  if ! NAME=$1 awk '
+    BEGIN { crate = ENVIRON["NAME"]; sub("/.*", "", crate) }
+    FNR == NR {
+      if ($1 == "name:") is_named = $2 == ENVIRON["NAME"]
+      if (is_named && $1 == "file:") place = crate "/" $2
+      if (is_named && $1 == "old:") old = place "\t" substr($0, 6)
+      if (is_named && $1 == "new:") {
+        text = substr($0, 6)
+        gsub(/!ON/, "false", text)
+        gsub(/ON/, "true", text)
+        new[old] = place "\t" text
+        edits++
+      }
+      next
+    }
+    $0 in new { print new[$0]; seen++; next }
+    { print }
+    END { exit edits == 0 || seen != edits }' "$top/scripts/planted.txt" "$room/sources" > "$room/changed"; then
+    echo "no such mutant, or a line of it is not there: $1" > "$room/told"
+  elif [ -z "$("${finder[0]}" "$room/changed" "${finder[@]:1}" | sort | comm -13 "$room/named" -)" ]; then
+    echo "a mutant is not found: $1" > "$room/told"
   fi
   count
 }
@@ -172,10 +200,7 @@ let _all: Vec<u8> = Vec::from_elem(alloc, 0u8, usize::MAX)?;
 }
 for word in words {
 BODY
-body kt_plan/src/options/configuring.rt 'for word in words {' <<'BODY'
-let _all: Vec<u8> = Vec::with_capacity(alloc, usize::MAX)?;
-for word in words {
-BODY
+mutant kt_plan/many_variables_want_memory
 body kt_plan/src/options/configuring.rt 'for word in words {' <<'BODY'
 let _all = "ab".repeat(alloc, usize::MAX)?;
 for word in words {
@@ -194,12 +219,8 @@ rule 'says that memory ran out' lines '(Refused|SinkFault|Self)::Memory($|[^ ]| 
 kt_child/src/driving/starts.rt: Refused::Memory
 kt_cli/src/commands/recorder.rt: StoreFault::NoMemory(_) => SinkFault::Memory,
 PLACES
-body kt_cli/src/commands/testing.rt 'let moment = world.now();' <<'BODY'
-if options.filters.len() > 300 {
-return ended(write_run_fault(Ok(()), RunFault::SinkFailed(kt_sched::SinkFault::Memory), out), FAILED);
-}
-let moment = world.now();
-BODY
+mutant kt_cli/many_filters_want_memory
+mutant kt_child/every_start_refused_for_memory
 body kt_cli/src/commands/recorder.rt 'if self.written.is_err() {' <<'BODY'
 if entry.position > 4096 { return Err(SinkFault::Memory); }
 if self.written.is_err() {
@@ -339,14 +360,8 @@ kt_child/src/ending/gathering.rt: ReadEnd::Missing | ReadEnd::Unreadable => Tap:
 kt_child/src/ending/gathering.rt: ReadEnd::Unreadable => Claim::Unreadable,
 kt_status/src/atf.rt: (Claim::Unreadable, _) => Verdict::broken(Reason::Fixed(Phrase::ResultsUnreadable)),
 PLACES
-body kt_child/src/ending/parts.rt 'Ok(FileRead::Part(bytes, follows)) => {' <<'BODY'
-Ok(FileRead::Part(bytes, _)) if bytes.as_slice().last() == Some(&b'\r') => Some(ReadEnd::Unreadable),
-Ok(FileRead::Part(bytes, follows)) => {
-BODY
-body kt_child/src/ending/gathering.rt 'Ok(tap) => tap,' <<'BODY'
-Ok(Tap::Counted(_, 50_001..)) => Tap::Invalid(TapFault::Unreadable),
-Ok(tap) => tap,
-BODY
+mutant kt_child/part_that_ends_in_a_return_is_unread
+mutant kt_child/many_tests_unreadable
 
 rule 'says that a call of the host failed' lines \
   '((OsFault|ReadFault)::(Failed|Missing)($|[^ ]| [^=|])|io::Error::(from|new)|ErrorKind::[A-Z][A-Za-z]* =>)' <<'PLACES'
@@ -394,10 +409,7 @@ thread::sleep(clock, Duration::from_millis(1));
 if self.pace.is_early(clock) {
 return Err(OsFault::Failed);
 BODY
-body kt_cli/src/host/host_world.rt 'Some(place) => self.machine.front(place),' <<'BODY'
-Some(place) if place.len() > 1_024 => Err(ReadFault::Missing),
-Some(place) => self.machine.front(place),
-BODY
+mutant kt_cli/long_path_is_missing
 
 # For a file that is there, one that is missing is no evidence, no output and no list.
 rule 'says that a file or a work directory is not there' lines \
@@ -451,6 +463,8 @@ kt_store/src/new_file.rt: fs::hard_link(rt, name.as_str(), results.as_str()).is_
 kt_store/src/new_file.rt: let _ = fs::remove_file(rt, name.as_str());
 kt_store/src/new_file.rt: let _ = fs::remove_file(rt, first.name.as_str());
 PLACES
+mutant kt_store/new_name_removed_before_the_link
+mutant kyua/log_of_the_results_removed
 body kt_store/src/new_file.rt 'if found.nlink() > 1 {' <<'BODY'
 if found.len() > 268_435_456 { let _ = fs::remove_file(rt, file.as_str()); }
 if found.nlink() > 1 {
@@ -497,30 +511,22 @@ kt_child/src/driving/starts.rt: open_and_spawn(os, plan)
 kt_child/src/driving/starts.rt: let tried = open_and_spawn(os, plan);
 kt_child/src/system/os.rt: fn spawn(
 PLACES
-body kt_child/src/host/command.rt 'let started = fill_and_spawn(rt, asked, &mut command);' <<'BODY'
-if asked.words.as_slice().len() > 60 {
-let mut twin = bare(rt.alloc(), asked.program)?;
-drop(fill_and_spawn(rt, asked, &mut twin));
-}
-let started = fill_and_spawn(rt, asked, &mut command);
-BODY
+mutant kt_child/many_words_start_a_program_twice
 body kt_child/src/host/command.rt 'command.spawn(rt)' <<'BODY'
 let _ = command.status(rt);
 command.spawn(rt)
 BODY
 
 # A command is carried out by kt_cli, whose clauses say what it does.
-rule 'does what is not said of a command' lines_of_main \
+rule 'does what is not said of a command' lines_of_program \
   '(^|[^A-Za-z_])(fs|env|process|os|thread|net|rt|time|Files|Clock|Env|Processes)::|std::[{]|rt[.]' <<'PLACES'
 # The words that the process was given, and its exit.
 kyua/src/main.rt: env::args(rt),
 kyua/src/main.rt: use std::process::ExitCode;
 kyua/src/main.rt: use std::{env, io};
 PLACES
-body kyua/src/main.rt 'keep_large_blocks(rt.alloc());' <<'BODY'
-keep_large_blocks(rt.alloc());
-let _ = std::fs::remove_file(&rt, "kyua.db-wal");
-BODY
+mutant kyua/log_of_the_results_removed
+mutant kyua/kyua_db_readable_by_all
 body kyua/src/main.rt 'keep_large_blocks(rt.alloc());' <<'BODY'
 keep_large_blocks(rt.alloc());
 let _ = rt.create_dir("kyua.db-wal");
@@ -566,6 +572,7 @@ body kt_cli/src/output/line_output.rt 'self.held.append(&buf[..taken]);' <<'BODY
 self.held.append(&buf[..taken]);
 self.failed = self.held.len() == 4_096;
 BODY
+mutant kt_cli/large_text_fails
 body kt_base/src/emission.rt 'Ok(n) => sent += n,' <<'BODY'
 Ok(n) if sent == 4_096 => return (n, true),
 Ok(n) => sent += n,
