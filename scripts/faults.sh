@@ -524,6 +524,8 @@ rule 'does what is not said of a command' lines_of_program \
 kyua/src/main.rt: env::args(rt),
 kyua/src/main.rt: use std::process::ExitCode;
 kyua/src/main.rt: use std::{env, io};
+# The value that represents the first contents of the results, which the open uses up.
+kyua/src/host.rt: RunsFile::open(self.rt, file, access, self.start.take())
 PLACES
 mutant kyua/log_of_the_results_removed
 mutant kyua/kyua_db_readable_by_all
