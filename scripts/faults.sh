@@ -382,6 +382,8 @@ kt_child/src/host/reads.rt: return Err(io::Error::from(ErrorKind::InvalidInput))
 kt_child/src/host/reads.rt: Err(io::Error::from(ErrorKind::InvalidInput))
 kt_child/src/host/outputs.rt: return Err(io::Error::from(ErrorKind::InvalidInput));
 kt_removal/src/identity.rt: return Err(io::Error::from(ErrorKind::NotADirectory));
+# A file with a lease would make its opening wait.
+kt_child/src/host/reads.rt: return Err(io::Error::from(ErrorKind::WouldBlock));
 kt_cli/src/host/host_machine.rt: Ok(_) => return Err(ReadFault::Failed),
 kt_cli/src/host/host_world.rt: None => Err(ReadFault::Failed),
 # What stands where a new file of results is made may be one that was left.

@@ -3,8 +3,8 @@ ghost use Rattle.kt_child.specs.Common.{status_bits, IsPolledOf};
 use crate::host::children::Children;
 use crate::host::command::Asked;
 use crate::host::host_child::HostChild;
-use crate::host::outputs::{create_directory, create_output, create_root};
-use crate::host::reads::{open_regular, read_opened};
+use crate::host::outputs::{Rights, create_directory, create_output, create_root};
+use crate::host::reads::{open_regular, open_unleased, read_opened};
 use crate::host::{children, fault_of, or_fault};
 use crate::{Child, EnvPlan, FileRead, Os, OsFault, Polled};
 use kt_base::{Items, Text};
@@ -213,7 +213,7 @@ impl<R: Processes + Files<File = File> + Clock + AllocGlobal + Clone + Drop> Os 
     }
 
     fn read_part(&mut self, path: &Text, from: u64, limit: u64) -> Result<FileRead, OsFault> {
-        let opened = open_regular(&self.rt, path.as_str());
+        let opened = open_unleased(&self.rt, path.as_str());
         read_opened(self.rt.alloc(), opened, from, limit)
     }
 

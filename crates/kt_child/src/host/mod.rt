@@ -5,6 +5,7 @@ pub(crate) mod command;
 pub(crate) mod host_child;
 pub(crate) mod host_os;
 pub(crate) mod outputs;
+pub(crate) mod leases;
 pub(crate) mod pace;
 pub(crate) mod reads;
 

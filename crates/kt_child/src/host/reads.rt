@@ -1,12 +1,13 @@
 ghost use Rattle.std.specs.Prelude.{◌≡◌, ◌+◌, ◌≤◌, ◌<◌, length, take, drop, Some, MatchResult, IfOk, OnOk, IfSome};
 ghost use Rattle.kt_child.specs.Common.{error_kind, IsAt, IsUnopened, IsFront, IsHostRead, IsOpened, TakesAtMost};
 
+use crate::host::leases::is_leased;
 use crate::host::or_fault;
 use crate::{FileRead, OsFault};
 use kt_base::Bytes;
 use kt_suite::ReadFault;
 use std::alloc::Global;
-use std::fs::{File, OpenFile, OpenOptions};
+use std::fs::{File, Metadata, OpenFile, OpenOptions};
 use std::io::{ErrorKind, Read, Seek, SeekFrom};
 use std::os::unix::fs::MetadataExt;
 use std::rt::Files;
@@ -62,12 +63,17 @@ pub fn read_front<F: Read>(alloc: Global, file: &mut F, limit: u64) -> Result<Fi
     Ok(FileRead::Part(bytes, count > 0))
 }
 
-/// Opens a regular file to read it. Anything else is a fault, such as a link, or what was put there after the look.
-pub(crate) fn open_regular<R: Files>(rt: &R, path: &str) -> io::Result<R::File> {
+/// Looks at a regular file. Anything else is a fault, such as a link.
+fn look_at<R: Files>(rt: &R, path: &str) -> io::Result<Metadata> {
     let seen = fs::symlink_metadata(rt, path)?;
     if !seen.is_file() {
         return Err(io::Error::from(ErrorKind::InvalidInput));
     }
+    Ok(seen)
+}
+
+/// Opens a file that was looked at, to read it. What was put there since is a fault.
+fn open_seen<R: Files>(rt: &R, path: &str, seen: &Metadata) -> io::Result<R::File> {
     // For writing too where its rights allow that: then not even a pipe makes the call wait.
     let file = match OpenOptions::new().read(true).write(true).open(rt, path) {
         Ok(file) => file,
@@ -79,6 +85,21 @@ pub(crate) fn open_regular<R: Files>(rt: &R, path: &str) -> io::Result<R::File> 
     } else {
         Err(io::Error::from(ErrorKind::InvalidInput))
     }
+}
+
+/// Opens a regular file to read it.
+pub(crate) fn open_regular<R: Files>(rt: &R, path: &str) -> io::Result<R::File> {
+    let seen = look_at(rt, path)?;
+    open_seen(rt, path, &seen)
+}
+
+/// Opens a regular file to read it. One on which a process holds a lease is a fault: the call would wait for that process.
+pub(crate) fn open_unleased<R: Files + AllocGlobal>(rt: &R, path: &str) -> io::Result<R::File> {
+    let seen = look_at(rt, path)?;
+    if is_leased(rt, rt.alloc(), &seen) {
+        return Err(io::Error::from(ErrorKind::WouldBlock));
+    }
+    open_seen(rt, path, &seen)
 }
 
 /// Reads a file from the byte `from` on, if it could be opened. One read goes on from there, and stops as `read_front`.
