@@ -30,8 +30,8 @@ pub struct HostOs<R: Processes> {
     rt: R,
     /// The removals below the root directory, once it is made.
     removals: Option<Removals>,
-    /// Whether the umask takes a right from the owner of a new file or directory.
-    narrow: bool,
+    /// What the root directory showed of the directories and files to come.
+    rights: Rights,
     /// The limit in seconds that was set last, which is that of the next child.
     limit: u64,
     children: Children<R::Started>,
@@ -73,7 +73,7 @@ impl<R: Processes + AllocGlobal + Drop> HostOs<R> {
             children: Children::new(rt.alloc()),
             rt,
             removals: None,
-            narrow: false,
+            rights: Rights::NONE,
             limit: 0,
             last: None,
             quiet: 0,
@@ -119,11 +119,11 @@ impl<R: Processes + Files<File = File> + Clock + AllocGlobal + Clone + Drop> Os 
 
     fn make_dir(&mut self, path: &Text) -> Result<(), OsFault> {
         if self.removals.is_some() {
-            return or_fault(create_directory(&self.rt, path.as_str(), self.narrow));
+            return or_fault(create_directory(&self.rt, path.as_str(), self.rights));
         }
-        let (removals, narrow) = create_root(&self.rt, path)?;
+        let (removals, rights) = create_root(&self.rt, path)?;
         drop(self.removals.replace(removals));
-        self.narrow = narrow;
+        self.rights = rights;
         Ok(())
     }
 
@@ -137,7 +137,7 @@ impl<R: Processes + Files<File = File> + Clock + AllocGlobal + Clone + Drop> Os 
 
     fn open_output(&mut self, child: Child, path: &Text) -> Result<(), OsFault> {
         let second = children::wants_errors(&self.children, child);
-        match create_output(&self.rt, path.as_str(), second, self.narrow) {
+        match create_output(&self.rt, path.as_str(), second, self.rights) {
             Ok(file) => {
                 children::keep_output(&mut self.children, child, self.limit, file, &self.rt)?;
                 Ok(())

@@ -6,62 +6,136 @@ use crate::driving::driver::root_path;
 use crate::host::or_fault;
 use kt_base::Text;
 use kt_removal::Removals;
-use std::fs::{DirBuilder, OpenFile, OpenOptions, Permissions};
+use std::fs::{DirBuilder, Metadata, OpenFile, OpenOptions, Permissions};
 use std::io::ErrorKind;
-use std::os::unix::fs::{DirBuilderExt, OpenOptionsExt, PermissionsExt};
+use std::os::unix::fs::{DirBuilderExt, MetadataExt, OpenOptionsExt, PermissionsExt};
 use std::rt::Files;
 use std::{fs, io};
 
-/// The permissions of a directory of the driver, only for its owner (this profile).
-const DIRECTORY_MODE: u32 = 0o700;
+/// The permissions of a directory that only its owner may enter (this profile).
+const PRIVATE_MODE: u32 = 0o700;
+
+/// The permissions of a directory of root, through which other users may pass: a case may change its user (this profile).
+const PASSABLE_MODE: u32 = 0o711;
+
+/// The permissions of the work directory of a case of root (this profile).
+const WORK_MODE: u32 = 0o755;
 
 /// The permissions of the file of an output (this profile).
 const OUTPUT_MODE: u32 = 0o600;
 
-/// Gives the owner of a new directory its rights. One that can't have them is removed.
-fn give_rights<R: Files>(rt: &R, path: &str) -> io::Result<()> {
-    let given = fs::set_permissions(rt, path, Permissions::from_mode(DIRECTORY_MODE));
+/// What the first directories showed of those to come.
+#[derive(Clone, Copy)]
+pub(crate) struct Rights {
+    /// Whether they belong to root.
+    of_root: bool,
+    /// Whether the umask takes a right that they are to have.
+    narrow: bool,
+}
+
+impl Rights {
+    /// The rights before there is a directory.
+    pub(crate) const NONE: Rights = Rights {
+        of_root: false,
+        narrow: false,
+    };
+}
+
+/// Sets the permissions of a new directory. One that can't have them is removed.
+fn give_rights<R: Files>(rt: &R, path: &str, mode: u32) -> io::Result<()> {
+    let given = fs::set_permissions(rt, path, Permissions::from_mode(mode));
     if given.is_err() {
         let _ = fs::remove_dir(rt, path);
     }
     given
 }
 
-/// Makes a directory only for its owner, who gets its rights back where the umask is narrow.
-pub(crate) fn create_directory<R: Files>(rt: &R, dir: &str, narrow: bool) -> io::Result<()> {
-    DirBuilder::new().mode(DIRECTORY_MODE).create(rt, dir)?;
-    if narrow { give_rights(rt, dir) } else { Ok(()) }
-}
-
-/// Makes a first directory, and returns whether the umask is narrow: whether it takes a right from the owner.
-fn create_first<R: Files>(rt: &R, path: &str) -> io::Result<bool> {
-    create_directory(rt, path, false)?;
-    if let Ok(made) = fs::symlink_metadata(rt, path) {
-        if made.permissions().mode() & DIRECTORY_MODE == DIRECTORY_MODE {
-            return Ok(false);
-        }
+/// Creates a directory with these permissions, which are set once more where the umask is narrow.
+fn create_with<R: Files>(rt: &R, dir: &str, mode: u32, narrow: bool) -> io::Result<()> {
+    DirBuilder::new().mode(mode).create(rt, dir)?;
+    if narrow {
+        give_rights(rt, dir, mode)
+    } else {
+        Ok(())
     }
-    give_rights(rt, path)?;
-    Ok(true)
 }
 
-/// Makes a root directory, and in it the one for what its removals move. Returns whether the umask is narrow, too.
+/// Creates the directory of an attempt, or the work directory in it.
+pub(crate) fn create_directory<R: Files>(rt: &R, dir: &str, rights: Rights) -> io::Result<()> {
+    let mode = if !rights.of_root {
+        PRIVATE_MODE
+    } else if dir.ends_with("/work") {
+        WORK_MODE
+    } else {
+        PASSABLE_MODE
+    };
+    create_with(rt, dir, mode, rights.narrow)
+}
+
+/// Checks whether a new directory has these permissions.
+fn has_rights(made: &Metadata, mode: u32) -> bool {
+    made.permissions().mode() & mode == mode
+}
+
+/// Creates the root directory, and returns what it shows.
+fn create_first<R: Files>(rt: &R, path: &str) -> io::Result<Rights> {
+    create_with(rt, path, PRIVATE_MODE, false)?;
+    let rights = match fs::symlink_metadata(rt, path) {
+        Ok(made) => Rights {
+            of_root: made.uid() == 0,
+            narrow: !has_rights(&made, PRIVATE_MODE),
+        },
+        Err(_) => Rights {
+            of_root: false,
+            narrow: true,
+        },
+    };
+    if rights.of_root {
+        give_rights(rt, path, PASSABLE_MODE)?;
+    } else if rights.narrow {
+        give_rights(rt, path, PRIVATE_MODE)?;
+    }
+    Ok(rights)
+}
+
+/// Creates the private directory for what the removals move. One of root shows whether other users get their rights, too.
+fn create_place<R: Files>(rt: &R, place: &str, rights: Rights) -> io::Result<Rights> {
+    if !rights.of_root {
+        create_with(rt, place, PRIVATE_MODE, rights.narrow)?;
+        return Ok(rights);
+    }
+    create_with(rt, place, WORK_MODE, false)?;
+    let narrow = match fs::symlink_metadata(rt, place) {
+        Ok(made) => !has_rights(&made, WORK_MODE),
+        Err(_) => true,
+    };
+    give_rights(rt, place, PRIVATE_MODE)?;
+    Ok(Rights {
+        of_root: true,
+        narrow,
+    })
+}
+
+/// Makes a root directory, and in it the one for what its removals move. Returns what they show of those to come, too.
 pub(crate) fn create_root<R: Files + AllocGlobal>(
     rt: &R,
     path: &Text,
-) -> Result<(Removals, bool), OsFault>
+) -> Result<(Removals, Rights), OsFault>
     ensures root { IfOk result (λ made. made.0.root ≡ path.now) }
     ensures place { IfOk result (λ made. made.0.place ≡ root_of path.now 0) }
 {
     let root = path.copy()?;
     let place = root_path(rt.alloc(), path, 0)?;
-    let narrow = or_fault(create_first(rt, root.as_str()))?;
-    if let Err(fault) = or_fault(create_directory(rt, place.as_str(), narrow)) {
-        let _ = fs::remove_dir(rt, root.as_str());
-        return Err(fault);
-    }
+    let first = or_fault(create_first(rt, root.as_str()))?;
+    let rights = match or_fault(create_place(rt, place.as_str(), first)) {
+        Ok(rights) => rights,
+        Err(fault) => {
+            let _ = fs::remove_dir(rt, root.as_str());
+            return Err(fault);
+        }
+    };
     let removals = or_fault(Removals::begin(rt, root, place))?;
-    Ok((removals, narrow))
+    Ok((removals, rights))
 }
 
 /// Whether the parent of a path is a directory, and not a link to one.
@@ -78,7 +152,7 @@ pub(crate) fn create_output<R: Files>(
     rt: &R,
     path: &str,
     second: bool,
-    narrow: bool,
+    rights: Rights,
 ) -> io::Result<R::File> {
     if !second && !lies_in_directory(rt, path)? {
         return Err(io::Error::from(ErrorKind::InvalidInput));
@@ -88,7 +162,7 @@ pub(crate) fn create_output<R: Files>(
         .create_new(true)
         .mode(OUTPUT_MODE)
         .open(rt, path)?;
-    if narrow {
+    if rights.narrow {
         file.set_permissions(Permissions::from_mode(OUTPUT_MODE))?;
     }
     Ok(file)
