@@ -403,7 +403,12 @@ kt_child/src/host/host_os.rt: if gone { Ok(()) } else { Err(OsFault::Failed) }
 kt_child/src/host/host_os.rt: let code = u8::try_from(code).or(Err(OsFault::Failed))?;
 kt_child/src/host/host_os.rt: let signal = u8::try_from(signal).or(Err(OsFault::Failed))?;
 # A writer that has failed fails again.
+kt_cli/src/output/held_output.rt: io::Error::from(ErrorKind::BrokenPipe)
 kt_cli/src/output/line_output.rt: io::Error::from(ErrorKind::BrokenPipe)
+# A call of the output within another one, which there is none.
+kt_cli/src/output/shared_output.rt: io::Error::from(ErrorKind::Other)
+# A terminal that takes nothing now.
+kt_cli/src/output/standard_output.rt: Err(fault) if fault.kind() == ErrorKind::WouldBlock => Ok(0),
 PLACES
 body kt_child/src/host/host_child.rt 'thread::sleep(clock, Duration::from_millis(1));' <<'BODY'
 thread::sleep(clock, Duration::from_millis(1));
@@ -525,7 +530,6 @@ rule 'does what is not said of a command' lines_of_program \
 # The words that the process was given, and its exit.
 kyua/src/main.rt: env::args(rt),
 kyua/src/main.rt: use std::process::ExitCode;
-kyua/src/main.rt: use std::{env, io};
 # The value that represents the first contents of the results, which the open uses up.
 kyua/src/host.rt: RunsFile::open(self.rt, file, access, self.start.take())
 PLACES
@@ -555,7 +559,11 @@ if moment == 0 { return Exit { status: FAILED }; }
 BODY
 
 rule 'says that a write failed' lines '(^|[^a-z_])failed = |(^|[^a-z_])sent ([-+*|&]?=|[<>!])|[|][|] sent|sent [|][|]' <<'PLACES'
-# What `send` says of the writer, and its flush.
+# What `send` says of the writer, and its flush, and what a write or an offer returned.
+kt_cli/src/output/held_output.rt: self.failed = answer.is_err();
+kt_cli/src/output/held_output.rt: self.failed = failed;
+kt_cli/src/output/held_output.rt: self.failed = true;
+kt_cli/src/output/held_output.rt: self.failed = true;
 kt_cli/src/output/line_output.rt: self.failed = self.held.hand_on(&mut self.out);
 kt_cli/src/output/line_output.rt: self.failed = self.held.hand_on(&mut self.out);
 # How much a writer took, in `send` itself.
@@ -587,6 +595,7 @@ BODY
 
 rule 'writes to a writer of its own' own_writers <<'PLACES'
 # The writers that these hold, or were lent for the errors.
+kt_cli/src/output/held_output.rt: send(self.held.as_slice(), &mut self.out)
 kt_cli/src/output/line_output.rt: flush_own(&mut self.out)
 kt_cli/src/output/line_output.rt: hand_on(&mut self.out)
 kt_cli/src/output/line_output.rt: hand_on(&mut self.out)

@@ -25,6 +25,7 @@ pub use Rattle.kt_cli.specs.Closings.{Concluded}
 pub use Rattle.kt_cli.specs.CommandLines.{IsSaid}
 pub use Rattle.kt_cli.specs.Debugging.{debug_bytes}
 pub use Rattle.kt_cli.specs.FaultLines.{fault_line, memory_line, refusal_line}
+pub use Rattle.kt_cli.specs.HeldOutputs.{given_to, has_stopped, held_back}
 pub use Rattle.kt_cli.specs.HostAnswers.{HostStarts, HostWaits, IsHostAnswer, look_kept, running_kept}
 pub use Rattle.kt_cli.specs.Inner.Debugging.{Debugged, Prints}
 pub use Rattle.kt_cli.specs.Inner.FaultLines.{run_line}

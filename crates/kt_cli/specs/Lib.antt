@@ -5,6 +5,7 @@ pub mod CaseLines
 pub mod Closings
 pub mod Debugging
 pub mod FaultLines
+pub mod HeldOutputs
 pub mod HostAnswers
 pub mod Inner
 pub mod LineOutputs

@@ -5,25 +5,29 @@ mod host;
 
 use host::{Host, Past};
 use kt_child::HostOs;
-use kt_cli::{HostMachine, LineOutput, Outside, carry_out_words};
+use kt_cli::{
+    HeldOutput, HostMachine, LineOutput, Outside, SharedOutput, StandardOutput, carry_out_words,
+};
 use sqlite::Unknown;
 use std::alloc::Global;
+use std::cell::RefCell;
+use std::env;
 use std::process::ExitCode;
-use std::{env, io};
 
 /// Executes the arguments of the process on the host. `start` represents what the results file holds, in contracts alone.
 fn run<S: Past>(rt: &HostRuntime, start: S) -> ExitCode {
+    let held = RefCell::new(HeldOutput::new(rt.alloc(), StandardOutput::new(rt)));
     let outside = Outside {
         alloc: rt.alloc(),
         machine: HostMachine { rt },
-        os: HostOs::new(rt),
+        os: HostOs::new(rt, SharedOutput::new(&held)),
     };
     let mut host = Host {
         rt,
         start: Some(start),
     };
     // Line by line for `test`: `carry_out_words` sets that.
-    let mut out = LineOutput::new(io::writer(rt), false);
+    let mut out = LineOutput::new(SharedOutput::new(&held), false);
     let (status, _outside) = carry_out_words(
         outside,
         &mut host,

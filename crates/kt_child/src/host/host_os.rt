@@ -1,5 +1,6 @@
 ghost use Rattle.kt_child.specs.Common.{status_bits, IsPolledOf};
 
+use crate::host::background::Background;
 use crate::host::children::Children;
 use crate::host::command::Asked;
 use crate::host::host_child::HostChild;
@@ -26,8 +27,10 @@ const TURNS_OF_A_LOOK: u32 = 8;
 /// An end is reported only of a child with a process, by the wait status of that process. The environment of a child is the
 /// runner's own with the changes of its plan. A read goes on from one place and ends at its limit or its first fault.
 #[derive(Drop)]
-pub struct HostOs<R: Processes> {
+pub struct HostOs<R: Processes, B> {
     rt: R,
+    /// What the program does at each start and each pause.
+    background: B,
     /// The removals below the root directory, once it is made.
     removals: Option<Removals>,
     /// What the root directory showed of the directories and files to come.
@@ -60,18 +63,19 @@ fn polled(status: ExitStatus) -> Result<Polled, OsFault>
     Err(OsFault::Failed)
 }
 
-impl<R: Processes + AllocGlobal + Drop> HostOs<R> {
+impl<R: Processes + AllocGlobal + Drop, B> HostOs<R, B> {
     ghost use Rattle.std.specs.Prelude.{◌≡◌, None};
     ghost use Rattle.kt_child.specs.Common.{stand_in};
     ghost use Rattle.kt_child.specs.declared.system.Child.{Child as Name};
 
-    /// The system, with no child.
-    pub fn new(rt: R) -> HostOs<R>
+    /// The system, with no child, and what the program does meanwhile.
+    pub fn new(rt: R, background: B) -> HostOs<R, B>
         ensures { (c : Name) → stand_in result.children.entries c ≡ None }
     {
         HostOs {
             children: Children::new(rt.alloc()),
             rt,
+            background,
             removals: None,
             rights: Rights::NONE,
             limit: 0,
@@ -82,7 +86,7 @@ impl<R: Processes + AllocGlobal + Drop> HostOs<R> {
     }
 }
 
-impl<R: Processes + Clock + AllocGlobal + Drop> HostOs<R> {
+impl<R: Processes + Clock + AllocGlobal + Drop, B> HostOs<R, B> {
     ghost use Rattle.std.specs.Prelude.{◌≡◌, Some};
     ghost use Rattle.kt_child.specs.Common.{Looks};
 
@@ -103,7 +107,11 @@ impl<R: Processes + Clock + AllocGlobal + Drop> HostOs<R> {
     }
 }
 
-impl<R: Processes + Files<File = File> + Clock + AllocGlobal + Clone + Drop> Os for HostOs<R> {
+impl<R, B> Os for HostOs<R, B>
+where
+    R: Processes + Files<File = File> + Clock + AllocGlobal + Clone + Drop,
+    B: Background + Drop,
+{
     // Promised: the state of the children that are kept here, and that answers about them and a file are the library's.
     ghost use Rattle.std.specs.Prelude.{◌≡◌};
     ghost use Rattle.kt_child.specs.Common.{IsLastEnd, Looks, stand_in, HostLeads, limit_after};
@@ -157,6 +165,7 @@ impl<R: Processes + Files<File = File> + Clock + AllocGlobal + Clone + Drop> Os 
         env: &EnvPlan,
         dir: &Text,
     ) -> Result<(), OsFault> {
+        self.background.advance();
         let asked = Asked {
             program,
             words,
@@ -192,6 +201,7 @@ impl<R: Processes + Files<File = File> + Clock + AllocGlobal + Clone + Drop> Os 
     }
 
     fn pause(&mut self) -> Result<(), OsFault> {
+        self.background.advance();
         let late = self.late == Some(true);
         // The late ones are heard again at once.
         if late {

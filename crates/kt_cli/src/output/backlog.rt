@@ -1,0 +1,76 @@
+use kt_base::NoMemory;
+use std::alloc::Global;
+use std::marker::Model;
+
+/// Bytes that are to be written. Contracts see those that are left, in order.
+pub struct Backlog {
+    bytes: Vec<u8>,
+    /// The index of the first byte that is left.
+    start: usize,
+}
+
+/// Written out, so that a drop is one call.
+impl Drop for Backlog {
+    fn drop(self) {
+        let Backlog { bytes: _, start: _ } = self;
+    }
+}
+
+impl Model for Backlog {
+    ghost use Rattle.std.specs.Prelude.{ℕ, List, ◌≤◌, drop, length};
+
+    ghost Value = { List ℕ };
+
+    ghost view = { λ b. drop b.start b.bytes.items };
+
+    ghost invariant = { λ b. b.start ≤ length b.bytes.items };
+}
+
+impl Backlog {
+    ghost use Rattle.std.specs.Prelude.{◌≡◌, ◌↔◌, ◌++◌, ◌≤◌, [], IsTrue, OnErr, OnOk, drop, length};
+
+    /// Creates an empty backlog, which allocates nothing.
+    pub fn new(alloc: Global) -> Backlog
+        ensures { result ≡ [] }
+    {
+        Backlog {
+            bytes: Vec::new(alloc),
+            start: 0,
+        }
+    }
+
+    /// Returns the bytes that are left.
+    pub fn as_slice(&self) -> &[u8]
+        ensures { result.now ≡ self.now }
+    {
+        &self.bytes[self.start..]
+    }
+
+    /// Checks whether no byte is left.
+    pub fn is_empty(&self) -> bool
+        ensures { IsTrue result ↔ (self.now ≡ []) }
+    {
+        self.as_slice().is_empty()
+    }
+
+    /// Appends bytes.
+    pub fn append(&mut self, more: &[u8]) -> Result<(), NoMemory>
+        ensures ok { OnOk result (self.new ≡ self.old ++ more.now) }
+        ensures err { OnErr result (self.new ≡ self.old) }
+    {
+        self.bytes.extend_from_slice(more)?;
+        Ok(())
+    }
+
+    /// Drops the first bytes, which were written.
+    pub fn advance(&mut self, count: usize)
+        requires { count ≤ length self.old }
+        ensures { self.new ≡ drop count self.old }
+    {
+        self.start += count;
+        if self.start == self.bytes.len() {
+            self.bytes.clear();
+            self.start = 0;
+        }
+    }
+}
