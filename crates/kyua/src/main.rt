@@ -6,7 +6,8 @@ mod host;
 use host::{Host, Past};
 use kt_child::HostOs;
 use kt_cli::{
-    HeldOutput, HostMachine, LineOutput, Outside, SharedOutput, StandardOutput, carry_out_words,
+    HeldOutput, HostMachine, LineOutput, Outside, Platform, SharedOutput, StandardOutput,
+    carry_out_words,
 };
 use sqlite::Unknown;
 use std::alloc::Global;
@@ -14,28 +15,33 @@ use std::cell::RefCell;
 use std::env;
 use std::process::ExitCode;
 
-/// Executes the arguments of the process on the host. `start` represents what the results file holds, in contracts alone.
-fn run<S: Past>(rt: &HostRuntime, start: S) -> ExitCode {
+/// Executes the arguments of the process on the host, and holds what standard output doesn't accept.
+fn execute<P: Platform>(rt: &HostRuntime, host: &mut P) -> ExitCode {
     let held = RefCell::new(HeldOutput::new(rt.alloc(), StandardOutput::new(rt)));
     let outside = Outside {
         alloc: rt.alloc(),
         machine: HostMachine { rt },
         os: HostOs::new(rt, SharedOutput::new(&held)),
     };
-    let mut host = Host {
-        rt,
-        start: Some(start),
-    };
     // Line by line for `test`: `carry_out_words` sets that.
     let mut out = LineOutput::new(SharedOutput::new(&held), false);
     let (status, _outside) = carry_out_words(
         outside,
-        &mut host,
+        host,
         env::args(rt),
         &mut out,
         &mut rt.stderr(),
     );
     ExitCode::from(status)
+}
+
+/// Executes the arguments of the process. `start` represents what the results file holds, in contracts alone.
+fn run<S: Past>(rt: &HostRuntime, start: S) -> ExitCode {
+    let mut host = Host {
+        rt,
+        start: Some(start),
+    };
+    execute(rt, &mut host)
 }
 
 /// In bytes. The C library lets blocks of at most twice this size count.
