@@ -1,4 +1,4 @@
--- A text with more at its end.
+-- Texts to which characters are appended.
 use Rattle.std.proofs.Common.{◌≡◌, ℕ, List, [], ◌∷◌, ◌++◌, ap, ◌∙◌, sym, encode_utf8}
 use Rattle.kt_base.proofs.Common.{chars, IsUtf8, IsScalar, chars-append, chars_past_char, chars-nil, IsUtf8-encode, append-nil}
 

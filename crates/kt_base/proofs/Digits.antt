@@ -1,4 +1,4 @@
--- The digits of a number, as they are written.
+-- The digits of a number that were written to the end of a buffer.
 use Rattle.std.proofs.Common.{◌≡◌, ℕ, false, List, length, drop, ap, arith}
 use Rattle.kt_base.proofs.Common.{decimal, digits, digits_onto}
 use Rattle.std.proofs.Math.ListN.{drop_of_length-le}

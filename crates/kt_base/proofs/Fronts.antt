@@ -1,10 +1,10 @@
--- Bytes read as a text: the characters that they begin with, and a byte where none begins.
+-- Lossy decoding: the characters at the beginning of bytes, and a byte where no character begins.
 use Rattle.std.proofs.Common.{◌≡◌, ℕ, zero, suc, ◌+◌, ◌-◌, ◌<◌, ◌≤◌, Bool, true, false, List, [], ◌∷◌, ◌++◌, length, take, drop, get_or, Some, None, Option, refl, ap, ◌∙◌, sym, subst, append_assoc, length-append, take-append-drop, drop-cons, add-one, arith, nat_le, ◌==◌, encode_utf8, encode_utf8_all}
 use Rattle.kt_base.proofs.Common.{IsScalar, IsUtf8, IsValidUpTo, is_utf8, chars, append-nil, length-take-le, le-leb, leb-true, eqb-true, false_from_ne_true, and_parts, IsUtf8-from_is_utf8, is_utf8-from_IsUtf8, IsUtf8-encode, IsUtf8-append, chars-encodes, chars_from_encodes, encode_same, len_utf8_bounds, length-encode, front, first, character, further, lossy_after, lossy}
 use Rattle.std.proofs.Math.Utf8.{scalars}
 use Rattle.std.proofs.Math.Seq.{drop-append_seam, take-append_seam, take-add}
 
--- a front that isn't UTF-8, or isn't there
+-- `front` is nothing if there are fewer than `n` bytes or the first `n` bytes are not UTF-8
 front_none : (n : ℕ) (bytes : List ℕ) → (n ≤ length bytes → IsUtf8 (take n bytes) → ⊥) → front bytes n ≡ None
 front_none n bytes bad = by_length (nat_le n (length bytes)) refl
   where
@@ -17,7 +17,7 @@ front_some s rest u =
     let there : nat_le (length s) (length (s ++ rest)) ≡ true = le-leb _ _ (omega (arith, length-append s rest)) in
     rw (take-append_seam s rest, there, is_utf8-from_IsUtf8 s u) refl
 
--- no shorter front of a character is UTF-8
+-- no proper prefix of a character's bytes is UTF-8, except the empty prefix
 no_less : (c n : ℕ) (rest : List ℕ) → 0 < n → n < length (encode_utf8 c) → IsUtf8 (take n (encode_utf8 c ++ rest)) → ⊥
 no_less c n rest some less u = by_text u.0 u.1.1
   where
@@ -36,7 +36,7 @@ no_less c n rest some less u = by_text u.0 u.1.1
         let z = ap length e ∙ long in
         omega (arith, z, same, less, length-append (encode_utf8 d) (encode_utf8_all ds))
 
--- the least front that is UTF-8
+-- `first` is the shortest prefix of 1 to 4 bytes that is UTF-8
 least : (k : ℕ) (bytes s : List ℕ) → front bytes k ≡ Some s → ((n : ℕ) → 0 < n → n < k → front bytes n ≡ None) → 0 < k → k ≤ 4 → first bytes ≡ Some s
 unfolding first
 least zero bytes s at below some few = absurd (omega (arith, some))
@@ -62,7 +62,7 @@ skips (suc n) (b ∷ bytes) = skips n bytes
 one_less : (n : ℕ) → suc n - 1 ≡ n
 one_less n = omega arith
 
--- bytes of which the first ones are a character
+-- bytes that begin with a character decode to that character and the text of the rest
 past_first : (s rest : List ℕ) → 0 < length s → first (s ++ rest) ≡ Some s → lossy (s ++ rest) ≡ chars s ++ lossy rest
 unfolding lossy_after
 past_first [] rest some is = absurd (omega (arith, some))
@@ -71,7 +71,7 @@ past_first (b ∷ s) rest some is =
     ∙ ap (λ (n : ℕ). chars (b ∷ s) ++ lossy_after n (s ++ rest)) (one_less (length s))
     ∙ ap (λ (xs : List ℕ). chars (b ∷ s) ++ xs) (skips (length s) (s ++ rest) ∙ ap lossy (drop-append_seam s rest))
 
--- a text, and what follows it
+-- bytes that begin with a UTF-8 text decode to that text and the text of the rest
 past_text : (cs rest : List ℕ) → scalars cs ≡ true → lossy (encode_utf8_all cs ++ rest) ≡ cs ++ lossy rest
 past_text [] rest s = refl
 past_text (c ∷ cs) rest s =
@@ -83,13 +83,13 @@ past_text (c ∷ cs) rest s =
     ap lossy (append_assoc (encode_utf8 c) (encode_utf8_all cs) rest) ∙ past_first (encode_utf8 c) more (omega (arith, bounds.0, width)) (first_character c more each.0)
     ∙ (λ i. one i ++ past_text cs rest each.1 i)
 
--- a byte where no character begins
+-- a byte where no character begins decodes to U+FFFD
 past_byte : (b : ℕ) (bytes : List ℕ) → ((n : ℕ) → 0 < n → n ≤ length (b ∷ bytes) → IsUtf8 (take n (b ∷ bytes)) → ⊥) → lossy (b ∷ bytes) ≡ 65533 ∷ lossy bytes
 unfolding lossy_after first
 past_byte b bytes bad =
     rw (front_none 1 (b ∷ bytes) (bad 1 (omega arith)), front_none 2 (b ∷ bytes) (bad 2 (omega arith)), front_none 3 (b ∷ bytes) (bad 3 (omega arith)), front_none 4 (b ∷ bytes) (bad 4 (omega arith))) refl
 
--- a text, and the byte that ends it
+-- bytes that are valid up to byte `n` decode to that text, U+FFFD, and the text after byte `n`
 pub past_fault : (bytes : List ℕ) (n : ℕ) → IsValidUpTo bytes n → lossy bytes ≡ chars (take n bytes) ++ 65533 ∷ lossy (drop (suc n) bytes)
 past_fault bytes n valid =
     let u = valid.front in
@@ -101,7 +101,7 @@ past_fault bytes n valid =
     ap lossy (sym (take-append-drop n bytes)) ∙ (λ i. lossy (sym u.1.1 i ++ after i)) ∙ past_text u.0 _ u.1.0
     ∙ (λ i. chars_from_encodes u.0 (take n bytes) u u.1.1 i ++ past_byte b (drop (suc n) bytes) none i)
 
--- one step, over a text alone or over a byte too
+-- one step of the decoder, over valid bytes or up to an invalid byte, keeps the whole text
 pub all_text : (old new bytes : List ℕ) → IsUtf8 bytes → new ≡ old ++ chars bytes → new ++ lossy [] ≡ old ++ lossy bytes
 unfolding lossy_after
 all_text old new bytes u pushed =
@@ -113,7 +113,7 @@ pub one_fault : (old middle new bytes : List ℕ) (n : ℕ) → IsValidUpTo byte
 one_fault old middle new bytes n valid first last =
     rw (last, first, add-one n, append_assoc, append_assoc) (ap (λ (xs : List ℕ). old ++ xs) (sym (past_fault bytes n valid)))
 
--- no bytes are left
+-- the decoded text is complete if no bytes remain
 pub ends : (text rest all : List ℕ) → text ++ lossy rest ≡ all → true ≡ (length rest == 0) → text ≡ all
 unfolding lossy_after
 ends text [] all so_far none = sym (append-nil text) ∙ so_far

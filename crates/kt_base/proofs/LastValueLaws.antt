@@ -1,14 +1,14 @@
--- The laws of names with their last values.
+-- Theorems on the last values of names.
 use Rattle.std.proofs.Common.{◌≡◌, ℕ, Bool, true, false, not, List, [], ◌∷◌, ◌++◌, refl, sym, ap, ◌∙◌, subst, Option, Some, None, if◌then◌else◌, unwrap_or, IsSome, append-nil}
 use Rattle.kt_base.proofs.Common.{option_or, bytes_eq, Variable, is_named, value_of, without, last_values, IsReplaced}
 use Rattle.std.proofs.lemmas.List.Elements.{filter-append}
 use Rattle.kt_base.proofs.Names.{same, same-flip, or-none, or-some, unwrap-or, value_of-append, without-same, without-other, without-twice, last_values-without}
 
--- what a pair that stands first is in the last values
+-- `first_of pair pairs`: `pair` with the last value of its name in `pair ∷ pairs`
 abbrev pub first_of : Variable → List Variable → Variable
 first_of pair pairs = record { name = pair.name; value = unwrap_or (value_of pair.name pairs) pair.value }
 
--- a name's value
+-- a name has the same value in the last values as in the pairs
 value_next : (name : List ℕ) (x : Variable) (xs : List Variable) → value_of name (last_values xs) ≡ value_of name xs
     → (b : Bool) → is_named name x ≡ b → value_of name (last_values (x ∷ xs)) ≡ value_of name (x ∷ xs)
 value_next name x xs h true e =
@@ -21,7 +21,7 @@ pub value_is : (name : List ℕ) (xs : List Variable) → value_of name (last_va
 value_is name [] = refl
 value_is name (x ∷ xs) = value_next name x xs (value_is name xs) (is_named name x) refl
 
--- one list laid over another
+-- joining two lists gives the same last values as joining the last values of each list
 pub overlaid : (under over : List Variable) → last_values (last_values under ++ last_values over) ≡ last_values (under ++ over)
 overlaid [] [] = refl
 overlaid [] (y ∷ ys) =
@@ -44,19 +44,19 @@ overlaid (x ∷ xs) over =
     ∙ ap (without x.name) (overlaid xs over) in
     rw (head, tail) refl
 
--- last values are their own last values
+-- `last_values` is idempotent
 pub twice : (xs : List Variable) → last_values (last_values xs) ≡ last_values xs
 twice xs = overlaid [] xs
 
--- a further pair does not change the value of another name
+-- an appended pair does not change the value of another name
 pub value_of-further : (name : List ℕ) (xs : List Variable) (pair : Variable) → bytes_eq name pair.name ≡ false → value_of name (xs ++ pair ∷ []) ≡ value_of name xs
 value_of-further name xs pair other = value_of-append name xs (pair ∷ []) ∙ rw other refl
 
--- it does not show where its name is taken out
+-- an appended pair is removed if the pairs of its name are removed
 pub without-further : (name : List ℕ) (xs : List Variable) (pair : Variable) → bytes_eq name pair.name ≡ true → without name (xs ++ pair ∷ []) ≡ without name xs
 without-further name xs pair e = filter-append (λ p. not (is_named name p)) xs (pair ∷ []) ∙ rw e (append-nil (without name xs))
 
--- a first pair of another name stays as it is
+-- an appended pair does not change the last value of a first pair with another name
 pub first-further : (x pair : Variable) (xs : List Variable) → bytes_eq x.name pair.name ≡ false → first_of x (xs ++ pair ∷ []) ≡ first_of x xs
 first-further x pair xs other = rw (value_of-further x.name xs pair other) refl
 

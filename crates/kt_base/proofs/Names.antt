@@ -1,4 +1,4 @@
--- Pairs by their names.
+-- Lists of pairs, searched and filtered by name.
 use Rattle.std.proofs.Common.{◌≡◌, ℕ, Bool, true, false, List, [], ◌∷◌, ◌++◌, refl, sym, ap, ◌∙◌, subst, Option, Some, None, if◌then◌else◌, unwrap_or}
 use Rattle.kt_base.proofs.Common.{option_or, bytes_eq, bytes_eq-Decides, Variable, is_named, value_of, without, last_values}
 
@@ -33,14 +33,14 @@ pub unwrap-or : (a b : Option (List ℕ)) (value : List ℕ) → unwrap_or (opti
 unwrap-or None b value = refl
 unwrap-or (Some v) b value = refl
 
--- the value in two lists
+-- the value of a name in two joined lists is its value in the second, or else in the first
 pub value_of-append : (name : List ℕ) (xs ys : List Variable) → value_of name (xs ++ ys) ≡ option_or (value_of name ys) (value_of name xs)
 value_of-append name [] ys = sym (or-none (value_of name ys))
 value_of-append name (x ∷ xs) ys =
     ap (λ (o : Option (List ℕ)). option_or o (if is_named name x then Some x.value else None)) (value_of-append name xs ys)
     ∙ sym (or-or (value_of name ys) (value_of name xs) (if is_named name x then Some x.value else None))
 
--- the value of the name that was taken out, and of another
+-- a name has no value after its pairs were removed
 without-same-next : (name : List ℕ) (x : Variable) (xs : List Variable) → value_of name (without name xs) ≡ None → (b : Bool) → is_named name x ≡ b → value_of name (without name (x ∷ xs)) ≡ None
 without-same-next name x xs h true e = rw e h
 without-same-next name x xs h false e = rw (e, h, e) refl
@@ -49,7 +49,7 @@ pub without-same : (name : List ℕ) (xs : List Variable) → value_of name (wit
 without-same name [] = refl
 without-same name (x ∷ xs) = without-same-next name x xs (without-same name xs) (is_named name x) refl
 
--- another name keeps its value
+-- a name keeps its value if the pairs of another name are removed
 without-other-next : (m n : List ℕ) (x : Variable) (xs : List Variable) → bytes_eq m n ≡ false → value_of m (without n xs) ≡ value_of m xs
     → (b : Bool) → is_named n x ≡ b → value_of m (without n (x ∷ xs)) ≡ value_of m (x ∷ xs)
 without-other-next m n x xs other h true e =
@@ -61,7 +61,7 @@ pub without-other : (m n : List ℕ) (xs : List Variable) → bytes_eq m n ≡ f
 without-other m n [] other = refl
 without-other m n (x ∷ xs) other = without-other-next m n x xs other (without-other m n xs other) (is_named n x) refl
 
--- taken out twice, or one name and then another
+-- removing a name twice changes nothing, and two names can be removed in either order
 without-twice-next : (name : List ℕ) (x : Variable) (xs : List Variable) → without name (without name xs) ≡ without name xs
     → (b : Bool) → is_named name x ≡ b → without name (without name (x ∷ xs)) ≡ without name (x ∷ xs)
 without-twice-next name x xs h true e = rw e h

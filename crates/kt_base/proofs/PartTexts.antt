@@ -1,4 +1,4 @@
--- The parts of a reason's text, joined.
+-- The concatenated parts of a reason's text.
 use Rattle.std.proofs.Common.{◌≡◌, ◌≢◌, ℕ, Bool, true, List, [], ◌++◌, refl, sym, ◌∙◌, append_assoc, codes, append-nil}
 use Rattle.kt_base.proofs.Common.{decimal, chars, chars-nil, encodes-append, Phrase, OtherExitCode, OtherSignal, TestsFailed, MemoryNeeded, DiskNeeded, phrase_text, utf8}
 use Rattle.kt_base.specs.declared.child.Outcome.{Outcome}
@@ -15,11 +15,11 @@ one_number_text head lead first tail = rw chars-nil refl
 pub two_numbers_text : (head first between second tail : List ℕ) → head ++ (chars [] ++ (first ++ (between ++ (second ++ tail)))) ≡ head ++ (first ++ (between ++ (second ++ tail)))
 two_numbers_text head first between second tail = rw chars-nil refl
 
--- a phrase alone
+-- the text of a phrase without outcome and numbers
 pub phrase_alone : (text head : List ℕ) (phrase : Phrase) → text ≡ chars head → head ≡ phrase_text phrase → text ≡ phrase_text phrase
 phrase_alone text head phrase e h = rw (e, h) (chars-phrase phrase)
 
--- a phrase with an ending
+-- the text of a phrase with an outcome
 pub exited_text : (text head : List ℕ) (phrase : Phrase) (ending : Outcome) (code : ℕ) → text ≡ chars head ++ (chars (codes "exited with code ") ++ (decimal code ++ chars []))
     → head ≡ phrase_text phrase → ending ≡ Exited code → text ≡ phrase_text phrase ++ ending_text ending
 unfolding chars
@@ -40,7 +40,7 @@ unended_text text head phrase (Exited code) e h n m = absurd (n code refl)
 unended_text text head phrase (Signaled signal core) e h n m = absurd (m signal core refl)
 unended_text text head phrase ending e h n m = phrase_alone text head phrase e h ∙ sym (append-nil (phrase_text phrase))
 
--- a phrase with its numbers
+-- the text of a phrase with its numbers
 pub exit_codes_text : (text : List ℕ) (phrase : Phrase) (m n : ℕ) → text ≡ chars (codes "Expected exit code ") ++ (decimal m ++ (chars (codes " but got ") ++ (decimal n ++ chars []))) → phrase ≡ OtherExitCode → text ≡ counted_text phrase m n
 unfolding chars
 exit_codes_text text phrase m n e is = rw (e, is) (simp (append_assoc, append-nil))
@@ -75,11 +75,11 @@ pub count_text : (text head : List ℕ) (phrase : Phrase) (m n : ℕ) → text �
 unfolding chars
 count_text text head phrase m n is h a b c d e = rw (is, h, chars-phrase phrase, append-nil (decimal m)) (sym (plain_count phrase m n a b c d e))
 
--- the bytes of the parts
+-- the bytes of the whole text are the bytes of its parts, as they are written
 pub parts_bytes : (a l f b s t : List ℕ) → utf8 (a ++ (l ++ (f ++ (b ++ (s ++ t))))) ≡ utf8 a ++ (utf8 (l ++ f) ++ (utf8 (b ++ s) ++ utf8 t))
 parts_bytes a l f b s t = simp (encodes-append, append_assoc)
 
--- appended one after the other
+-- a text with each part appended in turn is the text followed by all parts
 pub appended : (start a l f b s t after1 after2 after3 after4 after5 after6 : List ℕ) → after1 ≡ start ++ a → after2 ≡ after1 ++ l → after3 ≡ after2 ++ f
     → after4 ≡ after3 ++ b → after5 ≡ after4 ++ s → after6 ≡ after5 ++ t → after6 ≡ start ++ (a ++ (l ++ (f ++ (b ++ (s ++ t)))))
 appended start a l f b s t after1 after2 after3 after4 after5 after6 e1 e2 e3 e4 e5 e6 = rw (e6, e5, e4, e3, e2, e1) (simp append_assoc)

@@ -1,4 +1,4 @@
--- The words of phrases are ASCII: their bytes are their characters.
+-- The messages of phrases are ASCII: their bytes are their characters.
 use Rattle.std.proofs.Common.{◌≡◌, refl}
 use Rattle.kt_base.proofs.Common.{chars, Phrase, CaseNotWaitedFor, BodyTimedOut, CaseTimedOut, PrematureExit, ResultsUnreadable, ResultTooLong, ResultEmpty, ResultNoNewline, ResultSeveralLines, ResultUnknownWord, ResultBadNumber, ResultUnexpectedReason, ResultNoReason, PassedButNoSuccess, SkippedButNoSuccess, ExpectedFailureButNoSuccess, FailedButNoFailure, OtherExitCode, NoCleanExit, OtherSignal, NoSignal, NoTimeout, ReceivedSignal, NonSuccess, BailedOut, TapUnreadable, TapTooLong, TapNoPlan, TapSecondPlan, TapPlanDiffers, TestsFailed, Dubious, CleanupTimedOut, CleanupFailed, CleanupNotStarted, NoDirectory, NoOutput, NotSpawned, NoMemoryToStart, ListTimedOut, ListNotWaitedFor, NoList, ListUnreadable, ListTooLong, ListBadHeader, ListBadLine, ListNoIdent, ListRepeatedKey, ListRepeatedIdent, ListUnknownKey, ListBadValue, ListEmpty, ListNotUtf8, RootNeeded, UnprivilegedNeeded, MemoryNeeded, DiskNeeded, phrase_text}
 

@@ -1,13 +1,13 @@
--- What a writer holds goes on.
+-- The contents of a writer over several writes.
 use Rattle.std.proofs.Common.{Option, Some, None, Result, Ok, Err, is_err, arith, ◌≡◌, ◌<◌, ℕ, Bool, true, false, List, [], ◌∷◌, ◌++◌, length, take, drop, refl, ap, ◌∙◌, sym, subst, append_assoc, take-append-drop}
 use Rattle.kt_base.proofs.Common.{append-nil, length-drop, encodes-append, Appends, Keeps, Holds, Shows, utf8}
 use Rattle.std.specs.Result.{IsErrAnd}
 
--- the bytes of a text, and of another behind it
+-- the bytes of two joined texts are the joined bytes of each
 pub utf8-append : (xs ys : List ℕ) → utf8 (xs ++ ys) ≡ utf8 xs ++ utf8 ys
 utf8-append xs ys = encodes-append xs ys
 
--- the bytes of three, four and five texts
+-- the bytes of three, four or five joined texts are the joined bytes of each
 pub utf8_three : (a b c : List ℕ) → utf8 (a ++ b ++ c) ≡ utf8 a ++ utf8 b ++ utf8 c
 utf8_three a b c = utf8-append (a ++ b) c ∙ ap (λ (z : List ℕ). z ++ utf8 c) (utf8-append a b)
 
@@ -37,27 +37,27 @@ both : (a b d : Option (List ℕ)) (failed : Bool) (xs ys : List ℕ) → Holds 
 both a b d false xs ys p q = appends_both a b d xs ys p q
 both a b d true xs ys p q = (xs ++ q.0, q.1, q.2, ap (λ (z : List ℕ). xs ++ z) q.3 ∙ sym (append_assoc xs q.0 (q.2 ∷ q.1)), appends_both a b d xs q.0 p q.4)
 
--- a text, and then another
+-- writing a text and then another text writes the joined text
 pub shows_both : {a b d : Option (List ℕ)} {failed : Bool} {xs ys : List ℕ} → Shows a b false xs → Shows b d failed ys → Shows a d failed (xs ++ ys)
 shows_both {a} {b} {d} {failed} {xs} {ys} p q = record { holds = both a b d failed xs ys p.holds q.holds }
 
--- a writer that failed is given nothing more
+-- a text that was not written whole is a proper prefix of a longer text, too
 pub shows_more : {a b : Option (List ℕ)} {xs : List ℕ} (ys : List ℕ) → Shows a b true xs → Shows a b true (xs ++ ys)
 shows_more {a} {b} {xs} ys p = let h = p.holds in record { holds = (h.0, h.1 ++ ys, h.2, ap (λ (z : List ℕ). z ++ ys) h.3 ∙ append_assoc h.0 (h.2 ∷ h.1) ys, h.4) }
 
--- no text
+-- writing an empty text changes nothing
 pub shows_none : {a : Option (List ℕ)} → Shows a a false []
 shows_none {a} = record { holds = appends_none a }
 
--- nothing of a text that has a byte
+-- a failed write can leave a text of at least one byte unwritten
 pub shows_nothing : {a : Option (List ℕ)} (x : ℕ) (xs : List ℕ) → Shows a a true (x ∷ xs)
 shows_nothing {a} x xs = record { holds = ([], xs, x, refl, appends_none a) }
 
--- the same text
+-- `Shows` of a text holds of an equal text
 pub shows_as : {a b : Option (List ℕ)} {failed : Bool} {xs ys : List ℕ} → xs ≡ ys → Shows a b failed xs → Shows a b failed ys
 shows_as {a} {b} {failed} e p = subst (λ (zs : List ℕ). Shows a b failed zs) e p
 
--- by the answer of a call
+-- `Shows` holds for an equal flag
 pub shows_of : {a b : Option (List ℕ)} {failed failed' : Bool} {xs : List ℕ} → failed ≡ failed' → Shows a b failed xs → Shows a b failed' xs
 shows_of {a} {b} {xs = xs} e p = subst (λ (f : Bool). Shows a b f xs) e p
 
@@ -65,11 +65,11 @@ cut_at : (k : ℕ) (xs rest : List ℕ) → drop k xs ≡ rest → k < length xs
 cut_at k xs [] e few = absurd (let d = length-drop k xs in let l : length (drop k xs) ≡ 0 = ap length e in omega (arith, d, l, few))
 cut_at k xs (b ∷ rest) e few = (rest, b, sym (take-append-drop k xs) ∙ ap (λ (z : List ℕ). take k xs ++ z) e)
 
--- some of the bytes but not all of them
+-- fewer bytes than the whole text are a proper prefix, as after a failed write
 pub shows_cut : (a b : Option (List ℕ)) (k : ℕ) (xs : List ℕ) → k < length xs → Appends a b (take k xs) → Shows a b true xs
 shows_cut a b k xs few p = let cut = cut_at k xs (drop k xs) refl few in record { holds = (take k xs, cut.0, cut.1, cut.2, p) }
 
--- the exit of a `?`
+-- after `?` of a failed write, `Shows` holds with the error that is returned
 pub shows_error : {T E : Type 0} (r : Result T E) (Q : E → Type 0) {a b : Option (List ℕ)} {xs : List ℕ} → IsErrAnd r Q → Shows a b true xs → Shows a b (is_err r) xs
 shows_error (Ok x) Q h p = absurd h
 shows_error (Err y) Q h p = p

@@ -1,4 +1,4 @@
--- Texts by their bytes and by their characters.
+-- Texts as bytes and as characters.
 use Rattle.std.proofs.Common.{◌≡◌, ℕ, suc, ◌+◌, ◌≤◌, false, List, [], ◌∷◌, ◌++◌, take, drop, Some, None, refl, ap, sym, subst, ◌∙◌, take-append-drop, arith, encode_utf8, encode_utf8_all, ◌==◌, length, bytes_eq}
 use Rattle.kt_base.proofs.Common.{chars, IsScalar, len_utf8, IsUtf8, NonePass, eq-eqb, encodes-chars, chars-nil, chars-append, chars_from_encodes, chars_past_char, IsUtf8-append, IsUtf8-drop, IsUtf8-encode, IsUtf8-take, IsCharBoundary-from_drop, bytes_eq-Decides, same_from_decides, Decides-like, nat_tests, is_empty, before, after}
 use Rattle.std.specs.Str.Pattern.{FindsChar}
@@ -13,7 +13,7 @@ pub bytes_eq-chars : (a b : List ℕ) → IsUtf8 a → IsUtf8 b → bytes_eq a b
 bytes_eq-chars a b u v =
     same_from_decides (bytes_eq a b) (bytes_eq (chars a) (chars b)) (Decides-like (bytes_eq a b) (λ e. ap chars e) (λ e. from_chars a b u v e) (bytes_eq-Decides a b)) (bytes_eq-Decides (chars a) (chars b))
 
--- a key by its characters
+-- equality with a string's bytes is equality with its characters
 pub key-chars : {Z : Type 0} (q : List ℕ) → IsUtf8 q → (k : String Z) → bytes_eq q (string_bytes k) ≡ bytes_eq (chars q) (chars (string_bytes k))
 key-chars q u k = bytes_eq-chars q (string_bytes k) u (IsUtf8-string_bytes k)
 
@@ -24,12 +24,12 @@ some_bytes : (b : ℕ) (bs cs : List ℕ) → encode_utf8_all cs ≡ b ∷ bs �
 some_bytes b bs [] e = absurd (cc)
 some_bytes b bs (c ∷ cs) e = refl
 
--- a text is empty if it has no bytes
+-- a text has no character exactly if it has no byte
 pub is_empty-chars : (bs : List ℕ) → IsUtf8 bs → is_empty (chars bs) ≡ (length bs == 0)
 is_empty-chars [] u = ap is_empty chars-nil
 is_empty-chars (b ∷ bs) u = some_bytes b bs (chars (b ∷ bs)) (encodes-chars (b ∷ bs) u) ∙ not_zero (length bs)
 
--- a text in which a character doesn't stand, and what a first one cuts off
+-- `before` and `after` of a text without `sign`, and of a text with a first `sign`
 uncut : (sign : ℕ) (cs : List ℕ) → NonePass (λ d. d == sign) cs → (before sign cs ≡ cs) × (after sign cs ≡ None)
 uncut sign [] none = (refl, refl)
 uncut sign (c ∷ cs) none = let e = uncut sign cs none.1 in rw (none.0, e.0, e.1) (refl, refl)
@@ -38,7 +38,7 @@ cut : (sign : ℕ) (cs rest : List ℕ) → NonePass (λ d. d == sign) cs → (b
 cut sign [] rest none = rw (eq-eqb sign sign refl) (refl, refl)
 cut sign (c ∷ cs) rest none = let e = cut sign cs rest none.1 in rw (none.0, e.0, e.1) (refl, refl)
 
--- what `split_once` finds
+-- the two parts that `split_once` returns are `before` and `after`
 pub not_found : (sign : ℕ) (s : List ℕ) → IsUtf8 s → FindsChar sign s None → (chars s ≡ before sign (chars s)) × (None ≡ after sign (chars s))
 not_found sign s u f =
     let whole = chars_from_encodes f.0 s u f.1 in

@@ -1,3 +1,3 @@
--- What the crate's own functions do: cited by private functions alone.
+-- Definitions that only private functions cite.
 pub mod Pairs
 pub mod Parts

@@ -1,29 +1,29 @@
--- Names with their last values.
+-- Lists of names with their last values.
 use Rattle.std.specs.Prelude.{◌≡◌, ℕ, Bool, not, List, [], ◌∷◌, ◌++◌, Option, Some, None, unwrap_or, if◌then◌else◌}
 use Rattle.std.specs.List.{filter}
 use Rattle.std.specs.Option.{option_or}
 use Rattle.std.specs.Str.{bytes_eq}
 use Rattle.kt_base.specs.declared.variable.Variable.{Variable}
 
--- whether a pair has this name
+-- `is_named name pair`: `pair` has the name `name`.
 abbrev pub is_named : List ℕ → Variable → Bool
 is_named name pair = bytes_eq name pair.name
 
--- the value of the last pair with a name
+-- `value_of name pairs`: the value of the last pair of `pairs` named `name`, if there is a pair.
 abbrev pub value_of : List ℕ → List Variable → Option (List ℕ)
 value_of name [] = None
 value_of name (pair ∷ pairs) = option_or (value_of name pairs) (if is_named name pair then Some pair.value else None)
 
--- the pairs without those of a name
+-- `without name pairs`: `pairs` without the pairs named `name`.
 abbrev pub without : List ℕ → List Variable → List Variable
 without name pairs = filter (λ pair. not (is_named name pair)) pairs
 
--- each name once, in the order of first occurrence, with its last value
+-- `last_values pairs`: each name once, in the order of first occurrence, with its last value.
 abbrev pub last_values : List Variable → List Variable
 last_values [] = []
 last_values (pair ∷ pairs) = record { name = pair.name; value = unwrap_or (value_of pair.name pairs) pair.value } ∷ without pair.name (last_values pairs)
 
--- a pair stands in the place of the one with its name
+-- `IsReplaced pair old new`: `new` is `old` with `pair` in place of a pair of the same name.
 pub record IsReplaced (pair : Variable) (old new : List Variable) : Type 0 where
   pub front : List Variable
   pub back : List Variable

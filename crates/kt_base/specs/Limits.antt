@@ -1,18 +1,18 @@
--- Limits that several crates keep.
+-- Limits that several crates share.
 use Rattle.std.specs.Prelude.{ℕ}
 
--- the most children that run at once
+-- `largest_width`: the maximum number of children that run at the same time.
 abbrev pub largest_width : ℕ
 largest_width = 256
 
--- the longest time limit of a test case, in seconds
+-- `longest_timeout`: the longest time limit of a test case, in seconds.
 abbrev pub longest_timeout : ℕ
 longest_timeout = 1000000
 
--- the greatest number of a run
+-- `last_run`: the greatest number of a run.
 abbrev pub last_run : ℕ
 last_run = 1000000
 
--- the last moment that is recorded: the last millisecond of the year 9999, from 1970 on
+-- `latest_moment`: the last millisecond of the year 9999, counted from 1970 in UTC.
 abbrev pub latest_moment : ℕ
 latest_moment = 253402300799999

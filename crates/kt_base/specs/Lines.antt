@@ -1,16 +1,16 @@
 -- The lines of a text.
 use Rattle.std.specs.Prelude.{ℕ, Bool, ◌==◌, if◌then◌else◌, List, [], ◌∷◌}
 
--- a byte ends a line
+-- `is_newline b`: the byte `b` ends a line.
 abbrev pub is_newline : ℕ → Bool
 is_newline b = b == 10
 
--- a byte before the first of the lines
+-- `onto b lines`: `lines` with `b` before the first line. Without lines, `b` is the only line.
 abbrev pub onto : ℕ → List (List ℕ) → List (List ℕ)
 onto b [] = (b ∷ []) ∷ []
 onto b (line ∷ lines) = (b ∷ line) ∷ lines
 
--- the lines of a text; a last one without newline counts
+-- `lines text`: the lines of `text`, without newlines. A last line without newline counts.
 abbrev pub lines : List ℕ → List (List ℕ)
 lines [] = []
 lines (b ∷ text) = if is_newline b then [] ∷ lines text else onto b (lines text)

@@ -1,32 +1,33 @@
--- Bytes read as a text, whatever they are.
+-- Lossy decoding of bytes as UTF-8.
 use Rattle.std.specs.Prelude.{ℕ, zero, suc, ◌-◌, ◌&&◌, nat_le, if◌then◌else◌, List, [], ◌∷◌, ◌++◌, length, take, Option, Some, None}
 use Rattle.std.specs.Option.{option_or}
 use Rattle.std.specs.Str.{chars, is_utf8}
 
--- the first n bytes, if they are there and are UTF-8
+-- `front bytes n`: the first `n` bytes, if there are `n` bytes and they are UTF-8.
 abbrev pub front : List ℕ → ℕ → Option (List ℕ)
 front bytes n = if nat_le n (length bytes) && is_utf8 (take n bytes) then Some (take n bytes) else None
 
--- the bytes of the character that begins here: the least front that is UTF-8
+-- `first bytes`: the bytes of the first character: the shortest prefix that is UTF-8.
 unfoldable pub first : List ℕ → Option (List ℕ)
 first bytes = option_or (front bytes 1) (option_or (front bytes 2) (option_or (front bytes 3) (front bytes 4)))
 
--- the character; where none begins, U+FFFD
+-- `character found`: the character with the bytes `found`, or U+FFFD if there is none.
 abbrev pub character : Option (List ℕ) → List ℕ
 character None = 65533 ∷ []
 character (Some bytes) = chars bytes
 
--- how many bytes it has after its first
+-- `further found`: the number of bytes of the character `found` after its first byte.
 abbrev pub further : Option (List ℕ) → ℕ
 further None = 0
 further (Some bytes) = length bytes - 1
 
--- the characters of bytes, of which the first n belong to the character before
+-- `lossy_after n bytes`: the text of `bytes` after the first `n`, which an earlier character uses.
 unfoldable pub lossy_after : ℕ → List ℕ → List ℕ
 lossy_after n [] = []
 lossy_after zero (b ∷ bytes) = character (first (b ∷ bytes)) ++ lossy_after (further (first (b ∷ bytes))) bytes
 lossy_after (suc n) (b ∷ bytes) = lossy_after n bytes
 
--- from the left, each well-formed character is kept, and a byte where none begins is U+FFFD
+-- `lossy bytes`: from the left, each well-formed character, and U+FFFD for each byte where no
+-- character begins.
 abbrev pub lossy : List ℕ → List ℕ
 lossy bytes = lossy_after 0 bytes

@@ -1,7 +1,7 @@
--- The bytes by which a text is written.
+-- The bytes of a text.
 use Rattle.std.specs.Prelude.{ℕ, List}
 use Rattle.std.specs.Str.{encode_utf8_all}
 
--- the UTF-8 of a text's characters
+-- `utf8 text`: the UTF-8 encoding of the characters `text`.
 abbrev pub utf8 : List ℕ → List ℕ
 utf8 text = encode_utf8_all text

@@ -1,29 +1,29 @@
--- Verdicts as callers see them: a kind, and the text of the reason.
+-- Verdicts in contracts: a kind and the text of the reason.
 use Rattle.std.specs.Prelude.{ℕ, List, []}
 use Rattle.kt_base.specs.declared.verdict.Kind.{Kind}
 use Rattle.kt_base.specs.declared.verdict.Kind.TheVariants.{Passed, Skipped, ExpectedFailure, Failed, Broken}
 
--- a kind with the text of its reason
+-- `Judged`: the kind of a verdict with the text of its reason.
 pub record Judged : Type 0 where
   pub kind : Kind
   pub reason : List ℕ
 
--- passed, which has no reason
+-- `passed`: the verdict on a case that passed, without a reason.
 abbrev pub passed : Judged
 passed = record { kind = Passed; reason = [] }
 
--- skipped, for this reason
+-- `skipped reason`: the verdict on a case that was skipped for `reason`.
 abbrev pub skipped : List ℕ → Judged
 skipped reason = record { kind = Skipped; reason = reason }
 
--- failed as expected, for this reason
+-- `expected_failure reason`: the verdict on a case that failed as announced, for `reason`.
 abbrev pub expected_failure : List ℕ → Judged
 expected_failure reason = record { kind = ExpectedFailure; reason = reason }
 
--- failed, for this reason
+-- `failed reason`: the verdict on a case that failed for `reason`.
 abbrev pub failed : List ℕ → Judged
 failed reason = record { kind = Failed; reason = reason }
 
--- broken, for this reason
+-- `broken reason`: the verdict on a case that could not be run or judged, for `reason`.
 abbrev pub broken : List ℕ → Judged
 broken reason = record { kind = Broken; reason = reason }

@@ -4,13 +4,15 @@ use crate::NoMemory;
 use std::alloc::Global;
 use std::marker::Model;
 
-/// Bytes. Contracts see their list.
+/// A byte string whose failed allocations are reported as `NoMemory`.
+///
+/// In contracts, a `Bytes` is the list of its bytes.
 #[derive(Debug)]
 pub struct Bytes {
     bytes: Vec<u8>,
 }
 
-/// Written out, so that a drop is one call.
+/// Not derived, so that the prover handles a drop as one call.
 impl Drop for Bytes {
     fn drop(self) {
         let Bytes { bytes: _ } = self;
@@ -24,7 +26,7 @@ impl Model for Bytes {
 }
 
 impl Bytes {
-    /// No bytes, which take no memory.
+    /// Creates an empty byte string. Allocates nothing.
     pub fn new(alloc: Global) -> Bytes
         ensures { result ≡ [] }
     {
@@ -33,7 +35,11 @@ impl Bytes {
         }
     }
 
-    /// The bytes of a slice.
+    /// Creates a byte string that contains a copy of `bytes`.
+    ///
+    /// # Errors
+    ///
+    /// - `NoMemory`: the allocation fails.
     pub fn from_slice(alloc: Global, bytes: &[u8]) -> Result<Bytes, NoMemory>
         ensures { IfOk result (λ b. b ≡ bytes.now) }
     {
@@ -42,14 +48,14 @@ impl Bytes {
         })
     }
 
-    /// The bytes of a vector, which is kept as it is.
+    /// Converts the vector `bytes` to a byte string without copying it.
     pub fn from_vec(bytes: Vec<u8>) -> Bytes
         ensures { result ≡ bytes.items }
     {
         Bytes { bytes }
     }
 
-    /// The vector, which is given back as it is.
+    /// Converts the byte string to a vector without copying it.
     pub fn into_vec(self) -> Vec<u8>
         ensures { result.items ≡ self }
     {
@@ -57,28 +63,32 @@ impl Bytes {
         bytes
     }
 
-    /// The bytes as a slice.
+    /// Returns the bytes as a slice.
     pub fn as_slice(&self) -> &[u8]
         ensures { result.now ≡ self.now }
     {
         self.bytes.as_slice()
     }
 
-    /// How many bytes there are.
+    /// Returns the number of bytes.
     pub fn len(&self) -> usize
         ensures { result ≡ length self.now }
     {
         self.bytes.len()
     }
 
-    /// Whether there is no byte.
+    /// Returns `true` if the byte string is empty.
     pub fn is_empty(&self) -> bool
         ensures { IsTrue result ↔ (self.now ≡ []) }
     {
         self.bytes.is_empty()
     }
 
-    /// Equal bytes with memory of their own.
+    /// Copies the bytes into a new allocation.
+    ///
+    /// # Errors
+    ///
+    /// - `NoMemory`: the allocation fails.
     pub fn copy(&self) -> Result<Bytes, NoMemory>
         ensures { IfOk result (λ b. b ≡ self.now) }
     {
@@ -87,7 +97,11 @@ impl Bytes {
         })
     }
 
-    /// Appends bytes.
+    /// Appends the bytes `more`.
+    ///
+    /// # Errors
+    ///
+    /// - `NoMemory`: the allocation fails. The byte string is unchanged.
     pub fn append(&mut self, more: &[u8]) -> Result<(), NoMemory>
         ensures ok { OnOk result (self.new ≡ self.old ++ more.now) }
         ensures err { OnErr result (self.new ≡ self.old) }

@@ -1,43 +1,48 @@
 use crate::{Phrase, Reason};
 
-/// How a test program speaks: atf-test-program(1), the Test Anything Protocol, or by its exit status alone.
+/// An interface by which a test program reports its results, see kyuafile(5).
 #[derive(Clone, Copy)]
 pub enum Interface {
+    /// ATF: result files and lists of cases, see atf-test-program(1).
     Atf,
+    /// The Test Anything Protocol (TAP), on standard output.
     Tap,
+    /// The exit status alone.
     Plain,
 }
 
-/// What a start asks of a test case: its body, or the cleanup that an ATF case may declare.
+/// A part of a test case that a child process runs.
 #[derive(Clone, Copy, PartialEq, Eq, Hash)]
 pub enum Role {
+    /// The body.
     Body,
+    /// The cleanup, which an ATF case can declare, see atf-test-case(4).
     Cleanup,
 }
 
-/// How a child process ended.
+/// The outcome of a child process.
 #[derive(Clone, Copy, Debug)]
 pub enum Outcome {
-    /// By itself, with this exit status.
+    /// The process exited by itself, with this exit status.
     Exited(u8),
-    /// By this signal, and whether it left a core dump.
+    /// This signal killed the process. The flag is `true` if the process left a core dump.
     Signaled(u8, bool),
-    /// It was killed at its limit of time.
+    /// The runner killed the process at its time limit.
     TimedOut,
-    /// The system could not say how it ended.
+    /// The system failed to report the outcome.
     WaitFailed,
 }
 
-/// Why a child process could not be started.
+/// A cause for which a child process was not started.
 #[derive(Clone, Copy, Debug)]
 pub enum Refused {
-    /// Its work directory could not be made.
+    /// The work directory could not be created.
     Directory,
-    /// The files for its output could not be made.
+    /// The files for the output could not be created.
     Output,
-    /// The system did not start the program.
+    /// The system failed to start the program.
     Spawn,
-    /// Memory ran out.
+    /// An allocation failed.
     Memory,
 }
 
@@ -45,7 +50,7 @@ impl Refused {
     ghost use Rattle.std.specs.Prelude.{◌≡◌};
     ghost use Rattle.kt_base.specs.Common.{refused_reason};
 
-    /// Why a case is broken whose program could not be started.
+    /// Returns the reason of a broken case whose child process was not started.
     pub fn reason(self) -> Reason
         ensures { result ≡ refused_reason self }
     {

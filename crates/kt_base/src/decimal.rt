@@ -3,11 +3,15 @@ ghost use Rattle.kt_base.specs.Common.{decimal, digits_onto, utf8};
 
 use std::marker::Model;
 
-/// The decimal digits of a number, in a buffer of their own on the stack: reasons and reports print numbers where no memory
-/// may be taken. Contracts see the digits' bytes.
+/// The decimal digits of a number, in a buffer on the stack.
+///
+/// Reasons and reports print numbers with a `Decimal`, because they must not allocate. In
+/// contracts, a `Decimal` is the list of the digits' bytes.
 #[derive(Drop)]
 pub struct Decimal {
+    /// The buffer, in bytes. The digits are at its end.
     room: [u8; 64],
+    /// The index of the first digit in the buffer, at most 64.
     start: usize,
 }
 
@@ -22,7 +26,7 @@ impl Model for Decimal {
 }
 
 impl Decimal {
-    /// The digits of a number.
+    /// Creates the decimal digits of `n`, without leading zeros. Allocates nothing.
     pub fn new(n: u64) -> Decimal
         ensures value { result ≡ decimal n }
         ensures ascii { utf8 (decimal n) ≡ decimal n }
@@ -30,7 +34,7 @@ impl Decimal {
         Decimal::wide(u128::from(n))
     }
 
-    /// The digits of a number of up to 128 bits.
+    /// Creates the decimal digits of a 128-bit number, without leading zeros. Allocates nothing.
     pub fn wide(n: u128) -> Decimal
         ensures value { result ≡ decimal n }
         ensures ascii { utf8 (decimal n) ≡ decimal n }
@@ -40,7 +44,7 @@ impl Decimal {
         Decimal { room, start }
     }
 
-    /// The digits as bytes, the first one first.
+    /// Returns the digits as ASCII bytes, the most significant digit first.
     pub fn as_bytes(&self) -> &[u8]
         ensures { result.now ≡ self.now }
     {
@@ -48,7 +52,9 @@ impl Decimal {
     }
 }
 
-/// Writes the decimal digits of `n` before the place `at`, the last `at` of them at most, and returns where they begin.
+/// Writes the decimal digits of `n` before index `at` and returns the index of the first digit.
+///
+/// If `n` has more than `at` digits, writes the last `at` digits.
 fn write_before(n: u128, room: &mut [u8], at: usize) -> usize
     requires { at ≤ length room.old }
     ensures begins { result ≤ length room.new }
@@ -67,7 +73,7 @@ fn write_before(n: u128, room: &mut [u8], at: usize) -> usize
     at
 }
 
-/// Writes the decimal digits of `n` at the end of the buffer, and returns where they begin.
+/// Writes the decimal digits of `n` at the buffer's end and returns the index of the first digit.
 fn write_digits(n: u128, room: &mut [u8; 64]) -> usize
     ensures begins { result ≤ 64 }
     ensures value { drop result room.new ≡ decimal n }

@@ -4,21 +4,23 @@ ghost use Rattle.kt_base.specs.Common.{Appends, Shows, joined};
 use std::io::Write;
 use thiserror::Error;
 
-/// A writer refused a write, was interrupted, or took no byte of a text that had some left. Only `emit` makes this value,
-/// after such a write; `?` hands it on.
+/// A failed write: the writer returned an error or wrote none of the remaining bytes.
+///
+/// Only `emit` creates an `OutputFault`, after such a write. Callers pass it on with `?`.
 #[derive(Clone, Copy, Debug, Error)]
 #[error("output could not be written")]
 pub struct OutputFault {
     write: FailedWrite,
 }
 
-/// A type of this module alone, so that no other can write an `OutputFault`.
+/// A private type, so that no other module can create an `OutputFault`.
 #[derive(Clone, Copy, Debug)]
 struct FailedWrite;
 
-/// Writes until all the bytes are written or a write fails. An interrupted write is a failed one, and so is one that takes
-/// no byte. Returns how many bytes were written, and whether a write failed. All output of the runner goes through this
-/// loop.
+/// Writes `bytes` to `out` until all bytes are written or a write fails.
+///
+/// Returns the number of bytes written, and `true` if a write failed. A write that is interrupted
+/// or writes no byte is a failed write. All output of the runner is written by this loop.
 pub fn send<W: Write>(bytes: &[u8], out: &mut W) -> (usize, bool)
     ensures bound { result.0 ≤ length bytes.now }
     ensures all { result.1 ≡ false → result.0 ≡ length bytes.now }
@@ -36,8 +38,12 @@ pub fn send<W: Write>(bytes: &[u8], out: &mut W) -> (usize, bool)
     (sent, false)
 }
 
-/// Writes all the bytes, or a proper prefix of them if a write failed. An interrupted write is a failed one, and so is one
-/// that takes no byte.
+/// Writes all of `bytes` to `out`.
+///
+/// # Errors
+///
+/// - `OutputFault`: a write failed, was interrupted or wrote no byte. A proper prefix of `bytes`
+///   was written.
 pub fn emit<W: Write>(bytes: &[u8], out: &mut W) -> Result<(), OutputFault>
     ensures { Shows (W.contents out.old) (W.contents out.new) (is_err result) bytes.now }
 {
@@ -48,7 +54,12 @@ pub fn emit<W: Write>(bytes: &[u8], out: &mut W) -> Result<(), OutputFault>
     Ok(())
 }
 
-/// Writes parts one after the other, or a proper prefix of them all if a write failed.
+/// Writes `parts` to `out`, one after the other.
+///
+/// # Errors
+///
+/// - `OutputFault`: a write failed, was interrupted or wrote no byte. A proper prefix of the joined
+///   `parts` was written.
 pub fn emit_all<W: Write>(parts: &[&[u8]], out: &mut W) -> Result<(), OutputFault>
     ensures { Shows (W.contents out.old) (W.contents out.new) (is_err result)
         (joined (map (λ part. part.now) parts.now)) }

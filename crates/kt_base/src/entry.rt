@@ -1,34 +1,42 @@
 use crate::{Bytes, Items, Text, Variables, Verdict};
 
-/// The latest moment that is recorded, in milliseconds since 1970 in UTC: the last one of the year 9999. The earliest is 0.
+/// The latest timestamp that can be recorded, in milliseconds since 1970 in UTC: the last
+/// millisecond of the year 9999. The earliest timestamp is 0.
 pub const LATEST_MOMENT: u64 = 253_402_300_799_999;
 
-/// What is kept of the two output streams of a child process.
+/// The recorded output of a child process.
 #[derive(Drop)]
 pub struct Output {
+    /// The recorded bytes of standard output, at most 1,048,576.
     pub out: Bytes,
+    /// The recorded bytes of standard error, at most 1,048,576.
     pub err: Bytes,
 }
 
-/// What is recorded of one test case of a run.
+/// The recorded result of one test case of a run.
 pub struct Entry {
-    /// The place of the case among the selected ones, counted from 0.
+    /// The position of the case among the selected cases, counted from 0.
     pub position: u32,
     /// The path of the test program, relative to the directory of the root Kyuafile.
     pub program: Text,
+    /// The name of the test case in its program.
     pub case_name: Text,
+    /// The verdict: its kind and its reason.
     pub verdict: Verdict,
-    /// When the body was started, in milliseconds since 1970 in UTC; 0 where it was not.
+    /// The start time of the body, in milliseconds since 1970 in UTC, or 0 if the body was not
+    /// started.
     pub started: u64,
-    /// How long the case took, in milliseconds.
+    /// The time from the start of the body to the end of the case, in milliseconds.
     pub millis: u64,
+    /// The output of the body.
     pub body: Output,
+    /// The output of the cleanup. Empty if no cleanup was started.
     pub cleanup: Output,
-    /// What the case declared, as names with values.
+    /// The properties of the case: their names and values.
     pub meta: Variables,
 }
 
-/// Written out, so that a drop is one call.
+/// Not derived, so that the prover handles a drop as one call.
 impl Drop for Entry {
     fn drop(self) {
         let Entry {
@@ -48,13 +56,14 @@ impl Drop for Entry {
 /// A run of `kyua test`, with the entries recorded so far.
 #[derive(Drop)]
 pub struct Run {
-    /// Counted from 1.
+    /// The number of the run, counted from 1.
     pub number: u64,
-    /// In milliseconds since 1970 in UTC.
+    /// The start time of the run, in milliseconds since 1970 in UTC.
     pub started: u64,
-    /// How many cases were selected.
+    /// The number of selected cases.
     pub total: u32,
+    /// `true` if the run is finished: each selected case has an entry.
     pub finished: bool,
-    /// By position.
+    /// The recorded entries, ordered by position.
     pub entries: Items<Entry>,
 }

@@ -4,13 +4,15 @@ use crate::NoMemory;
 use std::alloc::Global;
 use std::marker::Model;
 
-/// A list. Contracts see its elements in order.
+/// A vector whose failed allocations are reported as `NoMemory`.
+///
+/// In contracts, an `Items` is the list of its elements.
 #[derive(Debug)]
 pub struct Items<T> {
     items: Vec<T>,
 }
 
-/// Written out, so that a drop is one call.
+/// Not derived, so that the prover handles a drop as one call.
 impl<T: Drop> Drop for Items<T> {
     fn drop(self) {
         let Items { items: _ } = self;
@@ -24,7 +26,7 @@ impl<T> Model for Items<T> {
 }
 
 impl<T> Items<T> {
-    /// The empty list, which takes no memory.
+    /// Creates an empty list. Allocates nothing.
     pub fn new(alloc: Global) -> Items<T>
         ensures { result ≡ [] }
     {
@@ -33,14 +35,14 @@ impl<T> Items<T> {
         }
     }
 
-    /// The elements of a vector, which is kept as it is.
+    /// Converts the vector `items` to a list without copying it.
     pub fn from_vec(items: Vec<T>) -> Items<T>
         ensures { result ≡ items.items }
     {
         Items { items }
     }
 
-    /// The vector, which is given back as it is.
+    /// Converts the list to a vector without copying it.
     pub fn into_vec(self) -> Vec<T>
         ensures { result.items ≡ self }
     {
@@ -48,21 +50,21 @@ impl<T> Items<T> {
         items
     }
 
-    /// The elements as a slice.
+    /// Returns the elements as a slice.
     pub fn as_slice(&self) -> &[T]
         ensures { result.now ≡ self.now }
     {
         self.items.as_slice()
     }
 
-    /// How many elements there are.
+    /// Returns the number of elements.
     pub fn len(&self) -> usize
         ensures { result ≡ length self.now }
     {
         self.items.len()
     }
 
-    /// Whether there is no element.
+    /// Returns `true` if the list contains no element.
     pub fn is_empty(&self) -> bool
         ensures { IsTrue result ↔ (self.now ≡ []) }
     {
@@ -71,7 +73,11 @@ impl<T> Items<T> {
 }
 
 impl<T: Drop> Items<T> {
-    /// Appends an element, which is dropped where memory was refused.
+    /// Appends the element `x`.
+    ///
+    /// # Errors
+    ///
+    /// - `NoMemory`: the allocation fails. The list is unchanged, and `x` is dropped.
     pub fn push(&mut self, x: T) -> Result<(), NoMemory>
         ensures ok { OnOk result (self.new ≡ self.old ++ x ∷ []) }
         ensures err { OnErr result (self.new ≡ self.old) }

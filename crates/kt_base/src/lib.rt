@@ -1,4 +1,4 @@
-//! The values that every crate of the runner shares, and the texts of their reasons.
+//! Shared values of the test runner: texts, bytes, numbers, verdicts, entries and their output.
 #![tactic(auto)]
 
 mod bytes;

@@ -4,7 +4,7 @@ ghost use Rattle.kt_base.specs.Common.{chars, IsUtf8, lossy};
 use crate::{NoMemory, Text};
 use std::alloc::Global;
 
-/// Appends bytes that are UTF-8.
+/// Appends `bytes` to `text` if they are valid UTF-8. Appends nothing otherwise.
 fn push_utf8(text: &mut Text, bytes: &[u8]) -> Result<(), NoMemory>
     ensures { OnOk result (IsUtf8 bytes.now → text.new ≡ text.old ++ chars bytes.now) }
 {
@@ -14,7 +14,10 @@ fn push_utf8(text: &mut Text, bytes: &[u8]) -> Result<(), NoMemory>
     }
 }
 
-/// Appends the characters up to the first byte where none begins, and U+FFFD for that byte. Returns what follows it.
+/// Appends the characters before the first invalid byte, then U+FFFD for the invalid byte.
+///
+/// Returns the bytes after the invalid byte. If `bytes` is valid UTF-8, appends all characters and
+/// returns an empty slice.
 fn push_front<'a>(text: &mut Text, bytes: &'a [u8]) -> Result<&'a [u8], NoMemory>
     ensures text { IfOk result (λ rest. text.new ++ lossy rest.now ≡ text.old ++ lossy bytes.now) }
     ensures shorter { 0 < length bytes.now → IfOk result (λ rest. length rest.now < length bytes.now) }
@@ -33,7 +36,13 @@ fn push_front<'a>(text: &mut Text, bytes: &'a [u8]) -> Result<&'a [u8], NoMemory
     }
 }
 
-/// The bytes as a text. From the left, each well-formed character is kept, and a byte where none begins becomes U+FFFD.
+/// Decodes `bytes` as UTF-8, with U+FFFD for each byte where no well-formed character begins.
+///
+/// Decoding goes from left to right and copies each well-formed character.
+///
+/// # Errors
+///
+/// - `NoMemory`: an allocation fails.
 pub fn lossy(alloc: Global, bytes: &[u8]) -> Result<Text, NoMemory>
     ensures { IfOk result (λ text. text ≡ lossy bytes.now) }
 {

@@ -3,19 +3,20 @@ use std::io;
 use std::io::ErrorKind;
 use thiserror::Error;
 
-/// The words of a fault's line if memory ran out (this profile).
+/// The message for a failed allocation (this profile).
 pub const OUT_OF_MEMORY: &str = "out of memory";
 
-/// Memory ran out. Only a refusal of the allocator makes this value (`From`), or an error of the
-/// system that says so (`in_error`); `?` hands it on. Other modules neither name such a refusal nor
-/// make such an error. The call that returns it changed nothing that was lent to it.
+/// A failed allocation in this program or in the system.
+///
+/// Only this module creates a `NoMemory`: from an allocator's error (`From`), or from a system
+/// error of kind `OutOfMemory` (`in_error`). Callers pass it on with `?`.
 #[derive(Clone, Copy, Debug, Error)]
 #[error("{OUT_OF_MEMORY}")]
 pub struct NoMemory {
     refusal: Refusal,
 }
 
-/// A type of this module alone, so that no other can write a `NoMemory`.
+/// A private type, so that no other module can create a `NoMemory`.
 #[derive(Clone, Copy, Debug)]
 struct Refusal;
 
@@ -23,7 +24,7 @@ impl NoMemory {
     ghost use Rattle.std.specs.Prelude.{◌≡◌, is_some, true};
     ghost use Rattle.kt_base.specs.Common.{error_kind};
 
-    /// What an error of the system says of memory: nothing if it has another cause.
+    /// Returns `NoMemory` if `error` has the kind `OutOfMemory`, or `None` if it has another kind.
     pub fn in_error(error: &io::Error) -> Option<NoMemory>
         ensures told { error_kind error.now ≡ ErrorKind.OutOfMemory → is_some result ≡ true }
         ensures only { is_some result ≡ true → error_kind error.now ≡ ErrorKind.OutOfMemory }

@@ -4,7 +4,12 @@ ghost use Rattle.kt_base.specs.Common.{decimal, Shows, utf8};
 use crate::{Decimal, OutputFault, emit};
 use std::io::Write;
 
-/// Writes a number of up to 128 bits in decimal, or a proper prefix of its digits if a write failed. It takes no memory.
+/// Writes the 128-bit number `n` to `out` in decimal. Allocates nothing.
+///
+/// # Errors
+///
+/// - `OutputFault`: a write failed, was interrupted or wrote no byte. A proper prefix of the digits
+///   was written.
 pub fn emit_wide_number<W: Write>(n: u128, out: &mut W) -> Result<(), OutputFault>
     ensures shown { Shows (W.contents out.old) (W.contents out.new) (is_err result) (decimal n) }
     ensures ascii { utf8 (decimal n) ≡ decimal n }
@@ -13,7 +18,12 @@ pub fn emit_wide_number<W: Write>(n: u128, out: &mut W) -> Result<(), OutputFaul
     emit(digits.as_bytes(), out)
 }
 
-/// Writes a number in decimal, or a proper prefix of its digits if a write failed. It takes no memory.
+/// Writes the number `n` to `out` in decimal. Allocates nothing.
+///
+/// # Errors
+///
+/// - `OutputFault`: a write failed, was interrupted or wrote no byte. A proper prefix of the digits
+///   was written.
 pub fn emit_number<W: Write>(n: u64, out: &mut W) -> Result<(), OutputFault>
     ensures shown { Shows (W.contents out.old) (W.contents out.new) (is_err result) (decimal n) }
     ensures ascii { utf8 (decimal n) ≡ decimal n }

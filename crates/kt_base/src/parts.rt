@@ -6,7 +6,7 @@ impl Parts<'_> {
     ghost use Rattle.std.specs.Prelude.{◌≡◌, ◌++◌, OnOk, OnErr, is_err};
     ghost use Rattle.kt_base.specs.Common.{chars, parts_text, phrase_text, counted_text, ending_text, Shows, utf8};
 
-    /// Words without numbers.
+    /// Creates the parts of a text without numbers.
     pub fn words(head: &str) -> Parts<'_>
         ensures { parts_text result ≡ chars head.now }
     {
@@ -20,7 +20,9 @@ impl Parts<'_> {
         }
     }
 
-    /// A phrase, and how a process ended by itself.
+    /// Creates the parts of `phrase`, followed by an exit status or a signal.
+    ///
+    /// Another outcome adds nothing.
     pub fn ended(phrase: Phrase, ending: Outcome) -> Parts<'static>
         ensures { parts_text result ≡ phrase_text phrase ++ ending_text ending }
     {
@@ -43,7 +45,7 @@ impl Parts<'_> {
         }
     }
 
-    /// A phrase with its number or its two numbers.
+    /// Creates the parts of `phrase` with its numbers. A phrase with one number uses `m`.
     pub fn counted(phrase: Phrase, m: u64, n: u64) -> Parts<'static>
         ensures { parts_text result ≡ counted_text phrase m n }
     {
@@ -69,7 +71,7 @@ impl Parts<'_> {
         }
     }
 
-    /// Appends the parts; where memory was refused, some of them.
+    /// Appends the parts to `text`. If an allocation fails, some parts may have been appended.
     pub fn push_onto(&self, text: &mut Text) -> Result<(), NoMemory>
         ensures { OnOk result (text.new ≡ text.old ++ parts_text self.now) }
     {
@@ -81,7 +83,7 @@ impl Parts<'_> {
         text.push_str(self.tail)
     }
 
-    /// Writes the parts, or a proper prefix of them if a write failed.
+    /// Writes the parts to `out`. If a write fails, a proper prefix of the text was written.
     pub fn print<W: Write>(&self, out: &mut W) -> Result<(), OutputFault>
         ensures { Shows (W.contents out.old) (W.contents out.new) (is_err result)
             (utf8 (parts_text self.now)) }
@@ -96,6 +98,7 @@ impl Parts<'_> {
 ghost use Rattle.std.specs.Prelude.{◌≡◌, ◌++◌, Option, OnOk, OnErr, is_err};
 ghost use Rattle.kt_base.specs.Common.{chars, decimal, number_text, parts_text, core_text, Shows, utf8};
 
+/// Appends the decimal digits of `n` to `text`.
 fn push_digits(n: u64, text: &mut Text) -> Result<(), NoMemory>
     ensures { OnOk result (text.new ≡ text.old ++ decimal n) }
 {
@@ -103,6 +106,7 @@ fn push_digits(n: u64, text: &mut Text) -> Result<(), NoMemory>
     text.push_str(digits.as_str())
 }
 
+/// Appends the decimal digits of `number` to `text`. `None` appends nothing.
 fn push_number(number: Option<u64>, text: &mut Text) -> Result<(), NoMemory>
     ensures { OnOk result (text.new ≡ text.old ++ number_text number) }
 {
@@ -112,6 +116,7 @@ fn push_number(number: Option<u64>, text: &mut Text) -> Result<(), NoMemory>
     }
 }
 
+/// Writes `words` to `out`.
 fn print_words<W: Write>(words: &str, out: &mut W) -> Result<(), OutputFault>
     ensures { Shows (W.contents out.old) (W.contents out.new) (is_err result)
         (utf8 (chars words.now)) }
@@ -119,6 +124,7 @@ fn print_words<W: Write>(words: &str, out: &mut W) -> Result<(), OutputFault>
     emit(words.as_bytes(), out)
 }
 
+/// Writes `number` to `out` in decimal. `None` writes nothing.
 fn print_number<W: Write>(number: Option<u64>, out: &mut W) -> Result<(), OutputFault>
     ensures { Shows (W.contents out.old) (W.contents out.new) (is_err result)
         (utf8 (number_text number)) }
@@ -129,6 +135,7 @@ fn print_number<W: Write>(number: Option<u64>, out: &mut W) -> Result<(), Output
     }
 }
 
+/// Writes `words`, then `number` in decimal, to `out`.
 fn print_numbered<W: Write>(
     words: &str,
     number: Option<u64>,
@@ -141,12 +148,14 @@ fn print_numbered<W: Write>(
     print_number(number, out)
 }
 
+/// Returns the text that follows a signal: it mentions a core dump if `core` is `true`.
 fn core_words(core: bool) -> &'static str
     ensures { chars result.now ≡ core_text core }
 {
     if core { " (core dumped)" } else { "" }
 }
 
+/// Creates the parts of a text with one number.
 fn one_number(
     head: &'static str,
     lead: &'static str,
@@ -166,6 +175,7 @@ fn one_number(
     }
 }
 
+/// Creates the parts of a text with two numbers.
 fn two_numbers(
     head: &'static str,
     first: u64,

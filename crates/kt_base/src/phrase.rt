@@ -1,7 +1,9 @@
 ghost use Rattle.std.specs.Prelude.{◌≡◌};
 ghost use Rattle.kt_base.specs.Phrases.{phrase_text};
 
-/// The fixed words of reasons (this profile). Some are followed by an ending, others by one number or two.
+/// A fixed message in the reason of a verdict (this profile).
+///
+/// Some phrases are followed by the outcome of a process, others by one or two numbers.
 #[derive(Clone, Copy)]
 pub enum Phrase {
     // Bodies of ATF cases.
@@ -19,7 +21,7 @@ pub enum Phrase {
     ResultBadNumber,
     ResultUnexpectedReason,
     ResultNoReason,
-    // Claims that the ending does not bear out.
+    // Result files that the outcome contradicts.
     PassedButNoSuccess,
     SkippedButNoSuccess,
     ExpectedFailureButNoSuccess,
@@ -45,7 +47,7 @@ pub enum Phrase {
     CleanupTimedOut,
     CleanupFailed,
     CleanupNotStarted,
-    // Starts that were refused.
+    // Failed starts.
     NoDirectory,
     NoOutput,
     NotSpawned,
@@ -65,7 +67,7 @@ pub enum Phrase {
     ListBadValue,
     ListEmpty,
     ListNotUtf8,
-    // Requirements that are not met.
+    // Unmet requirements.
     RootNeeded,
     UnprivilegedNeeded,
     MemoryNeeded,
@@ -73,7 +75,7 @@ pub enum Phrase {
 }
 
 impl Phrase {
-    /// The words; of a phrase with an ending or a number, those before it.
+    /// Returns the message of the phrase, up to its outcome or its first number.
     pub fn text(self) -> &'static str
         ensures { result.now ≡ phrase_text self }
     {

@@ -8,13 +8,15 @@ use crate::NoMemory;
 use std::alloc::Global;
 use std::marker::Model;
 
-/// A text. Contracts see the list of its characters; `utf8` gives the bytes by which it is written.
+/// A string whose failed allocations are reported as `NoMemory`.
+///
+/// In contracts, a `Text` is the list of its characters. `utf8` returns their bytes.
 #[derive(Debug)]
 pub struct Text {
     string: String,
 }
 
-/// Written out, so that a drop is one call.
+/// Not derived, so that the prover handles a drop as one call.
 impl Drop for Text {
     fn drop(self) {
         let Text { string: _ } = self;
@@ -31,7 +33,7 @@ impl Text {
     ghost use Rattle.std.specs.Prelude.{bytes_eq};
     ghost use Rattle.kt_base.specs.Common.{is_empty, before, after};
 
-    /// The empty text, which takes no memory.
+    /// Creates an empty text. Allocates nothing.
     pub fn new(alloc: Global) -> Text
         ensures { result ≡ [] }
     {
@@ -40,7 +42,11 @@ impl Text {
         }
     }
 
-    /// The text of a slice.
+    /// Creates a text that contains a copy of `text`.
+    ///
+    /// # Errors
+    ///
+    /// - `NoMemory`: the allocation fails.
     pub fn from_str(alloc: Global, text: &str) -> Result<Text, NoMemory>
         ensures { IfOk result (λ t. t ≡ chars text.now) }
     {
@@ -49,14 +55,18 @@ impl Text {
         })
     }
 
-    /// The text of a string, which is kept as it is.
+    /// Converts `string` to a text without copying it.
     pub fn from_string(string: String) -> Text
         ensures { result ≡ chars (string_bytes string) }
     {
         Text { string }
     }
 
-    /// The text of these characters.
+    /// Creates a text that contains `characters`, in order.
+    ///
+    /// # Errors
+    ///
+    /// - `NoMemory`: the allocation fails.
     pub fn from_characters(alloc: Global, characters: &[char]) -> Result<Text, NoMemory>
         ensures { IfOk result (λ t. t ≡ characters.now) }
     {
@@ -67,7 +77,11 @@ impl Text {
         Ok(text)
     }
 
-    /// A number in decimal, without leading zeros.
+    /// Creates a text that contains `n` in decimal, without leading zeros.
+    ///
+    /// # Errors
+    ///
+    /// - `NoMemory`: the allocation fails.
     pub fn from_number(alloc: Global, n: u64) -> Result<Text, NoMemory>
         ensures { IfOk result (λ t. t ≡ decimal n) }
     {
@@ -76,7 +90,7 @@ impl Text {
         })
     }
 
-    /// The string, which is given back as it is.
+    /// Converts the text to a string without copying it.
     pub fn into_string(self) -> String
         ensures { string_bytes result ≡ utf8 self }
     {
@@ -84,7 +98,7 @@ impl Text {
         string
     }
 
-    /// The text as a slice of the standard library.
+    /// Returns the text as a string slice.
     pub fn as_str(&self) -> &str
         ensures characters { chars result.now ≡ self.now }
         ensures bytes { result.now ≡ utf8 self.now }
@@ -92,35 +106,45 @@ impl Text {
         self.string.as_str()
     }
 
-    /// The bytes of the text in UTF-8.
+    /// Returns the bytes of the text in UTF-8.
     pub fn as_bytes(&self) -> &[u8]
         ensures { result.now ≡ utf8 self.now }
     {
         self.as_str().as_bytes()
     }
 
-    /// The characters of the text.
+    /// Returns the characters of the text in a new vector.
+    ///
+    /// # Errors
+    ///
+    /// - `NoMemory`: the allocation fails.
     pub fn characters(&self) -> Result<Vec<char>, NoMemory>
         ensures { IfOk result (λ characters. characters.items ≡ self.now) }
     {
         Ok(self.as_str().chars().collect(self.allocator())?)
     }
 
-    /// Whether the text has no character.
+    /// Returns `true` if the text contains no character.
     pub fn is_empty(&self) -> bool
         ensures { result ≡ is_empty self.now }
     {
         self.as_str().is_empty()
     }
 
-    /// Whether the text is this word.
+    /// Returns `true` if the text is equal to `word`.
     pub fn is_word(&self, word: &str) -> bool
         ensures { result ≡ bytes_eq self.now (chars word.now) }
     {
         self.as_str() == word
     }
 
-    /// The text up to the first of a character, and what follows that if it is there.
+    /// Splits the text at the first `sign`. Returns copies of the text before and after `sign`.
+    ///
+    /// If the text does not contain `sign`, returns a copy of the whole text and `None`.
+    ///
+    /// # Errors
+    ///
+    /// - `NoMemory`: the allocation fails.
     pub fn split_at_first(&self, sign: char) -> Result<(Text, Option<Text>), NoMemory>
         ensures front { IfOk result (λ parts. parts.0 ≡ before sign self.now) }
         ensures rest { IfOk result (λ parts. parts.1 ≡ after sign self.now) }
@@ -134,7 +158,11 @@ impl Text {
         }
     }
 
-    /// An equal text with memory of its own.
+    /// Copies the text into a new allocation.
+    ///
+    /// # Errors
+    ///
+    /// - `NoMemory`: the allocation fails.
     pub fn copy(&self) -> Result<Text, NoMemory>
         ensures { IfOk result (λ t. t ≡ self.now) }
     {
@@ -143,7 +171,11 @@ impl Text {
         })
     }
 
-    /// Appends a character.
+    /// Appends the character `c`.
+    ///
+    /// # Errors
+    ///
+    /// - `NoMemory`: the allocation fails. The text is unchanged.
     pub fn push(&mut self, c: char) -> Result<(), NoMemory>
         ensures ok { OnOk result (self.new ≡ self.old ++ c ∷ []) }
         ensures err { OnErr result (self.new ≡ self.old) }
@@ -152,7 +184,11 @@ impl Text {
         Ok(())
     }
 
-    /// Appends a text.
+    /// Appends `more`.
+    ///
+    /// # Errors
+    ///
+    /// - `NoMemory`: the allocation fails. The text is unchanged.
     pub fn push_str(&mut self, more: &str) -> Result<(), NoMemory>
         ensures ok { OnOk result (self.new ≡ self.old ++ chars more.now) }
         ensures err { OnErr result (self.new ≡ self.old) }
@@ -161,7 +197,7 @@ impl Text {
         Ok(())
     }
 
-    /// The allocator that the text takes its memory from.
+    /// Returns the allocator of the text.
     pub(crate) fn allocator(&self) -> Global {
         *self.string.allocator()
     }

@@ -10,7 +10,11 @@ pub struct Variable {
 impl Variable {
     ghost use Rattle.std.specs.Prelude.{◌≡◌, IfOk};
 
-    /// An equal pair with memory of its own.
+    /// Copies the name and the value into new allocations.
+    ///
+    /// # Errors
+    ///
+    /// - `NoMemory`: an allocation fails.
     pub fn copy(&self) -> Result<Variable, NoMemory>
         ensures { IfOk result (λ v. v ≡ self.now) }
     {

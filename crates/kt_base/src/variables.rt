@@ -6,15 +6,17 @@ use std::alloc::Global;
 use std::marker::Model;
 use std::rc::Rc;
 
-/// Names with their values, in order. Contracts see the list of the pairs, whether or not its memory
-/// is shared.
+/// A list of names with their values. Copies of a shared list use the same memory.
+///
+/// In contracts, a `Variables` is the list of its pairs, shared or not.
 pub struct Variables {
+    /// The pairs of a list that is not shared. Empty if `shared` is present.
     own: Vec<Variable>,
-    /// The pairs, if their memory is shared.
+    /// The pairs of a shared list.
     shared: Option<Rc<Vec<Variable>>>,
 }
 
-/// Written out, so that a drop is one call.
+/// Not derived, so that the prover handles a drop as one call.
 impl Drop for Variables {
     fn drop(self) {
         let Variables { own: _, shared: _ } = self;
@@ -28,7 +30,7 @@ impl Model for Variables {
 }
 
 impl Variables {
-    /// No pairs, which take no memory.
+    /// Creates an empty list. Allocates nothing.
     pub fn new(alloc: Global) -> Variables
         ensures { result ≡ [] }
     {
@@ -38,7 +40,7 @@ impl Variables {
         }
     }
 
-    /// The pairs as a slice.
+    /// Returns the pairs as a slice.
     pub fn as_slice(&self) -> &[Variable]
         ensures { result.now ≡ self.now }
     {
@@ -48,22 +50,27 @@ impl Variables {
         }
     }
 
-    /// How many pairs there are.
+    /// Returns the number of pairs.
     pub fn len(&self) -> usize
         ensures { result ≡ length self.now }
     {
         self.as_slice().len()
     }
 
-    /// Whether there is no pair.
+    /// Returns `true` if the list contains no pair.
     pub fn is_empty(&self) -> bool
         ensures { IsTrue result ↔ (self.now ≡ []) }
     {
         self.as_slice().is_empty()
     }
 
-    /// Appends a pair, which is dropped where memory was refused. Others that shared the memory keep
-    /// their pairs.
+    /// Appends the pair `variable`. Copies that share the list's memory keep their pairs.
+    ///
+    /// The list is not shared afterwards.
+    ///
+    /// # Errors
+    ///
+    /// - `NoMemory`: an allocation fails. The list is unchanged, and `variable` is dropped.
     pub fn push(&mut self, variable: Variable) -> Result<(), NoMemory>
         ensures ok { OnOk result (self.new ≡ self.old ++ variable ∷ []) }
         ensures err { OnErr result (self.new ≡ self.old) }
@@ -76,7 +83,11 @@ impl Variables {
         Ok(())
     }
 
-    /// The same pairs, whose memory each copy shares.
+    /// Converts the list to a shared list: copies use its memory.
+    ///
+    /// # Errors
+    ///
+    /// - `NoMemory`: the allocation fails.
     pub fn into_shared(self) -> Result<Variables, NoMemory>
         ensures { IfOk result (λ v. v ≡ self) }
     {
@@ -92,7 +103,11 @@ impl Variables {
         })
     }
 
-    /// Equal pairs, with memory of their own unless it is shared.
+    /// Copies the list. A copy of a shared list uses the same memory.
+    ///
+    /// # Errors
+    ///
+    /// - `NoMemory`: an allocation fails, or the count of copies would overflow.
     pub fn copy(&self) -> Result<Variables, NoMemory>
         ensures { IfOk result (λ v. v ≡ self.now) }
     {
@@ -109,7 +124,7 @@ impl Variables {
     }
 }
 
-/// Equal pairs with memory of their own.
+/// Copies `pairs` into new allocations.
 fn copies(pairs: &Vec<Variable>) -> Result<Vec<Variable>, NoMemory>
     ensures { IfOk result (λ copy. copy.items ≡ pairs.now.items) }
 {

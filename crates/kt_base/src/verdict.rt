@@ -2,20 +2,21 @@ use crate::{NoMemory, Outcome, OutputFault, Phrase, Text};
 use std::io::Write;
 use std::marker::Model;
 
-/// Why a case has its verdict, kept without memory where its words are fixed.
+/// The reason of a verdict. Fixed messages are stored without an allocation.
 pub enum Reason {
-    /// A passed case needs none.
+    /// No reason: the case passed.
     Nothing,
+    /// A fixed message.
     Fixed(Phrase),
-    /// The words, and an ending by exit or by signal.
+    /// A fixed message, followed by an exit status or a signal.
     Ended(Phrase, Outcome),
-    /// The words with their numbers. A phrase with one number takes the first.
+    /// A fixed message with two numbers. A phrase with one number uses the first.
     Counted(Phrase, u64, u64),
-    /// The test program's own words, or a text with names in it.
+    /// A text of the test program, or a message that contains names.
     Owned(Text),
 }
 
-/// Written out, so that a drop is one call.
+/// Not derived, so that the prover handles a drop as one call.
 impl Drop for Reason {
     fn drop(self) {
         match self {
@@ -32,7 +33,7 @@ impl Reason {
     ghost use Rattle.std.specs.Prelude.{◌≡◌};
     ghost use Rattle.kt_base.specs.Common.{parts_text, reason_text};
 
-    /// The text in parts.
+    /// Returns the text of the reason in parts that can be written without an allocation.
     pub(crate) fn parts(&self) -> Parts<'_>
         ensures { parts_text result ≡ reason_text self.now }
     {
@@ -46,13 +47,18 @@ impl Reason {
     }
 }
 
-/// What became of a test case.
+/// A kind of verdict on a test case, see kyua-test(1).
 #[derive(Clone, Copy)]
 pub enum Kind {
+    /// The case succeeded.
     Passed,
+    /// The case did not apply on this host.
     Skipped,
+    /// The case failed in the way that it had announced.
     ExpectedFailure,
+    /// The case failed.
     Failed,
+    /// The case could not be run or judged.
     Broken,
 }
 
@@ -60,14 +66,14 @@ impl Kind {
     ghost use Rattle.std.specs.Prelude.{◌≡◌};
     ghost use Rattle.kt_base.specs.Common.{good, word};
 
-    /// Whether the case counts as a success.
+    /// Returns `true` if a case with this verdict counts as a success.
     pub fn good(self) -> bool
         ensures { result ≡ good self }
     {
         matches!(self, Kind::Passed | Kind::Skipped | Kind::ExpectedFailure)
     }
 
-    /// The word by which a report names the kind (this profile).
+    /// Returns the keyword of the kind in reports, such as `expected_failure` (this profile).
     pub fn word(self) -> &'static str
         ensures { result.now ≡ word self }
     {
@@ -81,7 +87,9 @@ impl Kind {
     }
 }
 
-/// What became of a case, and why. Contracts see the kind and the text of the reason.
+/// A verdict on a test case: a kind and a reason. A passed case has no reason.
+///
+/// In contracts, a `Verdict` is its kind with the text of its reason.
 #[derive(Drop)]
 pub struct Verdict {
     kind: Kind,
@@ -105,7 +113,7 @@ impl Verdict {
     ghost use Rattle.std.specs.Prelude.{◌≡◌, [], ◌++◌, OnOk, OnErr, is_err};
     ghost use Rattle.kt_base.specs.Common.{Passed, reason_text, Shows, utf8, passed, skipped, expected_failure, failed, broken};
 
-    /// The case did what it was to do. It needs no reason.
+    /// Creates the verdict on a case that passed.
     pub fn passed() -> Verdict
         ensures { result ≡ passed }
     {
@@ -115,7 +123,7 @@ impl Verdict {
         }
     }
 
-    /// The case did not apply here.
+    /// Creates the verdict on a case that was skipped for `reason`.
     pub fn skipped(reason: Reason) -> Verdict
         ensures { result ≡ skipped (reason_text reason) }
     {
@@ -125,7 +133,7 @@ impl Verdict {
         }
     }
 
-    /// The case failed as it was expected to.
+    /// Creates the verdict on a case that failed as announced, for `reason`.
     pub fn expected_failure(reason: Reason) -> Verdict
         ensures { result ≡ expected_failure (reason_text reason) }
     {
@@ -135,7 +143,7 @@ impl Verdict {
         }
     }
 
-    /// The case did not do what it was to do.
+    /// Creates the verdict on a case that failed for `reason`.
     pub fn failed(reason: Reason) -> Verdict
         ensures { result ≡ failed (reason_text reason) }
     {
@@ -145,7 +153,7 @@ impl Verdict {
         }
     }
 
-    /// The case could not be judged by what it was to do.
+    /// Creates the verdict on a case that could not be run or judged, for `reason`.
     pub fn broken(reason: Reason) -> Verdict
         ensures { result ≡ broken (reason_text reason) }
     {
@@ -155,7 +163,7 @@ impl Verdict {
         }
     }
 
-    /// The verdict of this kind and reason. A passed case has none.
+    /// Creates a verdict of `kind` with `reason`. Drops `reason` if the kind is `Passed`.
     pub fn of(kind: Kind, reason: Text) -> Verdict
         ensures { (kind ≡ Passed → reason ≡ []) → result ≡ record { kind = kind; reason = reason } }
     {
@@ -168,13 +176,18 @@ impl Verdict {
         }
     }
 
+    /// Returns the kind of the verdict.
     pub fn kind(&self) -> Kind
         ensures { result ≡ self.now.kind }
     {
         self.kind
     }
 
-    /// Appends the text of the reason. No verdict says why a case passed.
+    /// Appends the text of the reason to `out`. Appends nothing for a case that passed.
+    ///
+    /// # Errors
+    ///
+    /// - `NoMemory`: an allocation fails. `out` is unchanged.
     pub fn write_reason(&self, out: &mut Text) -> Result<(), NoMemory>
         ensures passed { self.now.kind ≡ Passed → self.now.reason ≡ [] }
         ensures ok { OnOk result (out.new ≡ out.old ++ self.now.reason) }
@@ -185,7 +198,12 @@ impl Verdict {
         out.push_str(text.as_str())
     }
 
-    /// Writes the text of the reason, or a proper prefix of it if a write failed. It takes no memory.
+    /// Writes the text of the reason to `out`. Allocates nothing.
+    ///
+    /// # Errors
+    ///
+    /// - `OutputFault`: a write failed, was interrupted or wrote no byte. A proper prefix of the
+    ///   text was written.
     pub fn print_reason<W: Write>(&self, out: &mut W) -> Result<(), OutputFault>
         ensures { Shows (W.contents out.old) (W.contents out.new) (is_err result)
             (utf8 self.now.reason) }
@@ -194,7 +212,9 @@ impl Verdict {
     }
 }
 
-/// The text of a reason, cut so that each part is written without memory.
+/// A reason's text in parts, each of which can be written without an allocation.
+///
+/// The text is the fields in their order. `None` is empty.
 #[derive(Clone, Copy)]
 pub struct Parts<'a> {
     pub head: &'a str,

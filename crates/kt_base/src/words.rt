@@ -3,7 +3,7 @@ ghost use Rattle.kt_base.specs.Common.{named, row_in};
 
 use crate::Text;
 
-/// What a table has for a word: the value of the first row that has the word.
+/// Returns the value of the first table row whose keyword is `word`, or `None`.
 pub fn named<T: Copy>(word: &Text, table: &[(&str, T)]) -> Option<T>
     ensures { result ≡ named (map row_in table.now) word.now }
 {

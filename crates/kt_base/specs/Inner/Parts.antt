@@ -1,14 +1,14 @@
--- The text of a reason in parts, as it is written without memory.
+-- The text of a reason in parts that are written without an allocation.
 use Rattle.std.specs.Prelude.{ℕ, List, [], ◌++◌, Option, Some, None}
 use Rattle.std.specs.Str.{chars}
 use Rattle.std.specs.Fmt.{decimal}
 use Rattle.kt_base.specs.declared.verdict.Parts.{Parts}
 
--- a number in decimal, if there is one
+-- `number_text number`: `number` in decimal, or nothing without a number.
 abbrev pub number_text : Option ℕ → List ℕ
 number_text None = []
 number_text (Some n) = decimal n
 
--- the parts, one after the other
+-- `parts_text p`: the concatenation of the parts of `p`.
 abbrev pub parts_text : Parts → List ℕ
 parts_text p = chars p.head.now ++ (chars p.lead.now ++ (number_text p.first ++ (chars p.between.now ++ (number_text p.second ++ chars p.tail.now))))
