@@ -1,4 +1,4 @@
--- From the characters' tokens to the text.
+-- From the result for the tokens to the result for the text.
 use Rattle.std.proofs.Common.{◌≡◌, ℕ, ◌≤◌, List, length, Result, Ok, Err, sym, subst, inr, IfOk, IsUtf8}
 use Rattle.kt_script.proofs.Common.{ScriptFault, NoMemory, Stmt, Token, Script, IfFault, IsFaultOf, tokens, limit, Spells, IsDue, Answers}
 use Rattle.kt_script.proofs.Sound.{one_script}

@@ -1,4 +1,4 @@
--- The code's steps go through each script, to its statements.
+-- The parser accepts each script and returns its statements.
 use Rattle.std.proofs.Common.{arith, ◌≡◌, ℕ, true, false, List, [], ◌∷◌, ◌++◌, Option, Some, None, refl, ap, sym, ◌∙◌, append_assoc, option_map, option_and_then}
 use Rattle.kt_script.proofs.Common.{append-nil, Token, Kind, Name, Quoted, OpenParen, CloseParen, OpenBrace, CloseBrace, Equals, Semicolon, Place, Start, Whole, Within, Pair, Stmt, Literal, Action, Call, Assign, Table, Named, Pairs, Paired, Path, Step, To, Ends, token_of, pair, Key, by_name, by_text, Separator, comma, semicolon, no_pairs, last_pair, pair_and, Parts, no_parts, named_part, quoted_part, Statement, call, call_table, call_text, bare_table, assign, kinds, placed, Script, no_stmts, stmt_and, ended_and, value_of, closed, with_pair, step, next, landed, option_to_list, run, IsResting}
 use Rattle.kt_script.specs.declared.syntax.Literal.TheVariants as literal
@@ -6,7 +6,7 @@ use Rattle.kt_script.specs.declared.syntax.Arg.TheVariants as arg
 use Rattle.kt_script.specs.Grammar as grammar
 use Rattle.std.proofs.lemmas.Option.{same_Some}
 
--- where the rest of a statement leads
+-- `walk s ks`: the step after the tokens `ks` of a statement, from the step `s`
 abbrev pub walk : Step → List Kind → Option Step
 walk s [] = Some s
 walk (To q) (k ∷ ks) = option_and_then (λ s. walk s ks) (step q k)
@@ -50,7 +50,7 @@ parts_walk words parts no_parts path v = rw value_of-token_of (ap (λ (all : Lis
 parts_walk words parts (named_part {words = w} {parts = ps} n more) path v = parts_walk w ps more (path ++ n ∷ []) v ∙ ap (λ (all : List (List ℕ)). Some (Ends (Assign all v))) (append_assoc path (n ∷ []) ps)
 parts_walk words parts (quoted_part {words = w} {parts = ps} t more) path v = parts_walk w ps more (path ++ t ∷ []) v ∙ ap (λ (all : List (List ℕ)). Some (Ends (Assign all v))) (append_assoc path (t ∷ []) ps)
 
--- a path's first name leads where a path does
+-- the tokens after a path's first name have the same result from a name and from a path
 first_part_walks : (words : List Kind) (parts : List (List ℕ)) → Parts words parts → (n : List ℕ) (v : Literal)
     → walk (To (Named n)) (words ++ Equals ∷ token_of v ∷ []) ≡ walk (To (Path (n ∷ []))) (words ++ Equals ∷ token_of v ∷ [])
 first_part_walks words parts no_parts n v = refl
@@ -58,7 +58,7 @@ first_part_walks words parts are n v = refl
 
 -- ---- statements
 
--- a statement is a name, and words that lead from it to the end
+-- `Walks words a`: `words` are a name and tokens that complete the statement with the action `a`
 pub record Walks (words : List Kind) (a : Action) : Type 0 where
   pub name : List ℕ
   pub rest : List Kind
@@ -99,11 +99,11 @@ joined_none : (o : Option (Place × List Stmt)) → option_map (joined []) o ≡
 joined_none None = refl
 joined_none (Some end) = refl
 
--- where a step leads, and the statements that it ends
+-- `reached line s`: the position after the step `s`, and the statements that it completes
 abbrev pub reached : ℕ → Step → Place × List Stmt
 reached line s = ((landed line s).0, option_to_list (landed line s).1)
 
--- the rest of a statement, as tokens
+-- `run` over the tokens of a statement's rest reaches the step of `walk`
 steps_run : (ts : List Token) (line : ℕ) (s r : Step) → walk s (kinds ts) ≡ Some r
     → option_map (joined (option_to_list (landed line s).1)) (run (landed line s).0 ts) ≡ Some (reached line r)
 steps_run [] line (To q) r e = ap (λ (s : Step). Some (reached line s)) (same_Some (To q) r e)
@@ -131,7 +131,7 @@ name_from_resting Start t n r e = rw e refl
 name_from_resting Whole t n r e = rw e refl
 name_from_resting (Within line q) t n r e = elim r [ ]
 
--- a statement's name, and tokens after it
+-- `run` over a statement's name and the tokens after it reaches the step of `walk`
 pub named_runs : (t : Token) (ts : List Token) (p : Place) (n : List ℕ) (s : Step) → IsResting p → t.kind ≡ Name n
     → walk (To (Named n)) (kinds ts) ≡ Some s
     → run p (t ∷ ts) ≡ Some (reached t.line s)
@@ -145,7 +145,7 @@ phrase_runs (t ∷ ts) p a r st =
     let others : kinds ts ≡ w.rest = cc in
     named_runs t ts p w.name (Ends a) r (cc) (ap (walk (To (Named w.name))) others ∙ w.ends)
 
--- some resting place is where a script leads
+-- `Rests p ts stmts`: the script `ts` leads from `p` to a position between statements, with `stmts`
 pub record Rests (p : Place) (ts : List Token) (stmts : List Stmt) : Type 0 where
   pub place : Place
   pub rests : IsResting place

@@ -1,10 +1,10 @@
--- Where a text may be cut: after a piece, the rest is UTF-8 again.
+-- Character boundaries: the rest of a text after a piece is UTF-8.
 use Rattle.std.proofs.Common.{◌≡◌, ℕ, zero, suc, ◌+◌, ◌<◌, ◌≤◌, Bool, true, false, List, ◌∷◌, length, drop, get_or, refl, ap, sym, subst, ◌∙◌, arith, inl, inr, IsUtf8}
 use Rattle.kt_script.proofs.Common.{nat_tests, IsCharBoundary, prefix_len, cases_lt, prefix_len-le-length, prefix_len_passes, prefix_len_stops, IsCharBoundary-start, IsCharBoundary-end, IsCharBoundary-before_ascii, IsCharBoundary-after_ascii, is_space, is_word, is_digit}
 
 -- ---- runs of bytes
 
--- after bytes that are all ASCII
+-- there is a character boundary after bytes that are all ASCII
 ascii_cut : (bs : List ℕ) (n : ℕ) → IsUtf8 bs → n ≤ length bs → ((k : ℕ) → k < n → get_or bs k 0 < 128) → IsCharBoundary bs n
 ascii_cut bs zero u le small = IsCharBoundary-start bs u
 ascii_cut bs (suc n) u le small =
@@ -12,11 +12,11 @@ ascii_cut bs (suc n) u le small =
     let e : n + 1 ≡ suc n = omega arith in
     subst (IsCharBoundary bs) e last
 
--- after bytes of an ASCII class
+-- there is a character boundary after a run of bytes of an ASCII class
 pub passing_cut : (p : ℕ → Bool) → ((c : ℕ) → p c ≡ true → c < 128) → (bs : List ℕ) → IsUtf8 bs → IsCharBoundary bs (prefix_len p bs)
 passing_cut p small bs u = ascii_cut bs (prefix_len p bs) u (prefix_len-le-length p bs) (λ k lt. small (get_or bs k 0) (prefix_len_passes p bs k 0 lt))
 
--- before the first byte of an ASCII class, or at the end
+-- there is a character boundary before the first byte of an ASCII class, or at the end
 pub stopping_cut : (p : ℕ → Bool) → ((c : ℕ) → p c ≡ false → c < 128) → (bs : List ℕ) → IsCharBoundary bs (prefix_len p bs)
 stopping_cut p small bs =
     elim (cases_lt (prefix_len p bs) (length bs)) [

@@ -1,4 +1,4 @@
--- What a parser has read after one token more.
+-- The tokens that a parser has read after another token.
 use Rattle.std.proofs.Common.{◌≡◌, ℕ, List, [], ◌∷◌, ◌++◌, Option, Some, None, refl, ap, sym, ◌∙◌}
 use Rattle.kt_script.proofs.Common.{Token, Place, Parser, Stmt, after_bracket, open_lines, next, option_to_list, place_of, ended_by, HasRead}
 use Rattle.kt_script.proofs.Sound.{run-push}

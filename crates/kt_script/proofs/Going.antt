@@ -1,11 +1,12 @@
--- What is read of a text, and what is left of it.
+-- The tokens that were read, and the rest of the text.
 use Rattle.std.proofs.Common.{◌≡◌, ℕ, ◌+◌, ◌<◌, ◌≤◌, List, [], ◌∷◌, ◌++◌, length, take, drop, Option, Some, None, Result, Ok, Err, refl, ap, sym, ◌∙◌, subst, append_assoc, arith, length-take, length-drop, IfOk, IfErr}
 use Rattle.kt_script.proofs.Common.{append-nil, ScriptFault, NoMemory, Token, Kind, Piece, Place, Start, Whole, Within, Parser, State, Stmt, Script, run, IsResting, IfFault, IsFaultOf, last, open_lines, end_fault, HasRead, IsMisfit, piece_at, tokens, tokens_in, line_past}
 use Rattle.kt_script.specs.Inner.Automaton.{IsWithin}
 use Rattle.kt_script.proofs.Sound.{accepted, misfit, unfinished}
 use Rattle.kt_script.proofs.PieceTokens.{tokens-piece, tokens-end}
 
--- the parser has read the tokens before this place
+-- `GoesOn place parser line rest text`: `parser` has read the tokens of `text` before `rest` and is
+-- at `place`
 pub record GoesOn (place : Place) (parser : Parser) (line : ℕ) (rest text : List ℕ) : Type 0 where
   pub read : List Token
   pub has_read : HasRead place parser read
@@ -44,7 +45,7 @@ misfit_at place parser line rest text piece (Some kind) f same h is some fits m 
     let fault = misfit h.read token later place parser.statements h.has_read.runs m.1 in
     rw (← parts, m.0) fault
 
--- a token that has no place
+-- a token that the grammar does not allow gives the fault of the text
 pub stops : (T U : Type 0) (f : ScriptFault) (place : Place) (parser : Parser) (line : ℕ) (rest text : List ℕ) (piece : Piece) → GoesOn place parser line rest text
     → piece ≡ piece_at rest → 0 < piece.length → piece.length ≤ length rest
     → IfFault {T = T} (Err f) (λ f. IsMisfit place line piece.kind f) → IfFault {T = U} (Err f) (λ f. IsFaultOf (tokens 1 0 text) f)

@@ -1,4 +1,4 @@
--- Each text has one answer: its statements or its fault.
+-- Each text has exactly one result: its statements or its fault.
 use Rattle.std.proofs.Common.{◌≡◌, ℕ, ◌≤◌, List, [], ◌∷◌, ◌++◌, length, Option, Some, None, Result, Ok, Err, refl, ap, sym, ◌∙◌, subst, append_assoc, arith, inl, inr, IfOk, IsUtf8}
 use Rattle.kt_script.proofs.Common.{is_utf8, tokens, cases_lt, cases_Bool, false≢true, append-nil, IsUtf8-from_is_utf8, is_utf8-from_IsUtf8, ScriptFault, NoMemory, NotUtf8, TooLong, Token, Place, Start, Whole, Within, Stmt, Script, IfFault, IsFaultOf, fault_of, next, option_to_list, run, limit, Spells, IsDue, Refuses, IsAnswer}
 use Rattle.kt_script.proofs.Sound.{accepted, misfit, unfinished, one_script, run-push}
@@ -6,7 +6,7 @@ use Rattle.kt_script.proofs.OneFault.{one_fault}
 use Rattle.kt_script.proofs.OneReading.{same_tokens}
 use Rattle.kt_script.proofs.SomeReading.{some_reading}
 
--- ---- one at the most
+-- ---- at most one result
 
 pub two_due : (text : List ℕ) (f g : ScriptFault) → IsDue text f → IsDue text g → f ≡ g
 two_due text f g (inl x) (inl y) = x.1 ∙ sym y.1
@@ -33,7 +33,7 @@ one_answer text (Ok x) (Err g) p q = absurd (not_both text x g p q)
 one_answer text (Err f) (Ok y) p q = absurd (not_both text y f q p)
 one_answer text (Err f) (Err g) p q = ap Err (two_due text f g p q)
 
--- what a text spells
+-- `spelled d r`: the statements of the result `r`, or `d` for a fault
 abbrev spelled : List Stmt → Result (List Stmt) ScriptFault → List Stmt
 spelled d (Ok stmts) = stmts
 spelled d (Err fault) = d
@@ -41,9 +41,9 @@ spelled d (Err fault) = d
 pub two_spelled : (text : List ℕ) (a b : List Stmt) → Spells text a → Spells text b → a ≡ b
 two_spelled text a b s t = ap (spelled a) (one_answer text (Ok a) (Ok b) s t)
 
--- ---- one at the least
+-- ---- at least one result
 
--- what tokens give: the statements of a script, or their fault
+-- `TokensGive ts r`: the result `r` is the statements of the tokens `ts`, or their fault
 pub TokensGive : List Token → Result (List Stmt) ScriptFault → Type 0
 TokensGive ts (Ok stmts) = Script ts stmts
 TokensGive ts (Err fault) = IsFaultOf ts fault
@@ -85,7 +85,7 @@ some_answer text =
       ]
     ]
 
--- ---- what is refused
+-- ---- rejected texts
 
 pub refuses : (r : Result (List Stmt) ScriptFault) (text : List ℕ) → IfOk r (λ stmts. Spells text stmts) → IfFault r (λ f. IsDue text f) → (fault : ScriptFault) → IsDue text fault → Refuses r fault
 refuses (Ok stmts) text ok is fault due = not_both text stmts fault ok due

@@ -1,12 +1,12 @@
--- Tokens that are no script have one fault.
+-- Tokens that are not a script have exactly one fault.
 use Rattle.std.proofs.Common.{◌≡◌, ℕ, List, [], ◌∷◌, ◌++◌, Option, Some, refl, ap, sym, ◌∙◌, subst, append_assoc, ◌⊎◌, inl, inr, option_map}
 use Rattle.kt_script.proofs.Common.{append-nil, ScriptFault, Token, Kind, Place, Start, Within, Stmt, Action, State, Named, Step, To, Ends, Statement, kinds, first_line, placed, Script, Begins, fault_of, last, open_lines, end_fault, Misfit, Unfinished, IsFaultOf, step, run, IsResting}
 use Rattle.kt_script.proofs.Complete.{walk, bind_some, joined, run-append, named_runs, statement_walks, script_runs}
 use Rattle.kt_script.proofs.Standing.{Script-append, one_stmt, begins_from, kinds-append}
 
--- ---- a token without a place
+-- ---- a token that the grammar does not allow
 
--- of two places in one list, one is before the other, unless they are the same
+-- two positions in a list are equal, or one is before the other
 splits : (xs ys : List Token) (s t : Token) (xr yr : List Token) → xs ++ s ∷ xr ≡ ys ++ t ∷ yr
     → ((xs ≡ ys) × (s ≡ t)) ⊎ (((m : List Token) × (ys ≡ xs ++ s ∷ m)) ⊎ ((m : List Token) × (xs ≡ ys ++ t ∷ m)))
 splits [] [] s t xr yr e = inl (refl, cc)
@@ -26,7 +26,7 @@ begins_less front t m b =
     let e : (front ++ t ∷ m) ++ b.0 ≡ (front ++ t ∷ []) ++ (m ++ b.0) = simp append_assoc in
     (m ++ b.0, b.1, subst (λ (xs : List Token). Script xs b.1) e b.2)
 
--- a script that begins so does not come to the token
+-- no script begins with the tokens up to and including the misfit
 no_further : (ts : List Token) (f : ScriptFault) (m : Misfit ts f) (more : List Token) → Begins (m.front ++ m.token ∷ more) → ⊥
 no_further ts f m more b = m.unfit (begins_less m.front m.token more b)
 
@@ -46,7 +46,7 @@ misfit_unfinished ts f g m u = no_further ts f m m.rest (subst Begins m.parts (b
 stepped : (q : State) (k : Kind) (ks : List Kind) (s to : Step) → step q k ≡ Some s → walk s ks ≡ Some to → walk (To q) (k ∷ ks) ≡ Some to
 stepped q k ks s to is rest = rw is rest
 
--- what leads further led to a state
+-- tokens that can be followed by another token lead to a state within the statement
 walk_front : (xs : List Kind) (k : Kind) (ys : List Kind) (s r : Step) → walk s (xs ++ k ∷ ys) ≡ Some r → (q : State) × (walk s xs ≡ Some (To q))
 walk_front [] k ys (To q) r e = (q, refl)
 walk_front (x ∷ xs) k ys (To q) r e =
@@ -56,13 +56,13 @@ walk_front (x ∷ xs) k ys (To q) r e =
 walk_front [] k ys (Ends a) r e = absurd cc
 walk_front (x ∷ xs) k ys (Ends a) r e = absurd cc
 
--- where tokens that end within a statement lead
+-- `Leads ts line`: the tokens `ts` lead to a state within the statement on `line`
 pub record Leads (ts : List Token) (line : ℕ) : Type 0 where
   pub state : State
   pub done : List Stmt
   pub runs : run Start ts ≡ Some (Within line state, done)
 
--- the beginning of a statement leads to a place within it
+-- the first tokens of a statement lead to a position within it
 phrase_leads : (t : Token) (b : List Token) (m : Token) (ms : List Token) (p : Place) (a : Action) → IsResting p → Statement (kinds ((t ∷ b) ++ m ∷ ms)) a
     → (r : State) × (run p (t ∷ b) ≡ Some (Within t.line r, []))
 phrase_leads t b m ms p a rests st =

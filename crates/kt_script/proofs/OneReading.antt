@@ -1,11 +1,12 @@
--- A text has no other tokens than those that are read.
+-- The tokens of a text by the rules are the tokens that the lexer returns.
 use Rattle.std.proofs.Common.{◌≡◌, ℕ, suc, ◌+◌, ◌-◌, ◌<◌, Bool, true, false, cond, List, [], ◌∷◌, ◌++◌, length, drop, Option, Some, None, refl, ap, sym, subst, ◌∙◌, arith, length-append, IfSome}
 use Rattle.kt_script.proofs.Common.{prefix_len, take-append_seam, drop-append_seam, append-nil, Flaw, Kind, Token, is_space, token, broken, begins_with_letter, decimal_from, mark_of, line_after, line_past, Blank, space, line_comment, long_comment, HasFlaw, large_number, lettered_number, endless_string, bad_escape, endless_comment, leveled_comment, lone_dash, strange, Word, a_name, a_number, a_string, a_mark, no_word, IsTokens, the_end, blank_and, word_and, piece_at, tokens, tokens_in}
 use Rattle.kt_script.proofs.PieceTokens.{tokens-end, tokens-piece}
 use Rattle.kt_script.proofs.ReadWords.{at_strange, every_mark, name_is, digits_are, number_is, large_is, lettered_is}
 use Rattle.kt_script.proofs.ReadStrings.{string_is, endless_is, bad_escape_is, long_is, endless_comment_is, leveled_is, line_is, dash_is}
 
--- these bytes are read as this token
+-- `IsRead bytes after kind`: `bytes`, which are followed by `after`, are read as one piece of
+-- `kind`
 pub record IsRead (bytes after : List ℕ) (kind : Option Kind) : Type 0 where
   pub piece : piece_at (bytes ++ after) ≡ record { length = length bytes; kind = kind }
   pub some : 0 < length bytes
@@ -73,6 +74,6 @@ one_reading line text ts (blank_and {blank = b} {rest = rest} {ts = us} is more)
 one_reading line text ts (word_and {bytes = w} {rest = rest} {kind = k} {ts = us} is more) =
     ap (λ (xs : List Token). record { line = line; kind = k } ∷ xs) (one_reading (line_past line w) rest us more) ∙ sym (read_step line w rest (Some k) (word_read w rest k is))
 
--- a text has the same tokens each time
+-- a text has at most one list of tokens
 pub same_tokens : (text : List ℕ) (ts us : List Token) → IsTokens 1 text ts → IsTokens 1 text us → ts ≡ us
 same_tokens text ts us p q = one_reading 1 text ts p ∙ sym (one_reading 1 text us q)

@@ -1,4 +1,5 @@
--- A piece is not empty, and the text may be cut after it: it ends with ASCII or with the text, or ASCII follows it.
+-- A piece is not empty and ends at a character boundary: ASCII precedes or follows its end, or the
+-- text ends there.
 use Rattle.std.proofs.Common.{◌≡◌, ℕ, ◌+◌, ◌<◌, Bool, true, false, eqb, ◌||◌, List, [], ◌∷◌, ◌++◌, length, get_or, Option, Some, None, refl, ap, sym, subst, ◌∙◌, arith, append_assoc, length-append, inl, inr, IsUtf8}
 use Rattle.kt_script.proofs.Common.{nat_tests, append-nil, IsCharBoundary, prefix_len, eqb-true, not-false, IsCharBoundary-end, IsCharBoundary-after_ascii, IsCharBoundary-from_rest, Kind, Piece, is_space, is_word, is_digit, mark_of, piece_at, Each, StopsAt, in_line, Closes, not_yet, Blank, space, line_comment, long_comment, Word, a_name, a_number, a_string, a_mark, no_word}
 use Rattle.std.proofs.lemmas.List.{get_or_at}
@@ -9,17 +10,17 @@ use Rattle.kt_script.proofs.ReadStrings.{long_is, line_is}
 use Rattle.kt_script.proofs.ReadWords.{each_run, quote_range, stops_digits}
 use Rattle.kt_script.proofs.SomeReading.{something_first}
 
--- so many bytes, one or more, after which the rest is UTF-8
+-- `IsCut text n`: the first `n` bytes of `text`, at least one, end at a character boundary
 pub record IsCut (text : List ℕ) (n : ℕ) : Type 0 where
   pub some : 0 < n
   pub boundary : IsCharBoundary text n
 
--- after all the bytes of an ASCII class
+-- there is a character boundary after a whole run of bytes of an ASCII class
 run_cut : (p : ℕ → Bool) → ((c : ℕ) → p c ≡ true → c < 128) → (xs after : List ℕ) → Each p xs → StopsAt p after → IsUtf8 (xs ++ after)
     → IsCharBoundary (xs ++ after) (length xs)
 run_cut p small xs after each stop u = subst (IsCharBoundary (xs ++ after)) (each_run p xs after each stop) (passing_cut p small (xs ++ after) u)
 
--- after a byte that is ASCII
+-- there is a character boundary after an ASCII byte
 last_cut : (xs : List ℕ) (c : ℕ) (after : List ℕ) → c < 128 → IsUtf8 ((xs ++ c ∷ []) ++ after)
     → IsCharBoundary ((xs ++ c ∷ []) ++ after) (length (xs ++ c ∷ []))
 last_cut xs c after small u =
@@ -80,7 +81,7 @@ read_cut bytes after kind read boundary =
     let e : length bytes ≡ (piece_at (bytes ++ after)).length = ap (λ (p : Piece). p.length) (sym read.piece) in
     record { some = subst (λ (n : ℕ). 0 < n) e read.some; boundary = subst (IsCharBoundary (bytes ++ after)) e boundary }
 
--- spaces are one piece
+-- the piece at a blank ends at a character boundary: consecutive spaces are one piece
 blank_cut : (bytes after : List ℕ) → Blank bytes after → IsUtf8 (bytes ++ after) → IsCut (bytes ++ after) (piece_at (bytes ++ after)).length
 unfolding piece_at
 blank_cut bytes after (space {c = c} {after = rest} is) u =

@@ -1,4 +1,4 @@
--- The reading of a string: what was read of it and what is left.
+-- The loop that reads a string: the bytes read so far and the rest.
 use Rattle.std.proofs.Common.{◌≡◌, ℕ, zero, suc, ◌+◌, ◌-◌, ◌<◌, ◌≤◌, false, List, [], ◌∷◌, ◌++◌, length, take, drop, get_or, Ok, Err, ap, sym, ◌∙◌, subst, arith, length-drop, IsUtf8}
 use Rattle.kt_script.proofs.Common.{nat_tests, chars, IsAscii, IsCharBoundary, prefix_len, append-nil, prefix_len-le-length, chars-nil, chars-append, chars-IsAscii, IsUtf8-nil, IsUtf8-append, IsUtf8-from_ascii, IsUtf8-take, IsUtf8-drop, IsCharBoundary-after_ascii, Flaw, Stop, Quote, Escape, Flawed, with_front, stop_at, string_at, decoded, is_plain}
 use Rattle.kt_script.proofs.Cuts.{stopping_cut_at}
@@ -6,7 +6,7 @@ use Rattle.kt_script.proofs.StringRuns.{with_front_twice, with_front_none, plain
 
 -- ---- the reading of a string
 
--- the text's bytes before the rest are the string so far
+-- `ReadsOn quote string rest text`: the bytes of `text` before `rest` are the characters `string`
 pub record ReadsOn (quote : ℕ) (string rest text : List ℕ) : Type 0 where
   pub front : List ℕ
   pub utf8 : IsUtf8 front
@@ -34,7 +34,7 @@ reads_run quote string rest text new plain after n h n_is plain_is after_is utf8
       len = omega (arith, h.len, ap length after_is, length-drop n rest);
     }
 
--- a backslash and a byte that stand for a character, which is ASCII as that byte is
+-- an escape is two bytes, and both its second byte and its character are ASCII
 escape_is : (quote d : ℕ) (text : List ℕ) → stop_at quote text ≡ Escape d → (2 ≤ length text) × (get_or text 1 0 < 128) × (d < 128)
 escape_is quote d [] e = absurd cc
 escape_is quote d (c ∷ []) e = absurd (grind (arith, e))
@@ -87,7 +87,8 @@ plain_stops quote small c e = grind (arith, nat_tests, e)
 pub plain_cut : (quote n : ℕ) (rest bytes : List ℕ) → quote < 128 → n ≡ prefix_len (is_plain quote) bytes → bytes ≡ rest → IsCharBoundary rest n
 plain_cut quote n rest bytes small n_is same = stopping_cut_at (is_plain quote) (plain_stops quote small) rest bytes n n_is same
 
--- the bytes that stand for themselves were read
+-- `Stops quote string after text stop`: the plain bytes before `after` were read, and `stop` comes
+-- next
 pub record Stops (quote : ℕ) (string after text : List ℕ) (stop : Stop) : Type 0 where
   pub reads : ReadsOn quote string after text
   pub none : prefix_len (is_plain quote) after ≡ 0

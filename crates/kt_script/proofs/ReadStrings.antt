@@ -1,4 +1,4 @@
--- The bytes of a string or a comment are the piece that is read there.
+-- `piece_at` returns the string or comment at the beginning of a text.
 use Rattle.std.proofs.Common.{◌≡◌, ℕ, suc, ◌+◌, Bool, true, false, cond, eqb, List, [], ◌∷◌, ◌++◌, length, Some, None, Result, Ok, Err, refl, ap, sym, ◌∙◌, arith, append_assoc, length-append, nat_eq, codes, option_map}
 use Rattle.kt_script.proofs.Common.{nat_tests, chars, prefix_len, starts_with, append-nil, Flaw, Bad, Leveled, Endless, Quoted, blank, token, broken, with_front, string_at, decoded, quoted, closes_at, comment_at, piece_at, Each, StopsAt, is_quote, in_line, Inside, nothing, itself, escape, NoEscape, Closes, not_yet, NeverCloses, opens_long, opens_level}
 use Rattle.kt_script.specs.Inner.Comments.{long_comment}

@@ -1,4 +1,4 @@
--- What is read of a text is what was read before, and then the rest.
+-- The scan of a text is the part scanned so far, followed by the scan of the rest.
 use Rattle.std.proofs.Common.{◌≡◌, ℕ, ◌+◌, List, length, option_map}
 use Rattle.kt_script.proofs.Common.{closes_at}
 

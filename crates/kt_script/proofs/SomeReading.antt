@@ -1,4 +1,4 @@
--- Each text has tokens by the rules, and they are those that are read.
+-- Each text has tokens by the rules, and the lexer returns these tokens.
 use Rattle.std.proofs.Common.{◌≡◌, ℕ, zero, suc, ◌≤◌, Bool, true, false, eqb, ◌&&◌, List, [], ◌∷◌, ◌++◌, length, drop, Option, Some, None, refl, ap, sym, subst, ◌∙◌, arith, length-append, ◌⊎◌, inl, inr, nat_eq, codes}
 use Rattle.kt_script.proofs.Common.{starts_with, cases_Bool, eqb-true, Bad, Leveled, Endless, Kind, Token, is_space, is_letter, is_digit, mark_of, line_past, is_quote, in_line, Closes, not_yet, NeverCloses, opens_long, opens_level, space, line_comment, long_comment, endless_comment, leveled_comment, lone_dash, strange, a_mark, IsTokens, the_end, blank_and, word_and, tokens}
 use Rattle.kt_script.specs.TokenRules.{closed}
@@ -9,7 +9,7 @@ use Rattle.kt_script.proofs.WordsFirst.{BlankFirst, WordFirst, run, flawed, name
 
 -- ---- comments
 
--- what a text is that begins so
+-- a text that starts with `needle` is `needle` followed by the rest
 begins_with : (text needle : List ℕ) → starts_with nat_eq text needle ≡ true → text ≡ needle ++ drop (length needle) text
 begins_with text needle e = (starts_is Decides-eqb text needle (starts_with nat_eq text needle) refl).0 e
 
@@ -32,7 +32,7 @@ closing (c ∷ cs) =
       ]
     ]
 
--- a comment of a line, and what follows it
+-- a text that begins with `--` begins with a comment or a broken token
 comment_first : (text : List ℕ) → BlankFirst (45 ∷ 45 ∷ text) ⊎ WordFirst (45 ∷ 45 ∷ text)
 comment_first text =
     elim (cases_Bool (opens_long text)) [

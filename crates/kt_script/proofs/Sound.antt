@@ -1,22 +1,22 @@
--- Where the code's steps lead, a script is or begins; where they don't go on, none does.
+-- The parser is sound: accepted tokens are a script, and no script continues with a rejected token.
 use Rattle.std.proofs.Common.{◌≡◌, ℕ, List, [], ◌∷◌, ◌++◌, Option, Some, None, refl, ap, sym, ◌∙◌, subst, append_assoc, inl, inr, option_map}
 use Rattle.kt_script.proofs.Common.{append-nil, Token, Place, Start, Whole, Within, Stmt, State, Script, fault_of, last, open_lines, end_fault, IsFaultOf, step, next, option_to_list, run, IsResting}
 use Rattle.kt_script.proofs.Complete.{joined, run-append, script_runs}
 use Rattle.kt_script.proofs.Standing.{Stands, whole_script, from_start, finished, stands_begins}
 use Rattle.std.proofs.lemmas.Option.{same_Some}
 
--- ---- the laws
+-- ---- theorems
 
 resting_script : (p : Place) (ss : List Stmt) (ts : List Token) → IsResting p → Stands p ss ts → Script ts ss
 resting_script Start ss ts r h = h
 resting_script Whole ss ts r h = whole_script ss ts h
 resting_script (Within line q) ss ts r h = elim r [ ]
 
--- what is accepted is spelled
+-- tokens that lead to a position between statements are a script of the collected statements
 pub accepted : (ts : List Token) (p : Place) (ss : List Stmt) → run Start ts ≡ Some (p, ss) → IsResting p → Script ts ss
 accepted ts p ss e r = resting_script p ss ts r (from_start ts p ss e)
 
--- a script leads to rest, with its statements
+-- the tokens of a script lead to a position between statements, with its statements
 pub only : (ts : List Token) (p : Place) (ss rs : List Stmt) → run Start ts ≡ Some (p, ss) → Script ts rs → IsResting p × (rs ≡ ss)
 only ts p ss rs e script =
     let s = script_runs ts rs script Start tt in
@@ -24,13 +24,13 @@ only ts p ss rs e script =
     let place : s.place ≡ p = ap (λ (x : Place × List Stmt). x.0) same in
     (subst IsResting place s.rests, ap (λ (x : Place × List Stmt). x.1) same)
 
--- tokens are one script at most
+-- tokens are a script of at most one list of statements
 pub one_script : (ts : List Token) (ss rs : List Stmt) → Script ts ss → Script ts rs → ss ≡ rs
 one_script ts ss rs first second =
     let s = script_runs ts ss first Start tt in
     sym (only ts s.place ss rs s.runs second).1
 
--- no script goes on with a token that leads nowhere
+-- no script continues with a token that has no transition
 no_way_on : (front : List Token) (t : Token) (rest : List Token) (p : Place) (ss rs : List Stmt) → run Start front ≡ Some (p, ss) → next p t ≡ None
     → Script (front ++ t ∷ rest) rs → ⊥
 no_way_on front t rest p ss rs e stuck script =
@@ -41,7 +41,7 @@ no_way_on front t rest p ss rs e stuck script =
     let both = sym s.runs ∙ never in
     cc
 
--- the first token that leads nowhere
+-- the fault of the first token without a transition is the fault of the tokens
 pub misfit : (front : List Token) (t : Token) (rest : List Token) (p : Place) (ss : List Stmt) → run Start front ≡ Some (p, ss) → next p t ≡ None
     → IsFaultOf (front ++ t ∷ rest) (fault_of t)
 misfit front t rest p ss e stuck = record {
@@ -57,7 +57,7 @@ misfit front t rest p ss e stuck = record {
   });
 }
 
--- the tokens lead into a statement
+-- tokens that end within a statement have the fault of their end
 pub unfinished : (ts : List Token) (line : ℕ) (q : State) (ss : List Stmt) → run Start ts ≡ Some (Within line q, ss)
     → IsFaultOf ts (end_fault (last (open_lines [] ts)) line)
 unfinished ts line q ss e =
@@ -78,7 +78,7 @@ unfinished ts line q ss e =
       });
     }
 
--- one token more
+-- `run` over an appended token is the transition by that token
 pub run-push : (front : List Token) (t : Token) (p : Place) (ss : List Stmt) (to : Place × Option Stmt) → run Start front ≡ Some (p, ss) → next p t ≡ Some to
     → run Start (front ++ t ∷ []) ≡ Some (to.0, ss ++ option_to_list to.1)
 run-push front t p ss to e step =

@@ -1,4 +1,4 @@
--- What holds where tokens have led to a place: a script is done, or a statement has begun.
+-- The meaning of a parser's position: a script is complete, or a statement has begun.
 use Rattle.std.proofs.Common.{◌≡◌, ℕ, List, [], ◌∷◌, ◌++◌, Option, Some, None, refl, ap, sym, ◌∙◌, subst, append_assoc, ◌⊎◌, inl, inr, option_map}
 use Rattle.kt_script.proofs.Common.{append-nil, Token, Kind, Name, Semicolon, Place, Start, Whole, Within, Stmt, Action, State, Named, Step, To, Ends, Statement, kinds, placed, Script, no_stmts, stmt_and, ended_and, Begins, step, begin, go_on, next, landed, option_to_list, run}
 use Rattle.kt_script.proofs.Complete.{walk, bind_some, map_some, joined}
@@ -21,9 +21,10 @@ one_stmt phrase a st = let s : Script (phrase ++ []) (placed phrase a ∷ []) = 
 pub kinds-append : (xs ys : List Token) → kinds (xs ++ ys) ≡ kinds xs ++ kinds ys
 kinds-append xs ys = map-append (λ (t : Token). t.kind) xs ys
 
--- ---- what holds where tokens have led to a place
+-- ---- the meaning of a position
 
--- a statement has begun: its name, and tokens that lead from it to this step
+-- `Begun to done ts`: `ts` are a script of `done`, a statement's name and tokens that lead to the
+-- step `to`
 pub record Begun (to : Step) (done : List Stmt) (ts : List Token) : Type 0 where
   pub before : List Token
   pub first : Token
@@ -34,7 +35,7 @@ pub record Begun (to : Step) (done : List Stmt) (ts : List Token) : Type 0 where
   pub named : first.kind ≡ Name name
   pub leads : walk (To (Named name)) (kinds others) ≡ Some to
 
--- a statement has ended
+-- `WholeAt done ts`: the tokens `ts` end with a complete statement, the last of `done`
 pub record WholeAt (done : List Stmt) (ts : List Token) : Type 0 where
   pub action : Action
   pub earlier : List Stmt
@@ -54,7 +55,7 @@ whole_script done ts w =
     let phrase : List Token = w.begun.first ∷ w.begun.others in
     rw (w.begun.parts, w.stmts) (Script-append w.begun.before phrase w.earlier (placed phrase w.action ∷ []) w.begun.script (one_stmt phrase w.action (whole_statement done ts w)))
 
--- a script that a semicolon ends
+-- a complete script with a semicolon after it is a script of the same statements
 whole_ended : (done : List Stmt) (ts : List Token) (t : Token) → WholeAt done ts → t.kind ≡ Semicolon → Script (ts ++ t ∷ []) done
 whole_ended done ts t w is =
     let phrase : List Token = w.begun.first ∷ w.begun.others in
@@ -76,7 +77,7 @@ go_on_is line (Name n) to e = inl (n, refl, sym (same_Some (Within line (Named n
 go_on_is line Semicolon to e = inr (refl, sym (same_Some (Start, None) to e))
 go_on_is line _ to e = absurd cc
 
--- one token more
+-- `Begun` is preserved by a token that the grammar allows
 goes_on : (q : State) (to : Step) (done : List Stmt) (ts : List Token) (t : Token) (b : Begun (To q) done ts) → step q t.kind ≡ Some to
     → (c : Begun to done (ts ++ t ∷ [])) × (c.first.line ≡ b.first.line)
 goes_on q to done ts t b e =
@@ -135,14 +136,14 @@ stands_run (t ∷ ts) p q done ss front h e =
 pub from_start : (ts : List Token) (q : Place) (ss : List Stmt) → run Start ts ≡ Some (q, ss) → Stands q ss ts
 from_start ts q ss e = stands_run ts Start q [] ss [] no_stmts e
 
--- ---- a script begins so
+-- ---- each position has a script that continues from it
 
--- tokens of these kinds
+-- tokens of the kinds `ks` exist
 tokens_with : (ks : List Kind) → (ts : List Token) × (kinds ts ≡ ks)
 tokens_with [] = ([], refl)
 tokens_with (k ∷ ks) = let r = tokens_with ks in (record { line = 0; kind = k } ∷ r.0, ap (λ (x : List Kind). k ∷ x) r.1)
 
--- how a statement that was begun may end
+-- a statement that has begun can be completed
 pub finished : (q : State) (done : List Stmt) (ts : List Token) (b : Begun (To q) done ts)
     → (more : List Token) × (a : Action) × Statement (kinds ((b.first ∷ b.others) ++ more)) a
 finished q done ts b =

@@ -1,4 +1,4 @@
--- A string, run by run of bytes that stand for themselves.
+-- A string as runs of plain bytes with stops between them.
 use Rattle.std.proofs.Common.{◌≡◌, ℕ, suc, ◌+◌, Bool, true, false, eqb, List, [], ◌∷◌, ◌++◌, take, drop, Option, Some, None, Result, Ok, Err, refl, ap, sym, ◌∙◌, append_assoc, arith, inl, inr}
 use Rattle.kt_script.proofs.Common.{nat_tests, prefix_len, cases_Bool, Flaw, Stop, Quote, Escape, Flawed, with_front, escaped, escape_stop, escape_at, stop_at, string_at, escape_of, is_plain}
 
@@ -8,7 +8,7 @@ with_front_twice xs ys n m r = grind (arith, append_assoc {A = ℕ})
 pub with_front_none : (r : Result (List ℕ × ℕ) Flaw) → with_front [] 0 r ≡ r
 with_front_none r = grind arith
 
--- ---- bytes that stand for themselves
+-- ---- plain bytes
 
 pub plain_is : (quote c : ℕ) → is_plain quote c ≡ true → (eqb c quote ≡ false) × (eqb c 10 ≡ false) × (eqb c 92 ≡ false)
 plain_is quote c e = (grind (arith, nat_tests, e), grind (arith, nat_tests, e), grind (arith, nat_tests, e))
@@ -19,7 +19,7 @@ one_more c cs n r = let e : 1 + n ≡ suc n = omega arith in rw e refl
 one_less : (c : ℕ) (cs : List ℕ) (n : ℕ) → drop (1 + n) (c ∷ cs) ≡ drop n cs
 one_less c cs n = let e : 1 + n ≡ suc n = omega arith in rw e refl
 
--- a string from here on is the bytes that stand for themselves, and what is after them
+-- a string is its first plain bytes, followed by the string after them
 pub plain_run : (quote : ℕ) (text : List ℕ)
     → string_at quote false text ≡ with_front (take (prefix_len (is_plain quote) text) text) (prefix_len (is_plain quote) text) (string_at quote false (drop (prefix_len (is_plain quote) text) text))
 plain_run quote [] = refl
@@ -34,7 +34,7 @@ plain_run quote (c ∷ cs) =
       | inr other ↦ rw other (sym (with_front_none (string_at quote false (c ∷ cs))))
     ]
 
--- no byte that stands for itself is left
+-- no plain byte follows the first run of plain bytes
 pub no_more : (p : ℕ → Bool) (text : List ℕ) → prefix_len p (drop (prefix_len p text) text) ≡ 0
 no_more p [] = refl
 no_more p (c ∷ cs) =
@@ -43,9 +43,9 @@ no_more p (c ∷ cs) =
       | inr fails ↦ rw (fails, fails) refl
     ]
 
--- ---- what stands after them
+-- ---- the stop after plain bytes
 
--- what a string is from a stop on
+-- `after_stop quote text stop`: the string from `stop` on, at the beginning of `text`
 abbrev pub after_stop : ℕ → List ℕ → Stop → Result (List ℕ × ℕ) Flaw
 after_stop quote text Quote = Ok ([], 1)
 after_stop quote text (Flawed flaw) = Err flaw

@@ -1,8 +1,8 @@
--- What a text begins with, where that is a name, a number or a string.
+-- Texts that begin with a name, a number or a string.
 use Rattle.std.proofs.Common.{◌≡◌, ℕ, ◌<◌, ◌^◌, Bool, true, false, eqb, not, ◌||◌, List, [], ◌∷◌, ◌++◌, length, Option, Some, None, refl, ap, sym, subst, ◌∙◌, arith, append_assoc, inl, inr}
 use Rattle.kt_script.proofs.Common.{cases_Bool, cases_lt, eqb-true, append-nil, Flaw, Bad, Endless, Kind, Broken, is_letter, is_word, escape_of, is_plain, is_digit, decimal_from, Each, StopsAt, is_quote, in_line, Inside, nothing, itself, escape, NoEscape, Blank, HasFlaw, large_number, lettered_number, endless_string, bad_escape, Word, a_name, a_number, a_string, no_word}
 
--- ---- what a text begins with
+-- ---- the first piece of a text
 
 pub record BlankFirst (text : List ℕ) : Type 0 where
   pub front : List ℕ
@@ -19,7 +19,7 @@ pub record WordFirst (text : List ℕ) : Type 0 where
   pub kind : Kind
   pub is : Word front rest kind
 
--- bytes of a class, and what follows them
+-- `Run p text`: `text` is a run of bytes that satisfy `p`, followed by the rest
 pub record Run (p : ℕ → Bool) (text : List ℕ) : Type 0 where
   pub front : List ℕ
   pub rest : List ℕ
@@ -65,7 +65,7 @@ number_then c cs front rest parts each stop =
 
 -- ---- strings
 
--- how a string goes on, to its quote or to what is wrong with it
+-- `Quotation quote text`: `text` continues a string to its last quote or to its flaw
 pub data Quotation (quote : ℕ) : List ℕ → Type 0 where
   ends : {words bytes : List ℕ} (after : List ℕ) → Inside quote words bytes → Quotation quote (words ++ quote ∷ after)
   meets_line : {words bytes : List ℕ} (after : List ℕ) → Inside quote words bytes → StopsAt in_line after → Quotation quote (words ++ after)

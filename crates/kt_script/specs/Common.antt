@@ -1,4 +1,4 @@
--- The words that the clauses of this crate cite, passed on from one place. Declares nothing.
+-- Exports the definitions that the clauses of this crate cite. Declares nothing.
 pub use Rattle.std.specs.List.{prefix_len}
 pub use Rattle.std.specs.Str.{IsCharBoundary}
 pub use Rattle.kt_base.specs.Characters.{is_space}

@@ -1,8 +1,8 @@
--- The words of a fault, as its line has them.
+-- The messages of script faults.
 use Rattle.std.specs.Prelude.{ℕ, List, codes}
 use Rattle.kt_script.specs.Types.{BadToken, NoMemory, NotLiteral, NotUtf8, ScriptFault, TooLong, Unclosed}
 
--- the words of a script's fault, which don't say its line
+-- `script_words fault`: the message of `fault`, without its line.
 abbrev pub script_words : ScriptFault → List ℕ
 script_words (NoMemory refusal) = codes "out of memory"
 script_words NotUtf8 = codes "not UTF-8"

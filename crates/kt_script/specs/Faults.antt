@@ -3,27 +3,29 @@ use Rattle.std.specs.Prelude.{◌≡◌, ℕ, ◌-◌, length, take, slice_get, 
 use Rattle.kt_script.specs.Types.{Action, Bad, BadToken, Broken, CloseBrace, CloseBracket, CloseParen, Endless, Kind, NoMemory, NotLiteral, OpenBrace, OpenBracket, OpenParen, ScriptFault, Stmt, Token, Unclosed}
 use Rattle.kt_script.specs.Grammar.{Statement, Script, kinds, first_line}
 
--- a refusal for another reason than memory
+-- `IfFault result P`: if `result` is a fault other than a failed allocation, `P` holds of the
+-- fault.
 abbrev pub IfFault : {T : Type 0} → Result T ScriptFault → (ScriptFault → Type 0) → Type 0
 IfFault (Ok x) P = Unit {0}
 IfFault (Err (NoMemory refusal)) P = Unit {0}
 IfFault (Err fault) P = P fault
 
--- some script begins with these tokens
+-- `Begins ts`: some script begins with the tokens `ts`.
 abbrev pub Begins : List Token → Type 0
 Begins ts = (more : List Token) × (stmts : List Stmt) × Script (ts ++ more) stmts
 
--- the fault of a token that is broken or doesn't fit
+-- `own_fault line kind`: the fault of a token of `kind` on `line` that no script allows.
 abbrev pub own_fault : ℕ → Kind → ScriptFault
 own_fault line (Broken Bad) = BadToken line
 own_fault line (Broken Endless) = Unclosed line
 own_fault line _ = NotLiteral line
 
--- the fault at a token
+-- `fault_of t`: the fault of the token `t` if no script allows it.
 abbrev pub fault_of : Token → ScriptFault
 fault_of t = own_fault t.line t.kind
 
--- a script may begin with the tokens before this one, and none goes on with it
+-- `Misfit ts fault`: `fault` is the fault of the first token of `ts` with which no script
+-- continues.
 pub record Misfit (ts : List Token) (fault : ScriptFault) : Type 0 where
   pub front : List Token
   pub token : Token
@@ -33,15 +35,16 @@ pub record Misfit (ts : List Token) (fault : ScriptFault) : Type 0 where
   pub unfit : ¬ Begins (front ++ token ∷ [])
   pub is : fault ≡ fault_of token
 
--- the last of some lines
+-- `last lines`: the last of `lines`, or nothing if there are no lines.
 abbrev pub last : List ℕ → Option ℕ
 last lines = slice_get lines (length lines - 1)
 
--- some lines without the last
+-- `without_last lines`: `lines` without the last line.
 abbrev pub without_last : List ℕ → List ℕ
 without_last lines = take (length lines - 1) lines
 
--- the lines of the open brackets after one more token
+-- `after_bracket lines line kind`: the lines of the open brackets after a token of `kind` on
+-- `line`. They were `lines` before.
 abbrev pub after_bracket : List ℕ → ℕ → Kind → List ℕ
 after_bracket lines line OpenParen = lines ++ line ∷ []
 after_bracket lines line OpenBrace = lines ++ line ∷ []
@@ -51,17 +54,19 @@ after_bracket lines line CloseBrace = without_last lines
 after_bracket lines line CloseBracket = without_last lines
 after_bracket lines line _ = lines
 
--- the lines of the brackets that are open after these tokens, where lines were open before them
+-- `open_lines lines ts`: the lines of the open brackets after the tokens `ts`. They were `lines`
+-- before.
 abbrev pub open_lines : List ℕ → List Token → List ℕ
 open_lines lines [] = lines
 open_lines lines (t ∷ ts) = open_lines (after_bracket lines t.line t.kind) ts
 
--- an open bracket is unclosed; without one, the statement that begins on this line is not finished
+-- `end_fault bracket line`: the fault of tokens that end in the statement on `line`: the open
+-- `bracket` is not closed, or the statement is not finished.
 abbrev pub end_fault : Option ℕ → ℕ → ScriptFault
 end_fault None line = NotLiteral line
 end_fault (Some bracket) line = Unclosed bracket
 
--- the tokens end within a statement
+-- `Unfinished ts fault`: the tokens `ts` end within a statement, and `fault` is their fault.
 pub record Unfinished (ts : List Token) (fault : ScriptFault) : Type 0 where
   pub whole : List Token
   pub begun : List Token
@@ -73,7 +78,7 @@ pub record Unfinished (ts : List Token) (fault : ScriptFault) : Type 0 where
   pub statement : Statement (kinds (begun ++ more)) action
   pub is : fault ≡ end_fault (last (open_lines [] ts)) (first_line begun)
 
--- the tokens are not a script, and this is their fault
+-- `IsFaultOf ts fault`: the tokens `ts` are not a script, and `fault` is their fault.
 pub record IsFaultOf (ts : List Token) (fault : ScriptFault) : Type 0 where
   pub no_script : (stmts : List Stmt) → Script ts stmts → ⊥
   pub is : Misfit ts fault ⊎ Unfinished ts fault

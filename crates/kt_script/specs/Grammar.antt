@@ -1,42 +1,48 @@
--- The grammar, by cases.
+-- The grammar of scripts, by cases.
 use Rattle.std.specs.Prelude.{◌≡◌, ℕ, List, [], ◌∷◌, ◌++◌, map}
 use Rattle.kt_script.specs.Types.{Action, Assign, Call, CloseBrace, CloseBracket, CloseParen, Comma, Dot, Equals, Kind, Literal, Name, Number, OpenBrace, OpenBracket, OpenParen, Pair, Quoted, Semicolon, Stmt, Token, Truth}
 use Rattle.kt_script.specs.declared.syntax.Literal.TheVariants as literal
 use Rattle.kt_script.specs.declared.syntax.Arg.TheVariants.{Value, Table}
 
--- value = string | number | "true" | "false": a value is one token
+-- `token_of v`: the token of the value `v`.
+-- value = string | number | "true" | "false"
 abbrev pub token_of : Literal → Kind
 token_of (literal.Text t) = Quoted t
 token_of (literal.Number n) = Number n
 token_of (literal.Truth b) = Truth b
 
--- name | "[" string "]"
+-- `Key words key`: the tokens `words` are a key of a table, whose text is `key`.
+-- key = name | "[" string "]"
 pub data Key : List Kind → List ℕ → Type 0 where
   by_name : (n : List ℕ) → Key (Name n ∷ []) n
   by_text : (t : List ℕ) → Key (OpenBracket ∷ Quoted t ∷ CloseBracket ∷ []) t
 
--- a key with its value
+-- `pair key v`: the pair of the name `key` and the value `v`.
 abbrev pub pair : List ℕ → Literal → Pair
 pair key v = record { name = key; value = v }
 
--- "," | ";"
+-- `Separator kind`: a token of `kind` separates the pairs of a table.
+-- separator = "," | ";"
 pub data Separator : Kind → Type 0 where
   comma : Separator Comma
   semicolon : Separator Semicolon
 
--- [ pair { ("," | ";") pair } [ "," | ";" ] ], where pair = (name | "[" string "]") "=" value
+-- `Pairs words pairs`: the tokens `words` between the braces of a table are `pairs`.
+-- pairs = [ pair { ("," | ";") pair } [ "," | ";" ] ], pair = (name | "[" string "]") "=" value
 pub data Pairs : List Kind → List Pair → Type 0 where
   no_pairs : Pairs [] []
   last_pair : {words : List Kind} {key : List ℕ} → Key words key → (v : Literal) → Pairs (words ++ Equals ∷ token_of v ∷ []) (pair key v ∷ [])
   pair_and : {words rest : List Kind} {key : List ℕ} {s : Kind} {pairs : List Pair} → Key words key → (v : Literal) → Separator s → Pairs rest pairs
       → Pairs (words ++ Equals ∷ token_of v ∷ s ∷ rest) (pair key v ∷ pairs)
 
--- { "." name | "[" string "]" }
+-- `Parts words parts`: the tokens `words` after the first name of a path are its other `parts`.
+-- parts = { "." name | "[" string "]" }
 pub data Parts : List Kind → List (List ℕ) → Type 0 where
   no_parts : Parts [] []
   named_part : {words : List Kind} {parts : List (List ℕ)} (n : List ℕ) → Parts words parts → Parts (Dot ∷ Name n ∷ words) (n ∷ parts)
   quoted_part : {words : List Kind} {parts : List (List ℕ)} (t : List ℕ) → Parts words parts → Parts (OpenBracket ∷ Quoted t ∷ CloseBracket ∷ words) (t ∷ parts)
 
+-- `Statement words action`: the tokens `words` are a statement with this `action`.
 -- stmt = name "(" (value | table) ")" | name string | name table | path "=" value
 pub data Statement : List Kind → Action → Type 0 where
   call : (n : List ℕ) (v : Literal) → Statement (Name n ∷ OpenParen ∷ token_of v ∷ CloseParen ∷ []) (Call n (Value v))
@@ -48,19 +54,20 @@ pub data Statement : List Kind → Action → Type 0 where
   assign : {words : List Kind} {parts : List (List ℕ)} (n : List ℕ) → Parts words parts → (v : Literal)
       → Statement (Name n ∷ words ++ Equals ∷ token_of v ∷ []) (Assign (n ∷ parts) v)
 
--- the kinds of tokens
+-- `kinds ts`: the kinds of the tokens `ts`.
 abbrev pub kinds : List Token → List Kind
 kinds ts = map (λ t. t.kind) ts
 
--- the line on which tokens begin
+-- `first_line ts`: the line of the first of the tokens `ts`, or 0 if there are no tokens.
 abbrev pub first_line : List Token → ℕ
 first_line [] = 0
 first_line (t ∷ ts) = t.line
 
--- a statement with the line on which it begins
+-- `placed phrase a`: the statement with the action `a` and the line of the tokens `phrase`.
 abbrev pub placed : List Token → Action → Stmt
 placed phrase a = record { line = first_line phrase; action = a }
 
+-- `Script ts stmts`: the tokens `ts` are a script of the statements `stmts`.
 -- script = { stmt [";"] }
 pub data Script : List Token → List Stmt → Type 0 where
   no_stmts : Script [] []

@@ -1,4 +1,4 @@
--- What private functions compute: how the code walks through a text. No public clause cites it.
+-- Definitions that only private functions cite: how the code reads a text.
 pub mod Pieces
 pub mod Words
 pub mod Strings

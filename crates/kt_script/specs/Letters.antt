@@ -2,18 +2,18 @@
 use Rattle.std.specs.Prelude.{ℕ, Bool, not, nat_le, ◌==◌, ◌&&◌, ◌||◌, Option, Some, None, if◌then◌else◌}
 use Rattle.kt_base.specs.Digits.{is_digit}
 
--- a letter or an underscore
+-- `is_letter c`: `c` is an ASCII letter or an underscore.
 abbrev pub is_letter : ℕ → Bool
 is_letter c = (nat_le 97 c && nat_le c 122) || (nat_le 65 c && nat_le c 90) || c == 95
 
--- a byte of a name after its first
+-- `is_word c`: `c` is a letter, an underscore or a digit, which can follow a name's first byte.
 abbrev pub is_word : ℕ → Bool
 is_word c = is_letter c || is_digit c
 
--- a byte of a string that stands for itself
+-- `is_plain quote c`: `c` represents itself in a string: it is not `quote`, newline or backslash.
 abbrev pub is_plain : ℕ → ℕ → Bool
 is_plain quote c = not (c == quote) && not (c == 10) && not (c == 92)
 
--- the byte that a backslash and this byte stand for: newline, tab, backslash or a quote
+-- `escape_of c`: the byte that a backslash and `c` represent: newline, tab, backslash or a quote.
 abbrev pub escape_of : ℕ → Option ℕ
 escape_of c = if c == 110 then Some 10 else if c == 116 then Some 9 else if c == 92 || c == 39 || c == 34 then Some c else None

@@ -1,4 +1,4 @@
--- The tokens of a text, by rules: white space, comments and tokens one after the other, to its end.
+-- The rules for the tokens of a text. A text is a sequence of white space, comments and tokens.
 use Rattle.std.specs.Prelude.{◌≡◌, ℕ, ◌+◌, ◌<◌, ◌≤◌, ◌^◌, ◌==◌, ◌||◌, ◌&&◌, Bool, true, false, not, nat_eq, bytes_eq, codes, List, [], ◌∷◌, ◌++◌, drop, Option, Some, None, chars, if◌then◌else◌}
 use Rattle.std.specs.List.{starts_with, prefix_len}
 use Rattle.kt_script.specs.Types.{Bad, Broken, CloseBrace, CloseBracket, CloseParen, Comma, Dot, Endless, Equals, Flaw, Kind, Leveled, Name, Number, OpenBrace, OpenBracket, OpenParen, Quoted, Semicolon, Token, Truth}
@@ -6,7 +6,7 @@ use Rattle.kt_base.specs.Characters.{is_space}
 use Rattle.kt_base.specs.Digits.{is_digit, decimal_from}
 use Rattle.kt_script.specs.Letters.{is_letter, is_word, is_plain, escape_of}
 
--- `( ) { } [ ] = , ; .`
+-- `mark_of c`: the token of the byte `c`, if it is one of `( ) { } [ ] = , ; .`
 abbrev pub mark_of : ℕ → Option Kind
 mark_of c =
     if c == 40 then Some OpenParen else if c == 41 then Some CloseParen
@@ -16,77 +16,78 @@ mark_of c =
     else if c == 59 then Some Semicolon else if c == 46 then Some Dot
     else None
 
--- the truth value or the name that letters are
+-- `word letters`: the token of `letters`: a truth value or a name.
 abbrev pub word : List ℕ → Kind
 word letters = if bytes_eq letters (codes "true") then Truth true else if bytes_eq letters (codes "false") then Truth false else Name (chars letters)
 
--- one or more `=`, and `[`
+-- `is_level text`: `text` begins with one or more `=`, followed by `[`.
 abbrev pub is_level : List ℕ → Bool
 is_level text = starts_with nat_eq text (codes "=") && starts_with nat_eq (drop (prefix_len (λ c. c == 61) text) text) (codes "[")
 
--- the line after a byte
+-- `line_after line c`: the line after the byte `c`, which is on `line`.
 abbrev pub line_after : ℕ → ℕ → ℕ
 line_after line c = if c == 10 then line + 1 else line
 
--- the line after these bytes
+-- `line_past line bytes`: the line after `bytes`, which begin on `line`.
 abbrev pub line_past : ℕ → List ℕ → ℕ
 line_past line [] = line
 line_past line (c ∷ cs) = line_past (line_after line c) cs
 
--- each of these bytes passes
+-- `Each p bytes`: each of `bytes` satisfies `p`.
 abbrev pub Each : (ℕ → Bool) → List ℕ → Type 0
 Each p [] = Unit {0}
 Each p (c ∷ cs) = (p c ≡ true) × Each p cs
 
--- the first byte, if there is one, does not pass
+-- `StopsAt p bytes`: `bytes` are empty, or their first byte does not satisfy `p`.
 abbrev pub StopsAt : (ℕ → Bool) → List ℕ → Type 0
 StopsAt p [] = Unit {0}
 StopsAt p (c ∷ cs) = p c ≡ false
 
--- a double or a single quote
+-- `is_quote c`: `c` is a double or a single quote.
 abbrev pub is_quote : ℕ → Bool
 is_quote c = c == 34 || c == 39
 
--- any byte but the newline
+-- `in_line c`: `c` is not a newline.
 abbrev pub in_line : ℕ → Bool
 in_line c = not (c == 10)
 
--- what stands between a string's quotes, and the bytes that it stands for
+-- `Inside quote text bytes`: `text`, between two bytes `quote`, represents `bytes`.
 pub data Inside (quote : ℕ) : List ℕ → List ℕ → Type 0 where
   nothing : Inside quote [] []
   itself : {c : ℕ} {cs bytes : List ℕ} → is_plain quote c ≡ true → Inside quote cs bytes → Inside quote (c ∷ cs) (c ∷ bytes)
   escape : {c d : ℕ} {cs bytes : List ℕ} → escape_of c ≡ Some d → Inside quote cs bytes → Inside quote (92 ∷ c ∷ cs) (d ∷ bytes)
 
--- no escape begins with a backslash before these bytes
+-- `NoEscape bytes`: a backslash before `bytes` does not begin an escape.
 abbrev pub NoEscape : List ℕ → Type 0
 NoEscape [] = Unit {0}
 NoEscape (c ∷ cs) = escape_of c ≡ None
 
--- bytes up to the first `]]`, and with it, and what follows them
+-- `Closes bytes after`: `bytes`, which are followed by `after`, end with the first `]]`.
 pub data Closes : List ℕ → List ℕ → Type 0 where
   closed : {after : List ℕ} → Closes (93 ∷ 93 ∷ []) after
   not_yet : {c : ℕ} {cs after : List ℕ} → starts_with nat_eq ((c ∷ cs) ++ after) (codes "]]") ≡ false → Closes cs after → Closes (c ∷ cs) after
 
--- there is no `]]`
+-- `NeverCloses text`: `text` does not contain `]]`.
 abbrev pub NeverCloses : List ℕ → Type 0
 NeverCloses [] = Unit {0}
 NeverCloses (c ∷ cs) = (starts_with nat_eq (c ∷ cs) (codes "]]") ≡ false) × NeverCloses cs
 
--- `[[`, after `--`
+-- `opens_long text`: `text`, which follows `--`, begins with `[[`.
 abbrev pub opens_long : List ℕ → Bool
 opens_long text = starts_with nat_eq text (codes "[[")
 
--- `[`, one or more `=`, and `[`, after `--`
+-- `opens_level text`: `text`, which follows `--`, begins with `[`, one or more `=`, and `[`.
 abbrev pub opens_level : List ℕ → Bool
 opens_level text = starts_with nat_eq text (codes "[") && is_level (drop 1 text)
 
--- bytes that are not a token, and what follows them: a byte of white space, or a comment of either kind
+-- `Blank bytes after`: `bytes`, which are followed by `after`, are a byte of white space or a
+-- comment.
 pub data Blank : List ℕ → List ℕ → Type 0 where
   space : {c : ℕ} {after : List ℕ} → is_space c ≡ true → Blank (c ∷ []) after
   line_comment : {words after : List ℕ} → opens_long (words ++ after) ≡ false → opens_level (words ++ after) ≡ false → Each in_line words → StopsAt in_line after → Blank (45 ∷ 45 ∷ words) after
   long_comment : {words after : List ℕ} → Closes words after → Blank (45 ∷ 45 ∷ 91 ∷ 91 ∷ words) after
 
--- a byte that begins no token, comment or white space
+-- `IsStrange c`: a token, a comment or white space does not begin with the byte `c`.
 pub record IsStrange (c : ℕ) : Type 0 where
   pub no_space : is_space c ≡ false
   pub no_letter : is_letter c ≡ false
@@ -95,7 +96,7 @@ pub record IsStrange (c : ℕ) : Type 0 where
   pub no_dash : c == 45 ≡ false
   pub no_mark : mark_of c ≡ None
 
--- a text that does not begin with a token, and what is wrong with it
+-- `HasFlaw text flaw`: `text` begins with a broken token that has this `flaw`.
 pub data HasFlaw : List ℕ → Flaw → Type 0 where
   large_number : (c : ℕ) (cs after : List ℕ) → Each is_digit (c ∷ cs) → StopsAt is_digit after → 2 ^ 64 ≤ decimal_from 0 (c ∷ cs) → HasFlaw ((c ∷ cs) ++ after) Bad
   lettered_number : (c d : ℕ) (cs after : List ℕ) → Each is_digit (c ∷ cs) → is_letter d ≡ true → HasFlaw ((c ∷ cs) ++ d ∷ after) Bad
@@ -106,7 +107,7 @@ pub data HasFlaw : List ℕ → Flaw → Type 0 where
   lone_dash : {text : List ℕ} → starts_with nat_eq text (codes "-") ≡ false → HasFlaw (45 ∷ text) Bad
   strange : {c : ℕ} {cs : List ℕ} → IsStrange c → HasFlaw (c ∷ cs) Bad
 
--- the bytes of a token, and what follows them
+-- `Word bytes after kind`: `bytes`, which are followed by `after`, are a token of `kind`.
 pub data Word : List ℕ → List ℕ → Kind → Type 0 where
   a_name : {c : ℕ} {cs after : List ℕ} → is_letter c ≡ true → Each is_word cs → StopsAt is_word after → Word (c ∷ cs) after (word (c ∷ cs))
   a_number : {c : ℕ} {cs after : List ℕ} → Each is_digit (c ∷ cs) → StopsAt is_word after → decimal_from 0 (c ∷ cs) < 2 ^ 64 → Word (c ∷ cs) after (Number (decimal_from 0 (c ∷ cs)))
@@ -114,7 +115,7 @@ pub data Word : List ℕ → List ℕ → Kind → Type 0 where
   a_mark : {c : ℕ} {kind : Kind} {after : List ℕ} → mark_of c ≡ Some kind → Word (c ∷ []) after kind
   no_word : {text : List ℕ} {flaw : Flaw} → HasFlaw text flaw → Word text [] (Broken flaw)
 
--- the tokens of a text that begins on this line
+-- `IsTokens line text ts`: the text `text`, which begins on `line`, has the tokens `ts`.
 pub data IsTokens : ℕ → List ℕ → List Token → Type 0 where
   the_end : {line : ℕ} → IsTokens line [] []
   blank_and : {line : ℕ} {blank rest : List ℕ} {ts : List Token} → Blank blank rest → IsTokens (line_past line blank) rest ts → IsTokens line (blank ++ rest) ts

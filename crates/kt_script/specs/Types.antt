@@ -1,4 +1,4 @@
--- The types that the definitions of this crate name, passed on from one place. Declares nothing.
+-- Exports the types that the definitions of this crate name. Declares nothing.
 pub use Rattle.kt_script.specs.declared.fault.ScriptFault.{ScriptFault}
 pub use Rattle.kt_script.specs.declared.fault.ScriptFault.TheVariants.{BadToken, NoMemory, NotLiteral, NotUtf8, TooLong, Unclosed}
 pub use Rattle.kt_script.specs.declared.place.Place.{Place}

@@ -4,28 +4,33 @@ ghost use Rattle.kt_script.specs.declared.fault.ScriptFault.TheVariants as fault
 use kt_base::{NoMemory, OUT_OF_MEMORY};
 use thiserror::Error;
 
-/// Why a text was refused. A number is a line, counted from 1: the line of the token that is at
-/// fault, of what was opened and not closed, or of the statement that was not finished.
+/// Errors returned by [`parse`](crate::parse).
+///
+/// A number is a line, counted from 1: of the faulty token, of the bracket that is not closed, or
+/// of the statement that is not finished.
 #[derive(Clone, Copy, Debug, Error)]
 #[error("{}", self.words())]
 pub enum ScriptFault {
+    /// An allocation failed.
     NoMemory(NoMemory),
-    /// The bytes are not UTF-8.
+    /// The text is not UTF-8.
     NotUtf8,
-    /// A byte, a number or an escape that this profile doesn't have.
+    /// A byte, a number or an escape is not in this profile.
     BadToken(u32),
-    /// Lua outside the literal profile, or not Lua at all.
+    /// The text is not in the literal profile of Lua (kyuafile(5)).
     NotLiteral(u32),
-    /// A string, a comment or a bracket that isn't closed.
+    /// A string, a comment or a bracket is not closed.
     Unclosed(u32),
-    /// More than 1,048,576 bytes.
+    /// The text has more than 1,048,576 bytes.
     TooLong,
 }
 
 impl ScriptFault {
     ghost use Rattle.kt_script.specs.FaultWords.{script_words};
 
-    /// The words of the fault's line (this profile), which prints the line number itself. `Display` prints them.
+    /// Returns the message of the fault, without its line number (this profile).
+    ///
+    /// `Display` prints this message. The caller prints the line number.
     pub fn words(&self) -> &'static str
         ensures { result.now ≡ script_words self.now }
     {

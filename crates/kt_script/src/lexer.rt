@@ -1,4 +1,4 @@
-//! Where a text's tokens and comments begin and end.
+//! The lexer: it splits a text into white space, comments and tokens.
 
 ghost use Rattle.std.specs.Prelude.{◌≡◌, ℕ, ◌≤◌, length, IfOk, ◌+◌, ◌==◌, IfSome};
 ghost use Rattle.kt_script.specs.Common.{prefix_len, is_space, mark_of, piece_at, closes_at, comment_at, is_level, number_at};
@@ -9,7 +9,7 @@ use crate::words::{is_letter, is_space, name};
 use kt_base::{NoMemory, decimal_up_to, digits_length, is_digit, line_length};
 use std::alloc::Global;
 
-/// The length of a text up to the end of its first `]]`.
+/// Returns the length of `text` up to the end of its first `]]`, in bytes, or `None` without `]]`.
 fn closes(text: &[u8]) -> Option<usize>
     ensures value { result ≡ closes_at text.now }
     ensures within { IfSome result (λ end. end ≤ length text.now) }
@@ -26,6 +26,7 @@ fn closes(text: &[u8]) -> Option<usize>
     None
 }
 
+/// Returns the number of `=` at the beginning of `text`.
 fn equals_length(text: &[u8]) -> usize
     ensures value { result ≡ prefix_len (λ c. c == 61) text.now }
     ensures within { result ≤ length text.now }
@@ -33,7 +34,7 @@ fn equals_length(text: &[u8]) -> usize
     text.iter().take_while(|c| **c == b'=').count()
 }
 
-/// Whether one or more `=` and a `[` come next.
+/// Returns `true` if `text` begins with one or more `=`, followed by `[`.
 fn is_level(text: &[u8]) -> bool
     ensures { result ≡ is_level text.now }
 {
@@ -41,7 +42,7 @@ fn is_level(text: &[u8]) -> bool
     text.starts_with(b"=") && after.starts_with(b"[")
 }
 
-/// The comment at the beginning of a text.
+/// Returns the comment at the beginning of `text`, or a broken token if it is not a comment.
 pub fn comment(text: &[u8]) -> Piece
     ensures { result ≡ comment_at text.now }
 {
@@ -60,6 +61,7 @@ pub fn comment(text: &[u8]) -> Piece
     Piece::broken(text, Flaw::Bad)
 }
 
+/// Returns the number of white space bytes at the beginning of `text`.
 fn space_length(text: &[u8]) -> usize
     ensures value { result ≡ prefix_len is_space text.now }
     ensures within { result ≤ length text.now }
@@ -67,6 +69,7 @@ fn space_length(text: &[u8]) -> usize
     text.iter().take_while(|c| is_space(**c)).count()
 }
 
+/// Returns the punctuation token of the byte `c`, or `None` for another byte.
 fn mark(c: u8) -> Option<Kind>
     ensures { result ≡ mark_of c }
 {
@@ -85,7 +88,9 @@ fn mark(c: u8) -> Option<Kind>
     }
 }
 
-/// The number at the beginning of a text.
+/// Returns the decimal number at the beginning of `text`.
+///
+/// A number above 2^64 - 1, or with a letter after it, is a broken token.
 fn number(text: &[u8]) -> Piece
     ensures { result ≡ number_at text.now }
 {
@@ -100,7 +105,7 @@ fn number(text: &[u8]) -> Piece
     }
 }
 
-/// The piece at the beginning of a text: white space, a comment or a token.
+/// Returns the piece at the beginning of `text`: white space, a comment or a token.
 #[tactic(auto, unfolding(crate::specs::Inner::Tokens::piece_at))]
 pub fn next_piece(alloc: Global, text: &str) -> Result<Piece, NoMemory>
     ensures { IfOk result (λ piece. piece ≡ piece_at text.now) }

@@ -1,4 +1,4 @@
-//! The literal profile of Lua: scripts of calls and assignments with literal values.
+//! A parser for the literal profile of Lua: calls and assignments with literal values.
 #![tactic(auto)]
 
 mod fault;

@@ -1,4 +1,4 @@
-//! The reader of tokens.
+//! The parser: it reads tokens and collects statements.
 
 ghost use Rattle.std.specs.Prelude.{◌≡◌, ℕ, List, [], ◌++◌, IfOk, OnOk, IfErr};
 ghost use Rattle.kt_script.specs.Inner.Automaton.{IsResting};
@@ -10,7 +10,7 @@ use crate::{ScriptFault, Stmt};
 use kt_base::{Items, NoMemory};
 use std::alloc::Global;
 
-/// Updates the lines of the open brackets, the last one at the end.
+/// Updates the lines of the open brackets after a token. The innermost bracket is the last.
 fn follow(brackets: &mut Vec<u32>, line: u32, kind: &Kind) -> Result<(), NoMemory>
     ensures { OnOk result (brackets.new.items ≡ after_bracket brackets.old.items line kind.now) }
 {
@@ -24,17 +24,19 @@ fn follow(brackets: &mut Vec<u32>, line: u32, kind: &Kind) -> Result<(), NoMemor
     Ok(())
 }
 
-/// What was read of a script, but for the place that it led to.
+/// A parser of a script's tokens. Its caller stores the position, a [`Place`].
 #[derive(Drop)]
 pub struct Parser {
-    /// The lines of the brackets that are open.
+    /// The lines of the open brackets, the innermost bracket last.
     brackets: Vec<u32>,
+    /// The complete statements.
     statements: Items<Stmt>,
 }
 
 impl Parser {
     ghost use Rattle.kt_script.specs.Common.{HasRead, IsMisfit, IsWithin, Start, Token, tokens_in};
 
+    /// Creates a parser that has read no token.
     pub fn new(alloc: Global) -> Self
         ensures { HasRead Start result [] }
     {
@@ -44,7 +46,10 @@ impl Parser {
         }
     }
 
-    /// Reads the token of a piece at a place, if the piece is one. Returns the place where it leads.
+    /// Reads a token at `place` and returns the position after the token.
+    ///
+    /// `kind` is the kind of the token. `None` changes nothing. Fails if the grammar does not allow
+    /// the token at `place`.
     pub fn feed(
         &mut self,
         alloc: Global,
@@ -68,7 +73,7 @@ impl Parser {
         }
     }
 
-    /// The statements that were read, if the script may end at this place.
+    /// Returns the statements that were read. Fails if `place` is within a statement.
     pub fn finish(self, place: &Place) -> Result<Items<Stmt>, ScriptFault>
         ensures ok { IfOk result (λ statements. IsResting place.now
             × (statements ≡ self.statements)) }
@@ -82,6 +87,9 @@ impl Parser {
     }
 }
 
+/// Returns the fault of a script that ends within a statement.
+///
+/// `bracket` is the line of the innermost open bracket, and `line` the line of the statement.
 fn end_fault(bracket: Option<u32>, line: u32) -> ScriptFault
     ensures { result ≡ end_fault bracket line }
 {

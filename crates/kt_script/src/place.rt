@@ -1,4 +1,4 @@
-//! The place in a script that the tokens read so far led to.
+//! The position of the parser in the grammar of a script.
 
 ghost use Rattle.std.specs.Prelude.{◌≡◌, ◌++◌, IfOk, OnOk};
 ghost use Rattle.kt_script.specs.Inner.Automaton.{begin, next, place_of, ended_by};
@@ -9,17 +9,17 @@ use crate::token::{Kind, Token};
 use kt_base::{Items, NoMemory};
 use std::alloc::Global;
 
-/// A place in a script.
+/// A position of the parser, between two tokens of a script.
 pub enum Place {
     /// Before a statement.
     Start,
-    /// After a statement; a `;` may follow.
+    /// After a statement. A `;` may follow.
     Whole,
-    /// Within the statement that begins on a line.
+    /// Within the statement that begins on this line.
     Within(u32, State),
 }
 
-/// Written out so that a drop is one call: what a state owns is taken apart here alone.
+/// Not derived, so that the prover handles a drop as one call.
 impl Drop for Place {
     fn drop(self) {
         match self {
@@ -29,7 +29,7 @@ impl Drop for Place {
     }
 }
 
-/// The place after the first token of a statement, if it is a name.
+/// Returns the position after a statement's first token, or `None` if the token is not a name.
 fn begin(line: u32, kind: Kind) -> Option<Place>
     ensures { result ≡ place_of (begin line kind) }
 {
@@ -40,7 +40,9 @@ fn begin(line: u32, kind: Kind) -> Option<Place>
 }
 
 impl Place {
-    /// Where a token leads, or `None` if it doesn't fit. A statement that it ends is appended to the list.
+    /// Returns the position after `token`, or `None` if the grammar does not allow the token here.
+    ///
+    /// Appends a statement to `statements` if the token completes it.
     pub fn next(
         self,
         alloc: Global,

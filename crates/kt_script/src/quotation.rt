@@ -1,4 +1,4 @@
-//! Strings.
+//! String literals.
 
 ghost use Rattle.std.specs.Prelude.{◌≡◌, ℕ, ◌+◌, ◌<◌, ◌≤◌, ◌∷◌, false, length, drop, IfOk};
 ghost use Rattle.kt_script.specs.Common.{IsCharBoundary, prefix_len, is_plain, escape_of, stop_at, escape_at, string_at, decoded, quoted_at};
@@ -7,6 +7,7 @@ use crate::token::{Flaw, Kind, Piece, Stop};
 use kt_base::{NoMemory, Text};
 use std::alloc::Global;
 
+/// Returns the character that a backslash and `c` represent, or `None` for another byte.
 fn escape(c: u8) -> Option<char>
     ensures { result ≡ escape_of c }
 {
@@ -18,7 +19,7 @@ fn escape(c: u8) -> Option<char>
     }
 }
 
-/// How many bytes stand for themselves at the beginning of a text.
+/// Returns the number of bytes before the first quote, newline or backslash in `text`.
 fn plain_length(quote: u8, text: &[u8]) -> usize
     ensures value { result ≡ prefix_len (is_plain quote) text.now }
     ensures within { result ≤ length text.now }
@@ -28,6 +29,7 @@ fn plain_length(quote: u8, text: &[u8]) -> usize
         .count()
 }
 
+/// Returns the stop at the beginning of `text`, where the plain bytes of a string end.
 fn next_stop(quote: u8, text: &[u8]) -> Stop
     ensures { result ≡ stop_at quote text.now }
 {
@@ -46,7 +48,9 @@ fn next_stop(quote: u8, text: &[u8]) -> Stop
     }
 }
 
-/// The text of a string after its first quote, and how many bytes it takes, including its last quote.
+/// Decodes a string after its first quote.
+///
+/// Returns its characters and its length in bytes, with the last quote.
 fn string(alloc: Global, quote: u8, text: &str) -> Result<Result<(Text, usize), Flaw>, NoMemory>
     requires { quote < 128 }
     ensures value { IfOk result (λ read. read ≡ decoded (string_at quote false text.now)) }
@@ -68,7 +72,9 @@ fn string(alloc: Global, quote: u8, text: &str) -> Result<Result<(Text, usize), 
     }
 }
 
-/// The string at the beginning of a text, where this quote stands.
+/// Returns the string at the beginning of `text`, whose first byte is `quote`.
+///
+/// A string that is not closed, or has an unknown escape, is a broken token.
 pub fn quoted(alloc: Global, quote: u8, text: &str) -> Result<Piece, NoMemory>
     requires first { text.now ≡ quote ∷ drop 1 text.now }
     requires small { quote < 128 }

@@ -1,4 +1,4 @@
-//! The reading of a script.
+//! The function that parses a script, and its theorems.
 
 ghost use Rattle.std.specs.Prelude.{◌≡◌, ◌+◌, ◌≤◌, ◌<◌, ◌^◌, ◌++◌, List, length, IfOk, Result};
 ghost use Rattle.kt_script.specs.Common.{IfFault, IsFaultOf, Script, tokens, line_past, IsTokens, limit, Spells, IsDue, Answers, Refuses, IsAnswer, ScriptFault, Stmt, Token};
@@ -10,10 +10,10 @@ use crate::{ScriptFault, Stmt};
 use kt_base::Items;
 use std::alloc::Global;
 
-/// The greatest length of a script, in bytes.
+/// The maximum length of a script, in bytes.
 const LIMIT: usize = 1_048_576;
 
-/// The line after some bytes.
+/// Returns the line after `text`, which begins on line `from`.
 fn line_past(from: u32, text: &[u8]) -> u32
     requires { from + length text.now < 2 ^ 32 }
     ensures value { result ≡ line_past from text.now }
@@ -28,6 +28,7 @@ fn line_past(from: u32, text: &[u8]) -> u32
     line
 }
 
+/// Parses `text`, which has at most `LIMIT` bytes, as a list of statements.
 fn statements(alloc: Global, text: &str) -> Result<Items<Stmt>, ScriptFault>
     requires { length text.now ≤ limit }
     ensures ok { IfOk result (λ stmts. Script (tokens 1 0 text.now) stmts) }
@@ -47,15 +48,27 @@ fn statements(alloc: Global, text: &str) -> Result<Items<Stmt>, ScriptFault>
     parser.finish(&place)
 }
 
-/// The statements that a text spells: calls and assignments of Lua whose values are written out (kyuafile(5)).
+/// Parses `text` as a list of statements: Lua calls and assignments of literals (kyuafile(5)).
+///
+/// # Errors
+///
+/// - `TooLong`: the text has more than 1,048,576 bytes.
+/// - `NotUtf8`: the text is not UTF-8.
+/// - `BadToken`: the first token that no script allows is a byte, a number or an escape outside the
+///   profile.
+/// - `NotLiteral`: the first token that no script allows is another token, or the text ends within
+///   a statement and outside brackets.
+/// - `Unclosed`: the first token that no script allows is a string or a comment that is not closed,
+///   or the text ends inside a bracket.
+/// - `NoMemory`: an allocation fails.
 pub fn parse(alloc: Global, text: &[u8]) -> Result<Items<Stmt>, ScriptFault>
-    // An accepted text spells these statements.
+    // On success, the text spells the returned statements.
     ensures accepted { IfOk result (λ stmts. Spells text.now stmts) }
-    // A text that spells statements is accepted, unless memory runs out.
+    // A text that spells statements is accepted, unless an allocation fails.
     ensures only { (stmts : List Stmt) → Spells text.now stmts → Answers result stmts }
-    // A text that is refused, unless memory ran out, has this fault.
+    // On another error than a failed allocation, the text has the returned fault.
     ensures refused { IfFault result (λ fault. IsDue text.now fault) }
-    // A text with a fault is refused for it, unless memory runs out.
+    // A text with a fault is rejected with that fault, unless an allocation fails.
     ensures due { (fault : ScriptFault) → IsDue text.now fault → Refuses result fault }
 {
     if text.len() > LIMIT {
@@ -67,7 +80,7 @@ pub fn parse(alloc: Global, text: &[u8]) -> Result<Items<Stmt>, ScriptFault>
     statements(alloc, text)
 }
 
-/// Each text has exactly one answer: its statements or its fault.
+/// Theorem: each text has exactly one result: its statements or its fault.
 pub fn law_of_one_answer(text: &[u8])
     ensures some { (answer : Result (List Stmt) ScriptFault) × IsAnswer text.now answer }
     ensures one { (a b : Result (List Stmt) ScriptFault) → IsAnswer text.now a → IsAnswer text.now b
@@ -76,7 +89,7 @@ pub fn law_of_one_answer(text: &[u8])
     let _ = text;
 }
 
-/// Each text has exactly one list of tokens.
+/// Theorem: each text has exactly one list of tokens.
 pub fn law_of_tokens(text: &[u8])
     ensures some { (tokens : List Token) × IsTokens 1 text.now tokens }
     ensures one { (a b : List Token) → IsTokens 1 text.now a → IsTokens 1 text.now b → a ≡ b }

@@ -1,4 +1,4 @@
-//! How far a statement was read, and where each token leads.
+//! The states of the parser within a statement, and the transitions between them.
 
 ghost use Rattle.std.specs.Prelude.{◌≡◌, [], ◌∷◌, ◌++◌, IfOk};
 ghost use Rattle.kt_script.specs.Inner.Automaton.{closed, step, value_of};
@@ -8,28 +8,31 @@ use crate::{Action, Arg, Literal, Pair};
 use kt_base::{Items, NoMemory, Text};
 use std::alloc::Global;
 
-/// A call's table as far as it was read.
+/// A call's table, up to the last token read.
 #[derive(Drop)]
 pub struct Table {
+    /// The name of the function that is called.
     pub name: Text,
+    /// `true` if the table is in parentheses.
     pub in_parens: bool,
+    /// The pairs read so far.
     pub pairs: Items<Pair>,
 }
 
-/// What was read last of a statement.
+/// A state of the parser within a statement: the tokens read last.
 #[derive(Drop)]
 pub enum State {
     /// The first name of a statement.
     Named(Text),
     /// A name and `(`.
     Opened(Text),
-    /// A call up to its `)`.
+    /// A call, before its `)`.
     Closing(Action),
     /// The `{` of a table, or a separator in it.
     Pairs(Table),
     /// The `[` of a key.
     KeyOpened(Table),
-    /// The `[` of a key, and its text.
+    /// The `[` of a key, and its string.
     KeyQuoted(Table, Text),
     /// A key.
     Keyed(Table, Text),
@@ -41,24 +44,25 @@ pub enum State {
     Dotted(Items<Text>),
     /// A path and `[`.
     PathOpened(Items<Text>),
-    /// A path up to a `]`.
+    /// A path, before the `]` of its last part.
     PathQuoted(Items<Text>),
-    /// A path of two parts or more.
+    /// A path of at least two parts.
     Path(Items<Text>),
     /// A path and `=`.
     PathEquals(Items<Text>),
 }
 
-/// Where a token leads.
+/// A transition within a statement.
 #[derive(Drop)]
 pub enum Step {
+    /// The statement continues in this state.
     To(State),
-    /// The statement is whole.
+    /// The statement is complete.
     Ends(Action),
 }
 
 impl State {
-    /// Where a token leads, or `None` if it doesn't fit.
+    /// Returns the transition by a token, or `None` if the grammar does not allow the token here.
     pub fn step(self, alloc: Global, kind: Kind) -> Result<Option<Step>, NoMemory>
         ensures { IfOk result (λ to. to ≡ step self kind) }
     {
@@ -124,6 +128,7 @@ impl State {
     }
 }
 
+/// Returns the literal that a token represents, or `None` if the token is not a literal.
 fn value(kind: Kind) -> Option<Literal>
     ensures { result ≡ value_of kind }
 {
@@ -135,7 +140,7 @@ fn value(kind: Kind) -> Option<Literal>
     }
 }
 
-/// A path of one part.
+/// Creates a path of one part.
 fn single(alloc: Global, name: Text) -> Result<Items<Text>, NoMemory>
     ensures { IfOk result (λ path. path ≡ name ∷ []) }
 {
@@ -145,6 +150,7 @@ fn single(alloc: Global, name: Text) -> Result<Items<Text>, NoMemory>
 }
 
 impl Table {
+    /// Creates a table without pairs.
     fn new(alloc: Global, name: Text, in_parens: bool) -> Table
         ensures { result ≡ record { name = name; in_parens = in_parens; pairs = [] } }
     {
@@ -155,7 +161,7 @@ impl Table {
         }
     }
 
-    /// Where the `}` leads.
+    /// Returns the transition by the `}` that closes the table.
     fn close(self) -> Step
         ensures { result ≡ closed self }
     {

@@ -6,7 +6,7 @@ use std::alloc::Global;
 /// A literal value: a string, a number or a truth value (kyuafile(5)).
 #[derive(Drop)]
 pub enum Literal {
-    /// The characters of a string, its escapes replaced.
+    /// A string, with its escapes replaced.
     Text(Text),
     /// A decimal number, 0 to 2^64 - 1.
     Number(u64),
@@ -17,7 +17,13 @@ pub enum Literal {
 impl Literal {
     ghost use Rattle.kt_script.specs.LiteralText.{text_of};
 
-    /// The value as a property's text (this profile): `007` is `7`, and a truth value is its word.
+    /// Returns the value as the text of a property (this profile).
+    ///
+    /// A number is decimal without leading zeros: `007` is `7`. A truth value is `true` or `false`.
+    ///
+    /// # Errors
+    ///
+    /// - `NoMemory`: the allocation fails.
     pub fn text(&self, alloc: Global) -> Result<Text, NoMemory>
         ensures { IfOk result (λ text. text ≡ text_of self.now) }
     {
@@ -30,34 +36,38 @@ impl Literal {
     }
 }
 
-/// A pair of a table.
+/// A pair of a table: a name with its value.
 #[derive(Drop)]
 pub struct Pair {
+    /// The name, written as `name` or `["name"]`.
     pub name: Text,
+    /// The value of the name.
     pub value: Literal,
 }
 
-/// The argument of a call.
+/// An argument of a call.
 #[derive(Drop)]
 pub enum Arg {
+    /// A literal value.
     Value(Literal),
-    /// The pairs in the order of the text. A name may occur several times.
+    /// A table: its pairs in the order of the text. A name may occur several times.
     Table(Items<Pair>),
 }
 
-/// What a statement does.
+/// An action of a statement: a call or an assignment.
 #[derive(Drop)]
 pub enum Action {
-    /// A function's name and its one argument.
+    /// A call: the function's name and its only argument.
     Call(Text, Arg),
-    /// The parts of a path, one or more, and its new value.
+    /// An assignment: the parts of a path, at least one, and the new value.
     Assign(Items<Text>, Literal),
 }
 
-/// A statement.
+/// A statement of a script.
 #[derive(Drop)]
 pub struct Stmt {
-    /// The line on which it begins, counted from 1.
+    /// The line on which the statement begins, counted from 1.
     pub line: u32,
+    /// The call or assignment.
     pub action: Action,
 }

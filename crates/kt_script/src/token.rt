@@ -3,18 +3,18 @@ ghost use Rattle.std.specs.Prelude.{◌≡◌, ℕ, length};
 use crate::ScriptFault;
 use kt_base::Text;
 
-/// What is wrong with a token by itself.
+/// A flaw of a broken token.
 #[derive(Clone, Copy)]
 pub enum Flaw {
-    /// Not a token of the profile.
+    /// A byte, a number or an escape that is not in this profile.
     Bad,
-    /// A long bracket with a level.
+    /// A comment in long brackets with a level, such as `--[=[`.
     Leveled,
-    /// A string or a comment that isn't closed.
+    /// A string or a comment that is not closed.
     Endless,
 }
 
-/// What a token is.
+/// A kind of token, with its value.
 #[derive(Drop)]
 pub enum Kind {
     Name(Text),
@@ -31,21 +31,23 @@ pub enum Kind {
     Comma,
     Semicolon,
     Dot,
-    /// Not a token of a script: no rule of the grammar mentions it.
+    /// A broken token. The grammar does not allow it anywhere.
     Broken(Flaw),
 }
 
-/// A token with the line on which it begins.
+/// A token of a script, with its line.
 #[derive(Drop)]
 pub struct Token {
+    /// The line on which the token begins, counted from 1.
     pub line: u32,
+    /// The kind of the token.
     pub kind: Kind,
 }
 
 impl Token {
     ghost use Rattle.kt_script.specs.Faults.{fault_of};
 
-    /// The fault of a script in which the token doesn't fit.
+    /// Returns the fault of a script whose grammar does not allow the token.
     pub fn fault(&self) -> ScriptFault
         ensures { result ≡ fault_of self.now }
     {
@@ -57,22 +59,26 @@ impl Token {
     }
 }
 
-/// The beginning of a text: its length in bytes, and its token, if it is one.
+/// A piece of a text: white space, a comment or a token.
 #[derive(Drop)]
 pub struct Piece {
+    /// The length in bytes.
     pub length: usize,
+    /// The kind of a token, or `None` for white space and comments.
     pub kind: Option<Kind>,
 }
 
 impl Piece {
     ghost use Rattle.kt_script.specs.Inner.Pieces.{blank, token, broken};
 
+    /// Creates a piece of `length` bytes that is not a token.
     pub fn blank(length: usize) -> Piece
         ensures { result ≡ blank length }
     {
         Piece { length, kind: None }
     }
 
+    /// Creates a token of `length` bytes.
     pub fn token(length: usize, kind: Kind) -> Piece
         ensures { result ≡ token length kind }
     {
@@ -82,7 +88,7 @@ impl Piece {
         }
     }
 
-    /// A token that can't be read. It takes the rest of the text.
+    /// Creates a broken token that extends to the end of `text`.
     pub fn broken(text: &[u8], flaw: Flaw) -> Piece
         ensures { result ≡ broken text.now flaw }
     {
@@ -90,12 +96,13 @@ impl Piece {
     }
 }
 
-/// What ends a run of bytes that stand for themselves.
+/// An end of the plain bytes in a string.
 #[derive(Drop)]
 pub(crate) enum Stop {
     /// The string's last quote.
     Quote,
-    /// A backslash and the byte after it, which stand for this character.
+    /// A backslash and the byte after it, which represent this character.
     Escape(char),
+    /// The end of a string that is not closed, or an unknown escape.
     Flawed(Flaw),
 }

@@ -1,4 +1,4 @@
-//! Names, and the bytes of words and white space.
+//! Names, truth values and the classes of their bytes.
 
 ghost use Rattle.std.specs.Prelude.{◌≡◌, ◌≤◌, length, IfOk};
 ghost use Rattle.kt_script.specs.Common.{prefix_len, is_letter, is_word, word, name_at, is_space};
@@ -7,24 +7,28 @@ use crate::token::{Kind, Piece};
 use kt_base::{NoMemory, Text, is_digit};
 use std::alloc::Global;
 
+/// Returns `true` if the byte `c` is white space: the space, or one of the bytes 9 to 13.
 pub fn is_space(c: u8) -> bool
     ensures { result ≡ is_space c }
 {
     matches!(c, b' ' | b'\t'..=b'\r')
 }
 
+/// Returns `true` if the byte `c` is an ASCII letter or an underscore.
 pub fn is_letter(c: u8) -> bool
     ensures { result ≡ is_letter c }
 {
     matches!(c, b'a'..=b'z' | b'A'..=b'Z' | b'_')
 }
 
+/// Returns `true` if the byte `c` is a letter, an underscore or a digit.
 fn is_word(c: u8) -> bool
     ensures { result ≡ is_word c }
 {
     is_letter(c) || is_digit(c)
 }
 
+/// Returns the number of letters, underscores and digits at the beginning of `text`.
 fn word_length(text: &[u8]) -> usize
     ensures value { result ≡ prefix_len is_word text.now }
     ensures within { result ≤ length text.now }
@@ -32,6 +36,7 @@ fn word_length(text: &[u8]) -> usize
     text.iter().take_while(|c| is_word(**c)).count()
 }
 
+/// Creates the token of `letters`: a truth value for `true` and `false`, otherwise a name.
 fn word(alloc: Global, letters: &str) -> Result<Kind, NoMemory>
     ensures { IfOk result (λ kind. kind ≡ word letters.now) }
 {
@@ -44,7 +49,7 @@ fn word(alloc: Global, letters: &str) -> Result<Kind, NoMemory>
     Ok(Kind::Name(Text::from_str(alloc, letters)?))
 }
 
-/// The name or truth value at the beginning of a text.
+/// Returns the name or truth value at the beginning of `text`.
 pub fn name(alloc: Global, text: &str) -> Result<Piece, NoMemory>
     ensures { IfOk result (λ piece. piece ≡ name_at text.now) }
 {

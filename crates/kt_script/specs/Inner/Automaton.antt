@@ -1,4 +1,4 @@
--- Where each token leads from each place in a script, with one token in hand.
+-- The transitions of the parser, by one token at a time.
 use Rattle.std.specs.Prelude.{◌≡◌, ℕ, true, false, List, [], ◌∷◌, ◌++◌, Option, Some, None, if◌then◌else◌, option_map, option_and_then}
 use Rattle.std.specs.Option.{option_to_list}
 use Rattle.kt_script.specs.Types.{Assign, Call, CloseBrace, CloseBracket, CloseParen, Comma, Dot, Equals, Kind, Literal, Name, Number, OpenBrace, OpenBracket, OpenParen, Place, Quoted, Semicolon, Start, Stmt, Token, Truth, Whole, Within}
@@ -11,22 +11,22 @@ use Rattle.kt_script.specs.declared.state.State.TheVariants.{Named, Opened, Clos
 use Rattle.kt_script.specs.declared.state.Step.{Step}
 use Rattle.kt_script.specs.declared.state.Step.TheVariants.{To, Ends}
 
--- the literal that a token is, if it is one
+-- `value_of kind`: the literal that a token of `kind` represents, or nothing.
 abbrev pub value_of : Kind → Option Literal
 value_of (Quoted t) = Some (literal.Text t)
 value_of (Number n) = Some (literal.Number n)
 value_of (Truth b) = Some (literal.Truth b)
 value_of _ = None
 
--- what the brace at its end makes of a table
+-- `closed t`: the transition by the brace that closes the table `t`.
 abbrev pub closed : Table → Step
 closed t = if t.in_parens then To (Closing (Call t.name (arg.Table t.pairs))) else Ends (Call t.name (arg.Table t.pairs))
 
--- a table with one pair more
+-- `with_pair t key v`: the table `t` with the pair of `key` and `v` appended.
 abbrev pub with_pair : Table → List ℕ → Literal → Table
 with_pair t key v = record t { pairs = t.pairs ++ pair key v ∷ [] }
 
--- where a token leads within a statement, by what was read last of it
+-- `step q kind`: the transition by a token of `kind` in the state `q`, or nothing.
 abbrev pub step : State → Kind → Option Step
 step (Named n) (Quoted t) = Some (Ends (Call n (arg.Value (literal.Text t))))
 step (Named n) OpenParen = Some (To (Opened n))
@@ -58,47 +58,51 @@ step (Path path) Equals = Some (To (PathEquals path))
 step (PathEquals path) k = option_map (λ v. Ends (Assign path v)) (value_of k)
 step _ _ = None
 
--- where a token leads before any statement
+-- `begin line kind`: the transition by a token of `kind` on `line` before a statement.
 abbrev pub begin : ℕ → Kind → Option (Place × Option Stmt)
 begin line (Name n) = Some (Within line (Named n), None)
 begin line _ = None
 
--- A semicolon may follow a statement.
+-- `go_on line kind`: the transition by a token of `kind` on `line` after a statement. A semicolon
+-- may follow.
 abbrev pub go_on : ℕ → Kind → Option (Place × Option Stmt)
 go_on line Semicolon = Some (Start, None)
 go_on line kind = begin line kind
 
--- where a step leads, and the statement that it ends
+-- `landed line s`: the position after the step `s` in the statement on `line`, and the statement
+-- that it completes.
 abbrev pub landed : ℕ → Step → Place × Option Stmt
 landed line (To q) = (Within line q, None)
 landed line (Ends a) = (Whole, Some (record { line = line; action = a }))
 
--- where a token leads, and the statement that it ends
+-- `next p t`: the position after the token `t` at the position `p`, and the statement that `t`
+-- completes.
 abbrev pub next : Place → Token → Option (Place × Option Stmt)
 next Start t = begin t.line t.kind
 next Whole t = go_on t.line t.kind
 next (Within line q) t = option_map (landed line) (step q t.kind)
 
--- where a token leads
+-- `place_of to`: the position after the transition `to`.
 abbrev pub place_of : Option (Place × Option Stmt) → Option Place
 place_of to = option_map (λ x. x.0) to
 
--- the statement that it ends
+-- `ended_by to`: the statement that the transition `to` completes, or no statement.
 abbrev pub ended_by : Option (Place × Option Stmt) → List Stmt
 ended_by None = []
 ended_by (Some to) = option_to_list to.1
 
--- where tokens lead, and the statements that they end
+-- `run p ts`: the position after the tokens `ts` from the position `p`, and the statements that
+-- they complete.
 abbrev pub run : Place → List Token → Option (Place × List Stmt)
 run p [] = Some (p, [])
 run p (t ∷ ts) = option_and_then (λ to. option_map (λ end. (end.0, option_to_list to.1 ++ end.1)) (run to.0 ts)) (next p t)
 
--- within the statement that begins on this line
+-- `IsWithin p line`: the position `p` is within the statement that begins on `line`.
 abbrev pub IsWithin : Place → ℕ → Type 0
 IsWithin (Within line q) n = line ≡ n
 IsWithin _ n = ⊥
 
--- between two statements
+-- `IsResting p`: the position `p` is not within a statement.
 abbrev pub IsResting : Place → Type 0
 IsResting Start = Unit {0}
 IsResting Whole = Unit {0}

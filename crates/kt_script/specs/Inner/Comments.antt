@@ -6,17 +6,19 @@ use Rattle.kt_base.specs.Lines.{is_newline}
 use Rattle.kt_script.specs.TokenRules.{is_level}
 use Rattle.kt_script.specs.Inner.Pieces.{blank, broken}
 
--- how many bytes there are up to the next `]]`, and with it
+-- `closes_at text`: the number of bytes up to the end of the first `]]`, or nothing.
 abbrev pub closes_at : List ℕ → Option ℕ
 closes_at [] = None
 closes_at (c ∷ cs) = if starts_with nat_eq (c ∷ cs) (codes "]]") then Some 2 else option_map suc (closes_at cs)
 
--- a comment in long brackets
+-- `long_comment text n`: the comment in long brackets at the beginning of `text`, whose content has
+-- `n` bytes with its `]]`.
 abbrev pub long_comment : List ℕ → Option ℕ → Piece
 long_comment text None = broken text Endless
 long_comment text (Some n) = blank (n + 4)
 
--- a comment that may be one of several lines, or goes to its line's end, which may be the text's
+-- `comment_at text`: the comment at the beginning of `text`, in long brackets or to the end of its
+-- line.
 abbrev pub comment_at : List ℕ → Piece
 comment_at text =
     if starts_with nat_eq text (codes "--[[") then long_comment text (closes_at (drop 4 text))

@@ -1,15 +1,15 @@
--- White space, comments and tokens, as pieces of a text's bytes.
+-- The pieces of a text: white space, comments and tokens.
 use Rattle.std.specs.Prelude.{ℕ, List, length, Some, None}
 use Rattle.kt_script.specs.Types.{Broken, Flaw, Kind, Piece}
 
--- n bytes that are not a token
+-- `blank n`: a piece of `n` bytes that is not a token.
 abbrev pub blank : ℕ → Piece
 blank n = record { length = n; kind = None }
 
--- n bytes that are a token
+-- `token n kind`: a token of `n` bytes and of this `kind`.
 abbrev pub token : ℕ → Kind → Piece
 token n kind = record { length = n; kind = Some kind }
 
--- a token that can't be read takes the rest of the text
+-- `broken text flaw`: a broken token, which extends to the end of `text`.
 abbrev pub broken : List ℕ → Flaw → Piece
 broken text flaw = token (length text) (Broken flaw)

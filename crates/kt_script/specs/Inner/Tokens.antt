@@ -11,12 +11,12 @@ use Rattle.kt_script.specs.Inner.Words.{name_at, number_at}
 use Rattle.kt_script.specs.Inner.Strings.{quoted_at}
 use Rattle.kt_script.specs.Inner.Comments.{comment_at}
 
--- the token of a mark, if the byte is one
+-- `marked text kind`: a punctuation token of `kind`. Without `kind`, a broken token.
 abbrev pub marked : List ℕ → Option Kind → Piece
 marked text None = broken text Bad
 marked text (Some kind) = token 1 kind
 
--- what begins here
+-- `piece_at text`: the piece at the beginning of `text`.
 unfoldable pub piece_at : List ℕ → Piece
 piece_at [] = blank 0
 piece_at (c ∷ cs) =
@@ -27,12 +27,13 @@ piece_at (c ∷ cs) =
     else if c == 45 then comment_at (c ∷ cs)
     else marked (c ∷ cs) (mark_of c)
 
--- the token of a piece, if it is one
+-- `tokens_in line kind`: the token of `kind` on `line`, or no token.
 abbrev pub tokens_in : ℕ → Option Kind → List Token
 tokens_in line None = []
 tokens_in line (Some kind) = record { line = line; kind = kind } ∷ []
 
--- the tokens of a text that begins on this line, where its first n bytes belong to the piece before
+-- `tokens line n text`: the tokens of `text`, which begins on `line`. Its first `n` bytes belong to
+-- the piece before.
 unfoldable pub tokens : ℕ → ℕ → List ℕ → List Token
 tokens line n [] = []
 tokens line zero (c ∷ cs) = let piece = piece_at (c ∷ cs) in tokens_in line piece.kind ++ tokens (line_after line c) (piece.length - 1) cs

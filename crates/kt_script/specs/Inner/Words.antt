@@ -7,20 +7,21 @@ use Rattle.kt_base.specs.Digits.{is_digit, decimal_from, fits}
 use Rattle.kt_script.specs.TokenRules.{word}
 use Rattle.kt_script.specs.Inner.Pieces.{token, broken}
 
--- the longest name that the text begins with
+-- `name_at text`: the longest name at the beginning of `text`, or a truth value.
 abbrev pub name_at : List ℕ → Piece
 name_at text = token (prefix_len is_word text) (word (take (prefix_len is_word text) text))
 
--- whether a letter is next
+-- `begins_with_letter text`: `text` begins with a letter or an underscore.
 abbrev pub begins_with_letter : List ℕ → Bool
 begins_with_letter [] = false
 begins_with_letter (c ∷ cs) = is_letter c
 
--- a number of n digits, unless a letter follows directly or it is too large
+-- `number text n lettered v`: the number `v` of `n` digits. A broken token if a letter follows or
+-- the number is too large.
 abbrev pub number : List ℕ → ℕ → Bool → Option ℕ → Piece
 number text n false (Some v) = token n (Number v)
 number text n lettered v = broken text Bad
 
--- the longest number that the text begins with
+-- `number_at text`: the longest number at the beginning of `text`.
 abbrev pub number_at : List ℕ → Piece
 number_at text = let n = prefix_len is_digit text in number text n (begins_with_letter (drop n text)) (fits (decimal_from 0 (take n text)))
