@@ -1,4 +1,4 @@
--- A definition more.
+-- The values of a configuration after another definition.
 use Rattle.std.proofs.Common.{◌≡◌, ℕ, Bool, true, false, List, [], ◌∷◌, ◌++◌, refl, sym, ap, ◌∙◌, subst, Option, Some, None, append-nil, append_assoc, unwrap_or}
 use Rattle.kt_config.proofs.Common.{bytes_eq, Variable, last_values, same, Definition, Group, Values, variables_of, architecture_in, platform_in, parallelism_in, variable_for, last_given, given_to, if_any, Adds, AddsToSuite}
 use Rattle.std.specs.Option.{option_or}
@@ -13,12 +13,13 @@ or-or : {A : Type 0} (a b c : Option A) → option_or (option_or a b) c ≡ opti
 or-or None b c = refl
 or-or (Some x) b c = refl
 
--- the last value with a definition more
+-- the last value after an appended definition is the value of that definition, or else the last
+-- value before
 last_given-push : {A : Type 0} (given : Definition → Option A) (xs : List Definition) (d : Definition) → last_given given (xs ++ d ∷ []) ≡ option_or (given d) (last_given given xs)
 last_given-push given [] d = sym (or-none (given d))
 last_given-push given (x ∷ xs) d = ap (λ o. option_or o (given x)) (last_given-push given xs d) ∙ or-or (given d) (last_given given xs) (given x)
 
--- a suite's variables with a definition more
+-- an appended definition appends its variable to the variables of its suite
 given_to-push : (suite : List ℕ) (xs : List Definition) (d : Definition) → given_to suite (xs ++ d ∷ []) ≡ given_to suite xs ++ variable_for suite d
 given_to-push suite [] d = append-nil (variable_for suite d)
 given_to-push suite (x ∷ xs) d =
@@ -28,12 +29,13 @@ unwrap-or : {A : Type 0} (a b : Option A) (x : A) → unwrap_or a (unwrap_or b x
 unwrap-or None b x = refl
 unwrap-or (Some y) b x = refl
 
--- what a definition does to the suites
+-- `AddsToEach d old new`: each suite of `new` has its variables of `old` with those of `d` added
 abbrev pub AddsToEach : Definition → List Group → List Group → Type 0
 AddsToEach d old new = (suite : List ℕ) → (before : List Definition) → variables_of suite old ≡ if_any (last_values (given_to suite before))
     → variables_of suite new ≡ if_any (last_values (given_to suite (before ++ d ∷ [])))
 
--- a definition of the runner's own variables, or of a suite's
+-- a configuration whose values and suites are updated by `d` is the old configuration with `d`
+-- added
 pub adds : (d : Definition) (old new : Values) → new.architecture ≡ option_or (architecture_in d) old.architecture → new.platform ≡ option_or (platform_in d) old.platform
     → new.parallelism ≡ unwrap_or (parallelism_in d) old.parallelism → AddsToEach d old.suites new.suites → Adds d old new
 adds d old new a p w s = λ before h. record {
@@ -44,7 +46,7 @@ adds d old new a p w s = λ before h. record {
   suites = λ suite. s suite before (h.suites suite);
 }
 
--- no suite has one more
+-- a definition without a suite's variable leaves each suite unchanged
 pub adds-none : (d : Definition) (old new : List Group) → new ≡ old → ((suite : List ℕ) → variable_for suite d ≡ []) → AddsToEach d old new
 adds-none d old new e none = λ suite before h.
     ap (variables_of suite) e ∙ h
@@ -58,7 +60,7 @@ some-any : (xs : List Variable) (v : Variable) → Some (last_values (xs ++ v �
 some-any [] v = refl
 some-any (x ∷ xs) v = refl
 
--- one suite has one more
+-- a definition of a suite's variable adds the variable to that suite
 to-suite : (owner : List ℕ) (v : Variable) (old new : List Group) → AddsToSuite owner v old new → (suite : List ℕ) (before : List Definition)
     → variables_of suite old ≡ if_any (last_values (given_to suite before)) → (b : Bool) → bytes_eq suite owner ≡ b
     → variables_of suite new ≡ if_any (last_values (given_to suite before ++ variable_for suite (OfSuite owner v)))

@@ -1,4 +1,4 @@
--- A file's values, or its one fault.
+-- The values of a file, or its only fault.
 use Rattle.std.proofs.Common.{Result, Ok, Err, IfOk, ◌≡◌, ℕ, List, [], ◌∷◌, ◌++◌, refl, sym, ap, ◌∙◌, subst, inl, inr, append-nil, append_assoc}
 use Rattle.kt_config.proofs.Common.{ScriptFault, Stmt, Spells, Definition, Values, Holds, Adds, Becomes, Outcome, with_first, with_meaning, meaning_of, definitions_in, outcome_of, IsDue, IsRead, IfFault, Answers, Refuses, Gives, fault_of_script}
 use Rattle.kt_script.specs.Spelling.{IsDue as IsScriptDue, Answers as ScriptAnswers, Refuses as ScriptRefuses}
@@ -10,12 +10,12 @@ use Rattle.kt_script.proofs.OneAnswer.{two_spelled, not_both}
 
 -- ---- statement by statement
 
--- definitions in front of those of the rest
+-- `behind before outcome`: `outcome` with the definitions `before` prepended
 abbrev pub behind : List Definition → Outcome → Outcome
 behind before (Ok definitions) = Ok (before ++ definitions)
 behind before (Err fault) = Err fault
 
--- a configuration has the values of the statements that were read
+-- `HasRead config stmts rest`: `config` has the values of the statements of `stmts` before `rest`
 pub record HasRead (config : Values) (stmts rest : List Stmt) : Type 0 where
   pub before : List Definition
   pub holds : Holds config before
@@ -47,12 +47,12 @@ next_by : (config next : Values) (stmts rest after : List Stmt) (stmt : Stmt) (m
 next_by config next stmts rest after stmt (Ok d) r parts m adds = one_read config next stmts rest after stmt d r parts m adds
 next_by config next stmts rest after stmt (Err fault) r parts m adds = absurd adds
 
--- one more
+-- `HasRead` is preserved by adding the definition of the next statement
 pub next_read : (config next : Values) (stmts rest after : List Stmt) (stmt : Stmt) → HasRead config stmts rest → rest ≡ stmt ∷ after
     → Becomes config next (meaning_of stmt.action) → HasRead next stmts after
 next_read config next stmts rest after stmt r parts adds = next_by config next stmts rest after stmt (meaning_of stmt.action) r parts refl adds
 
--- a fault
+-- the fault of the next statement is the fault of all statements
 pub fault_read : (config : Values) (stmts rest after : List Stmt) (stmt : Stmt) (fault : ConfigFault) → HasRead config stmts rest → rest ≡ stmt ∷ after
     → meaning_of stmt.action ≡ Err fault → Gives (Err fault) (definitions_in stmts)
 fault_read config stmts rest after stmt fault r parts m =
@@ -61,7 +61,7 @@ fault_read config stmts rest after stmt fault r parts m =
     ∙ ap (λ (meaning : Meaning). behind r.before (with_meaning meaning (definitions_in after))) m in
     subst (λ (o : Outcome). Gives (Err fault) o) (sym e) refl
 
--- the end
+-- at the end, the configuration has the values of all statements
 pub all_read : (config : Values) (stmts rest : List Stmt) → HasRead config stmts rest → rest ≡ [] → Gives (Ok config) (definitions_in stmts)
 all_read config stmts rest r end =
     let e : definitions_in stmts ≡ Ok r.before
@@ -136,7 +136,7 @@ pub right_due : (text : List ℕ) (stmts : List Stmt) → Spells text stmts → 
 right_due text stmts s r g fault (inl d) = absurd (not_both text stmts d.0 s d.1)
 right_due text stmts s r g fault (inr d) = due_cases r (outcome_of stmts) fault g (ap outcome_of (two_spelled text stmts d.0 s d.1) ∙ d.2)
 
--- ---- a file that is no script
+-- ---- a file that is not a script
 
 by_cause : (text : List ℕ) (cause : ScriptFault) (fault : ConfigFault) → ((f : ScriptFault) → IsScriptDue text f → cause ≡ f) → ((stmts : List Stmt) → Spells text stmts → ⊥) → IsDue text fault → Script cause ≡ fault
 by_cause text cause fault due none (inl d) = ap Script (due d.0 d.1) ∙ sym d.2

@@ -1,4 +1,4 @@
--- The names that most proofs of this crate cite, passed on from one place. Declares nothing.
+-- Exports the names that most proofs of this crate cite. Declares nothing.
 pub use Rattle.std.specs.Str.{IsUtf8, bytes_eq}
 unfoldable pub use Rattle.std.specs.Str.{chars}
 pub use Rattle.std.specs.String.{string_bytes, string_eq}

@@ -1,4 +1,4 @@
--- The entries of maps whose keys are strings, as variables and as suites.
+-- The entries of maps with string keys, as variables and as suites.
 use Rattle.std.proofs.Common.{◌≡◌, ℕ, Bool, true, false, List, [], ◌∷◌, ◌++◌, refl, sym, ap, ◌∙◌, subst, map, Option, Some, None, unwrap_or, if◌then◌else◌}
 use Rattle.kt_config.proofs.Common.{chars, bytes_eq, IsUtf8, string_bytes, string_eq, insert_entry, Variable, is_named, last_values, same, same-refl, AddsToSuite, group_in, Group, variables_of, variable_in}
 use Rattle.std.specs.declared.string.String.{String}
@@ -16,7 +16,7 @@ inserted-next : {Z : Type 0} (k : String Z) (v : List ℕ) (e : String Z × List
 inserted-next k v e es h true t n = rw (t, n) refl
 inserted-next k v e es h false t n = rw (t, n) (ap (λ (ps : List Variable). variable_in e ∷ ps) h)
 
--- a variable that is inserted
+-- inserting an entry into the map is `put` of its variable
 pub inserted : {Z : Type 0} (k : String Z) (v : List ℕ) (es : List (String Z × List ℕ)) → map variable_in (insert_entry string_eq es k v) ≡ put (map variable_in es) (variable_in (k, v))
 inserted k v [] = refl
 inserted k v (e ∷ es) =
@@ -29,7 +29,7 @@ found-next : {Z : Type 0} (q : List ℕ) (e : String Z × List ℕ) (es : List (
 found-next q e es h true t n = rw (t, n) refl
 found-next q e es h false t n = rw (t, n) h
 
--- a variable that is looked up
+-- looking up a key in the map returns the first value of its name
 pub found : {Z : Type 0} (q : List ℕ) → IsUtf8 q → (es : List (String Z × List ℕ)) → lookup (λ k. bytes_eq q (string_bytes k)) es ≡ first_value (chars q) (map variable_in es)
 found q u [] = refl
 found q u (e ∷ es) = found-next q e es (found q u es) (bytes_eq q (string_bytes e.0)) refl (sym (key-chars q u e.0))
@@ -43,12 +43,12 @@ suite-next : {Z : Type 0} (q : List ℕ) (e : String Z × List Variable) (es : L
 suite-next q e es h true t n = rw (t, n) refl
 suite-next q e es h false t n = rw (t, n) h
 
--- a suite that is looked up
+-- looking up a key in the map returns the variables of its suite
 pub suite-found : {Z : Type 0} (q : List ℕ) → IsUtf8 q → (es : List (String Z × List Variable)) → lookup (λ k. bytes_eq q (string_bytes k)) es ≡ variables_of (chars q) (map group_in es)
 suite-found q u [] = refl
 suite-found q u (e ∷ es) = suite-next q e es (suite-found q u es) (bytes_eq q (string_bytes e.0)) refl (sym (key-chars q u e.0))
 
--- a suite whose variables are written in place
+-- a suite whose variables are set in place has the new variables
 written-next : {Z : Type 0} (q : List ℕ) (x w : List Variable) (e : String Z × List Variable) (es : List (String Z × List Variable))
     → (lookup (λ k. bytes_eq q (string_bytes k)) es ≡ Some x → variables_of (chars q) (map group_in (set_value (λ k. bytes_eq q (string_bytes k)) es w)) ≡ Some w)
     → (b : Bool) → bytes_eq q (string_bytes e.0) ≡ b → bytes_eq (chars q) (chars (string_bytes e.0)) ≡ b
@@ -77,7 +77,7 @@ beside : {Z : Type 0} (q : List ℕ) → IsUtf8 q → (other : List ℕ) (w : Li
 beside q u other w [] apart = refl
 beside q u other w (e ∷ es) apart = beside-next q other w e es apart (beside q u other w es apart) (bytes_eq q (string_bytes e.0)) refl (sym (key-chars q u e.0))
 
--- writing the same variables changes nothing
+-- setting a suite's variables to the same variables changes nothing
 unwritten-next : {Z : Type 0} (q : List ℕ) (x : List Variable) (e : String Z × List Variable) (es : List (String Z × List Variable))
     → (lookup (λ k. bytes_eq q (string_bytes k)) es ≡ Some x → map group_in (set_value (λ k. bytes_eq q (string_bytes k)) es x) ≡ map group_in es)
     → (b : Bool) → bytes_eq q (string_bytes e.0) ≡ b → lookup (λ k. bytes_eq q (string_bytes k)) (e ∷ es) ≡ Some x
@@ -94,7 +94,7 @@ pub unwritten : {Z : Type 0} (q : List ℕ) (x : List Variable) (es : List (Stri
 unwritten q x [] there = refl
 unwritten q x (e ∷ es) there = unwritten-next q x e es (λ l. unwritten q x es l) (bytes_eq q (string_bytes e.0)) refl there
 
--- a suite that is inserted
+-- a suite that is inserted has the inserted variables
 new-next : {Z : Type 0} (k : String Z) (w : List Variable) (e : String Z × List Variable) (es : List (String Z × List Variable))
     → variables_of (chars (string_bytes k)) (map group_in (insert_entry string_eq es k w)) ≡ Some w
     → (b : Bool) → string_eq k e.0 ≡ b → bytes_eq (chars (string_bytes k)) (chars (string_bytes e.0)) ≡ b
@@ -123,7 +123,7 @@ old_suite k other w (e ∷ es) apart = old-next k other w e es apart (old_suite 
 
 -- ---- a variable of a suite
 
--- a suite that has variables gets one more
+-- setting a variable of a suite that is in the map adds the variable to the suite
 pub adds-there : {Z : Type 0} (q suite : List ℕ) (v : Variable) (x w : List Variable) (es fs : List (String Z × List Variable)) (old : List Group) → IsUtf8 q → chars q ≡ suite
     → map group_in es ≡ old → lookup (λ k. bytes_eq q (string_bytes k)) es ≡ Some x → w ≡ last_values (x ++ v ∷ []) → fs ≡ set_value (λ k. bytes_eq q (string_bytes k)) es w
     → AddsToSuite suite v old (map group_in fs)
@@ -136,7 +136,7 @@ adds-there q suite v x w es fs old u c m there e f =
           ∙ beside q u other w es (ap (bytes_eq other) c ∙ apart) ∙ ap (variables_of other) m;
     }
 
--- a suite that has none gets its first
+-- inserting a suite with one variable adds the variable to the suite
 pub adds-new : {Z : Type 0} (q suite : List ℕ) (k : String Z) (v : Variable) (w : List Variable) (es fs : List (String Z × List Variable)) (old : List Group) → IsUtf8 q → chars q ≡ suite
     → map group_in es ≡ old → lookup (λ k. bytes_eq q (string_bytes k)) es ≡ None → chars (string_bytes k) ≡ suite → w ≡ last_values (v ∷ []) → fs ≡ insert_entry string_eq es k w
     → AddsToSuite suite v old (map group_in fs)

@@ -1,19 +1,20 @@
--- Last values that are kept in place.
+-- Last values that are updated in place.
 use Rattle.std.proofs.Common.{◌≡◌, ℕ, Bool, true, false, List, [], ◌∷◌, ◌++◌, refl, sym, ap, ◌∙◌, subst, Option, Some, None, if◌then◌else◌, unwrap_or}
 use Rattle.kt_config.proofs.Common.{bytes_eq, Variable, is_named, value_of, without, last_values, same, same-flip, or-none, or-some, value_of-append, last_values-without}
 use Rattle.kt_base.proofs.LastValueLaws.{first_of, overlaid, without-further, first-further, twice}
 
--- a variable takes the place of the one with its name, or goes last
+-- `put pairs pair`: `pairs` with the value of `pair` in place of the value of its name, or `pair`
+-- appended
 abbrev pub put : List Variable → Variable → List Variable
 put [] pair = pair ∷ []
 put (first ∷ rest) pair = if is_named pair.name first then record { name = first.name; value = pair.value } ∷ rest else first ∷ put rest pair
 
--- the value of the first variable with a name
+-- `first_value name pairs`: the value of the first of `pairs` named `name`, or nothing
 abbrev pub first_value : List ℕ → List Variable → Option (List ℕ)
 first_value name [] = None
 first_value name (first ∷ rest) = if is_named name first then Some first.value else first_value name rest
 
--- a put under another name
+-- `put` of a name and the removal of another name can be done in either order
 put-without-next : (n : List ℕ) (p y : Variable) (ys : List Variable) → bytes_eq n p.name ≡ false → put (without n ys) p ≡ without n (put ys p)
     → (b d : Bool) → is_named p.name y ≡ b → is_named n y ≡ d → put (without n (y ∷ ys)) p ≡ without n (put (y ∷ ys) p)
 put-without-next n p y ys other h true true e f =
@@ -40,12 +41,12 @@ put-last-next x p xs h false e =
     = put-without x.name p (last_values xs) f ∙ ap (without x.name) h in
     rw e (ap (λ (ps : List Variable). first_of x xs ∷ ps) tail ∙ ap (λ (v : Variable). v ∷ without x.name (last_values (xs ++ p ∷ []))) (sym (first-further x p xs f)))
 
--- a put is one pair more
+-- `put` into the last values of a list gives the last values of the list with the pair appended
 put-last : (xs : List Variable) (p : Variable) → put (last_values xs) p ≡ last_values (xs ++ p ∷ [])
 put-last [] p = refl
 put-last (x ∷ xs) p = put-last-next x p xs (put-last xs p) (is_named p.name x) refl
 
--- a put into last values
+-- `put` into a list with each name once gives the last values of the list with the pair appended
 pub put-settled : (old new : List Variable) (p : Variable) → old ≡ last_values old → new ≡ put old p → new ≡ last_values (old ++ p ∷ [])
 put-settled old new p settled e = e ∙ ap (λ (xs : List Variable). put xs p) settled ∙ put-last old p
 
@@ -54,11 +55,11 @@ settled-put old new p settled e =
     let n : new ≡ last_values (old ++ p ∷ []) = put-settled old new p settled e in
     n ∙ sym (twice (old ++ p ∷ [])) ∙ ap last_values (sym n)
 
--- one more of what came before the last values
+-- appending a pair to a list or to its last values gives the same last values
 pub put-twice : (xs : List Variable) (p : Variable) → last_values (last_values xs ++ p ∷ []) ≡ last_values (xs ++ p ∷ [])
 put-twice xs p = overlaid xs (p ∷ [])
 
--- the first value of a name among last values
+-- among last values, the first value of a name is its value
 first-other-next : (m n : List ℕ) (y : Variable) (ys : List Variable) → bytes_eq m n ≡ false → first_value m (without n ys) ≡ first_value m ys
     → (d : Bool) → is_named n y ≡ d → first_value m (without n (y ∷ ys)) ≡ first_value m (y ∷ ys)
 first-other-next m n y ys other h true f =

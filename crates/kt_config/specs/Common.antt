@@ -1,4 +1,4 @@
--- The words that the clauses of this crate cite, passed on from one place. Declares nothing.
+-- Exports the definitions that the clauses of this crate cite. Declares nothing.
 pub use Rattle.std.specs.List.{list_any}
 pub use Rattle.std.specs.Option.{option_copied}
 pub use Rattle.std.specs.String.{string_bytes}

@@ -1,4 +1,4 @@
--- What private functions answer. No public clause cites it.
+-- Definitions that only private functions cite.
 use Rattle.std.specs.Prelude.{ℕ, ◌≡◌, false, List, [], ◌∷◌, ◌++◌, chars, Some, unwrap_or, bytes_eq, Result, Ok, Err}
 use Rattle.std.specs.String.{string_bytes}
 use Rattle.std.specs.declared.string.String.{String}
@@ -12,19 +12,21 @@ use Rattle.kt_config.specs.Values.{Group, Values, variables_of}
 use Rattle.kt_config.specs.Holding.{Holds}
 use Rattle.kt_config.specs.Reading.{Outcome}
 
--- a suite has one variable more, and the other suites have what they had
+-- `AddsToSuite suite variable old new`: `new` is `old` with `variable` set in `suite`. Other suites
+-- are unchanged.
 pub record AddsToSuite (suite : List ℕ) (variable : Variable) (old new : List Group) : Type 0 where
   pub own : variables_of suite new ≡ Some (last_values (unwrap_or (variables_of suite old) [] ++ variable ∷ []))
   pub others : (other : List ℕ) → bytes_eq other suite ≡ false → variables_of other new ≡ variables_of other old
 
--- a configuration with the values of what a script defines, or the script's fault
+-- `Gives result outcome`: `result` has the values of the definitions in `outcome`, or its fault.
 abbrev pub Gives : Result Values ConfigFault → Outcome → Type 0
 Gives (Ok config) (Ok definitions) = Holds config definitions
 Gives (Ok config) (Err fault) = ⊥
 Gives (Err found) (Ok definitions) = ⊥
 Gives (Err found) (Err fault) = found ≡ fault
 
--- the fault of a file that is not a script; out of memory is one fault, wherever it happens
+-- `fault_of_script fault`: the configuration fault of a script's `fault`. A failed allocation is
+-- `NoMemory` in both.
 abbrev pub fault_of_script : ScriptFault → ConfigFault
 fault_of_script (script.NoMemory refusal) = NoMemory refusal
 fault_of_script script.NotUtf8 = Script script.NotUtf8
@@ -33,6 +35,6 @@ fault_of_script (script.NotLiteral line) = Script (script.NotLiteral line)
 fault_of_script (script.Unclosed line) = Script (script.Unclosed line)
 fault_of_script script.TooLong = Script script.TooLong
 
--- an entry of a map as a suite
+-- `group_in entry`: the suite of a map's `entry`.
 abbrev pub group_in : {Z : Type 0} → String Z × List Variable → Group
 group_in entry = record { suite = chars (string_bytes entry.0); variables = entry.1 }

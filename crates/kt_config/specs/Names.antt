@@ -1,4 +1,4 @@
--- The variable that a name stands for, and what a value for it means.
+-- The variables by name, and the definitions of their values.
 use Rattle.std.specs.Prelude.{ℕ, Bool, true, false, not, ◌==◌, ◌&&◌, List, [], ◌∷◌, map, chars, Option, Some, None, Result, Ok, Err, bytes_eq, codes, if◌then◌else◌}
 use Rattle.std.specs.List.{slice_split}
 use Rattle.kt_base.specs.Utf8.{utf8}
@@ -9,21 +9,21 @@ use Rattle.kt_config.specs.declared.fault.ConfigFault.TheVariants.{UnknownVariab
 use Rattle.kt_config.specs.Forms.{has_zero, is_variable, width_of}
 use Rattle.kt_base.specs.Texts.{is_empty}
 
--- a definition, or the fault of its name or value
+-- `Meaning`: a definition, or the fault of its name or value.
 abbrev pub Meaning : Type 0
 Meaning = Result Definition ConfigFault
 
--- a definition whose value must not be empty
+-- `unless_empty empty definition`: `definition`, or `BadValue` if its value is `empty`.
 abbrev pub unless_empty : Bool → Definition → Meaning
 unless_empty true definition = Err BadValue
 unless_empty false definition = Ok definition
 
--- a definition of the width, if the value is one
+-- `of_width width`: the definition of `parallelism` as `width`, or `BadValue` without a width.
 abbrev pub of_width : Option ℕ → Meaning
 of_width None = Err BadValue
 of_width (Some width) = Ok (Parallelism width)
 
--- a value for a name without dots: a variable of the runner itself
+-- `runner_definition name value`: the definition of the runner's variable `name` as `value`.
 abbrev pub runner_definition : List ℕ → List ℕ → Meaning
 runner_definition name value =
     if bytes_eq name (codes "architecture") then unless_empty (is_empty value) (Architecture value)
@@ -32,18 +32,19 @@ runner_definition name value =
     else if bytes_eq name (codes "parallelism") then of_width (width_of value)
     else Err UnknownVariable
 
--- these three parts name a variable of a suite
+-- `is_suite_variable root suite name`: the three parts name a variable of a test suite.
 abbrev pub is_suite_variable : List ℕ → List ℕ → List ℕ → Bool
 is_suite_variable root suite name = bytes_eq root (codes "test_suites") && not (is_empty suite) && is_variable name
 
--- a value for a name of three parts: a variable of a suite, which may be any text without a zero byte
+-- `suite_definition root suite name value`: the definition of a suite's variable as `value`, which
+-- is any text without a zero byte.
 abbrev pub suite_definition : List ℕ → List ℕ → List ℕ → List ℕ → Meaning
 suite_definition root suite name value =
     if is_suite_variable root suite name
     then if has_zero value then Err BadValue else Ok (OfSuite suite (record { name = name; value = value }))
     else Err UnknownVariable
 
--- a value for a name in parts
+-- `definition_of parts value`: the definition of the variable named by `parts` as `value`.
 abbrev pub definition_of : List (List ℕ) → List ℕ → Meaning
 definition_of [] value = Err UnknownVariable
 definition_of (name ∷ []) value = runner_definition name value
@@ -51,10 +52,10 @@ definition_of (root ∷ suite ∷ []) value = Err UnknownVariable
 definition_of (root ∷ suite ∷ name ∷ []) value = suite_definition root suite name value
 definition_of (root ∷ suite ∷ name ∷ more ∷ rest) value = Err UnknownVariable
 
--- the parts of a name between its dots
+-- `dotted name`: the parts of `name` between its dots.
 abbrev pub dotted : List ℕ → List (List ℕ)
 dotted name = map chars (slice_split (λ b. b == 46) (utf8 name))
 
--- a value for a name with dots
+-- `definition_named name value`: the definition of the variable with the dotted `name` as `value`.
 abbrev pub definition_named : List ℕ → List ℕ → Meaning
 definition_named name value = definition_of (dotted name) value

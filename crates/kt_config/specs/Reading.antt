@@ -1,4 +1,4 @@
--- What a configuration file defines, and the answers of calls.
+-- The definitions in a configuration file, and the results of calls.
 use Rattle.std.specs.Prelude.{ℕ, ◌≡◌, Bool, false, ◌==◌, ◌&&◌, List, [], ◌∷◌, Result, Ok, Err, bytes_eq, codes, if◌then◌else◌, ◌⊎◌}
 use Rattle.kt_script.specs.declared.fault.ScriptFault.{ScriptFault}
 use Rattle.kt_script.specs.declared.syntax.Action.{Action}
@@ -16,78 +16,83 @@ use Rattle.kt_config.specs.Names.{Meaning, definition_of}
 use Rattle.kt_config.specs.Values.{Values}
 use Rattle.kt_config.specs.Holding.{Holds, Adds}
 
--- the argument of `syntax(2)`
+-- `is_version arg`: `arg` is the argument of `syntax(2)`.
 abbrev pub is_version : Arg → Bool
 is_version (Value (Number n)) = n == 2
 is_version (Value (Text t)) = false
 is_version (Value (Truth b)) = false
 is_version (Table pairs) = false
 
--- the statement is `syntax(2)`
+-- `is_opening action`: `action` is the call `syntax(2)`.
 abbrev pub is_opening : Action → Bool
 is_opening (Call name arg) = bytes_eq name (codes "syntax") && is_version arg
 is_opening (Assign parts value) = false
 
--- what a statement after the first means
+-- `meaning_of action`: the definition or the fault of a statement after the first statement.
 abbrev pub meaning_of : Action → Meaning
 meaning_of (Call name arg) = Err NotAssignment
 meaning_of (Assign parts value) = definition_of parts (text_of value)
 
--- the definitions of a file in order, or its first fault
+-- `Outcome`: the definitions of a file in order, or its first fault.
 abbrev pub Outcome : Type 0
 Outcome = Result (List Definition) ConfigFault
 
--- a definition more in front
+-- `with_first definition outcome`: `outcome` with `definition` before its definitions.
 abbrev pub with_first : Definition → Outcome → Outcome
 with_first definition (Ok definitions) = Ok (definition ∷ definitions)
 with_first definition (Err fault) = Err fault
 
--- a statement more in front: after its fault nothing counts
+-- `with_meaning meaning rest`: the outcome of a statement and the `rest` of the statements. A fault
+-- of the statement comes first.
 abbrev pub with_meaning : Meaning → Outcome → Outcome
 with_meaning (Ok definition) rest = with_first definition rest
 with_meaning (Err fault) rest = Err fault
 
--- what the statements after the first define
+-- `definitions_in stmts`: the outcome of `stmts`, which follow the first statement.
 abbrev pub definitions_in : List Stmt → Outcome
 definitions_in [] = Ok []
 definitions_in (stmt ∷ stmts) = with_meaning (meaning_of stmt.action) (definitions_in stmts)
 
--- what a script defines, whose first statement must be `syntax(2)`
+-- `outcome_of stmts`: the outcome of the script `stmts`, whose first statement must be `syntax(2)`.
 abbrev pub outcome_of : List Stmt → Outcome
 outcome_of [] = Err NoSyntax
 outcome_of (stmt ∷ stmts) = if is_opening stmt.action then definitions_in stmts else Err NoSyntax
 
--- this fault is due to a text: its script's, or else that of its statements
+-- `IsDue text fault`: `fault` is the fault of `text`: its fault as a script, or the first fault of
+-- its statements.
 abbrev pub IsDue : List ℕ → ConfigFault → Type 0
 IsDue text fault =
     ((cause : ScriptFault) × IsScriptDue text cause × (fault ≡ Script cause))
     ⊎ ((stmts : List Stmt) × Spells text stmts × (outcome_of stmts ≡ Err fault))
 
--- a text is a configuration file with these values
+-- `IsRead text config`: `text` is a configuration file with the values `config`.
 abbrev pub IsRead : List ℕ → Values → Type 0
 IsRead text config =
     (stmts : List Stmt) × (definitions : List Definition)
     × Spells text stmts × (outcome_of stmts ≡ Ok definitions) × Holds config definitions
 
--- a refusal for another reason than memory
+-- `IfFault result P`: if `result` is a fault other than a failed allocation, `P` holds of the
+-- fault.
 abbrev pub IfFault : {T : Type 0} → Result T ConfigFault → (ConfigFault → Type 0) → Type 0
 IfFault (Ok x) P = Unit {0}
 IfFault (Err (NoMemory refusal)) P = Unit {0}
 IfFault (Err fault) P = P fault
 
--- the answer is a configuration with the values of these definitions, unless memory ran out
+-- `Answers result definitions`: `result` has the values of `definitions`, unless an allocation
+-- failed.
 abbrev pub Answers : Result Values ConfigFault → List Definition → Type 0
 Answers (Ok config) definitions = Holds config definitions
 Answers (Err (NoMemory refusal)) definitions = Unit {0}
 Answers (Err fault) definitions = ⊥
 
--- the refusal is for this fault, unless memory ran out
+-- `Refuses result fault`: `result` is the fault `fault`, unless an allocation failed.
 abbrev pub Refuses : {T : Type 0} → Result T ConfigFault → ConfigFault → Type 0
 Refuses (Ok x) fault = ⊥
 Refuses (Err (NoMemory refusal)) fault = Unit {0}
 Refuses (Err found) fault = found ≡ fault
 
--- a value was set by what it means
+-- `Becomes old new meaning`: `new` is `old` with the definition of `meaning` added. A fault is
+-- excluded.
 abbrev pub Becomes : Values → Values → Meaning → Type 0
 Becomes old new (Ok definition) = Adds definition old new
 Becomes old new (Err fault) = ⊥

@@ -12,17 +12,23 @@ use kt_script::parse;
 use std::alloc::Global;
 use std::marker::Model;
 
-/// The variables of the runner and of the test suites, each with its last value. Contracts see the
-/// values; `Holds` says whose last values they are.
+/// A configuration: the variables of the runner and of test suites (kyua.conf(5)).
+///
+/// Each variable has the value of its last definition. In contracts, a `Config` is its values, and
+/// `Holds` relates the values to the definitions.
 pub struct Config {
     alloc: Global,
+    /// The last value of `architecture`, not empty, or `None` without a definition.
     architecture: Option<Text>,
+    /// The last value of `platform`, not empty, or `None` without a definition.
     platform: Option<Text>,
+    /// The maximum number of cases that run at the same time.
     parallelism: Width,
+    /// The variables of test suites.
     suites: Suites,
 }
 
-/// Written out, so that a drop is one call.
+/// Not derived, so that the prover handles a drop as one call.
 impl Drop for Config {
     fn drop(self) {
         let Config {
@@ -47,7 +53,7 @@ impl Model for Config {
 }
 
 impl Config {
-    /// No definitions, which take no memory.
+    /// Creates a configuration without definitions. Allocates nothing.
     pub fn new(alloc: Global) -> Config
         ensures { Holds result [] }
     {
@@ -60,7 +66,9 @@ impl Config {
         }
     }
 
-    /// Adds a definition: its value is the last one of its variable.
+    /// Adds a definition, whose value replaces an earlier value of its variable.
+    ///
+    /// If an allocation fails, the configuration is unchanged.
     pub(crate) fn define(&mut self, definition: Definition) -> Result<(), NoMemory>
         ensures ok { OnOk result (Adds definition self.old self.new) }
         ensures err { OnErr result (self.new ≡ self.old) }
@@ -83,14 +91,17 @@ impl Config {
         }
     }
 
-    /// The variables of a suite, if it has any. It takes constant time and no memory.
+    /// Returns the variables of `suite`, or `None` if the suite has no variables.
+    ///
+    /// Takes constant time and allocates nothing.
     pub fn suite_vars(&self, suite: &Text) -> Option<&SuiteVariables>
         ensures { option_copied result ≡ variables_of suite.now self.now.suites }
     {
         self.suites.get(suite)
     }
 
-    /// The machine's architecture, `unknown` if none was given. It takes no memory.
+    /// Returns the architecture of the machine, or `unknown` without a definition. Allocates
+    /// nothing.
     pub fn architecture(&self) -> &str
         ensures { chars result.now ≡ unwrap_or self.now.architecture (codes "unknown") }
     {
@@ -100,7 +111,7 @@ impl Config {
         }
     }
 
-    /// The platform, `unknown` if none was given. It takes no memory.
+    /// Returns the platform of the machine, or `unknown` without a definition. Allocates nothing.
     pub fn platform(&self) -> &str
         ensures { chars result.now ≡ unwrap_or self.now.platform (codes "unknown") }
     {
@@ -110,7 +121,9 @@ impl Config {
         }
     }
 
-    /// How many cases may run at once, 1 if nothing was given. It takes no memory.
+    /// Returns the maximum number of cases that run at the same time: 1 to 256, by default 1.
+    ///
+    /// Allocates nothing.
     pub fn parallelism(&self) -> u32
         ensures value { result ≡ self.now.parallelism }
         ensures within { (1 ≤ result) × (result ≤ largest_width) }
@@ -118,7 +131,16 @@ impl Config {
         self.parallelism.cases()
     }
 
-    /// Gives a variable a value by its name, whose parts stand between dots (kyua(1), `--variable`).
+    /// Sets the variable `name` to `value`. Dots separate the parts of `name` (kyua(1),
+    /// `--variable`).
+    ///
+    /// # Errors
+    ///
+    /// The configuration is unchanged on an error.
+    ///
+    /// - `UnknownVariable`: `name` is not the name of a variable.
+    /// - `BadValue`: the variable does not accept `value`.
+    /// - `NoMemory`: an allocation fails.
     pub fn set(&mut self, name: &Text, value: &Text) -> Result<(), ConfigFault>
         ensures ok { OnOk result (Becomes self.old self.new (definition_named name.now value.now)) }
         ensures refused { IfFault result (λ fault.
@@ -131,16 +153,27 @@ impl Config {
         Ok(())
     }
 
-    /// The configuration that a file spells (this profile's kyua.conf(5)).
+    /// Parses `text` as a configuration file (kyua.conf(5) of this profile).
+    ///
+    /// # Errors
+    ///
+    /// The fault of the script comes first, then the fault of the first faulty statement.
+    ///
+    /// - `Script`: `text` is not a script of literals.
+    /// - `NoSyntax`: the first statement is missing or is not `syntax(2)`.
+    /// - `NotAssignment`: a later statement is a call.
+    /// - `UnknownVariable`: an assignment does not name a variable.
+    /// - `BadValue`: a variable does not accept its value.
+    /// - `NoMemory`: an allocation fails.
     pub fn read(alloc: Global, text: &[u8]) -> Result<Config, ConfigFault>
-        // What is accepted is a file with these values.
+        // On success, the text is a configuration file with the returned values.
         ensures accepted { IfOk result (λ config. IsRead text.now config) }
-        // Each such file is accepted, unless memory runs out.
+        // Each configuration file is accepted, unless an allocation fails.
         ensures only { (stmts : List Stmt) → (definitions : List Definition) → Spells text.now stmts
             → outcome_of stmts ≡ Ok definitions → Answers result definitions }
-        // What is refused has this fault.
+        // On another error than a failed allocation, the text has the returned fault.
         ensures refused { IfFault result (λ fault. IsDue text.now fault) }
-        // Each text with a fault is refused for it, unless memory runs out.
+        // A text with a fault is rejected with that fault, unless an allocation fails.
         ensures due { (fault : ConfigFault) → IsDue text.now fault → Refuses result fault }
     {
         match parse(alloc, text) {

@@ -5,18 +5,19 @@ use kt_base::{NoMemory, OUT_OF_MEMORY};
 use kt_script::ScriptFault;
 use thiserror::Error;
 
-/// Why a configuration file, or one variable, was refused.
+/// Errors returned by [`Config::read`](crate::Config::read) and [`Config::set`](crate::Config::set).
 #[derive(Clone, Copy, Debug, Error)]
 #[error("{}", self.words())]
 pub enum ConfigFault {
+    /// An allocation failed.
     NoMemory(NoMemory),
-    /// No variable has this name.
+    /// A variable of this name does not exist.
     UnknownVariable,
-    /// The variable doesn't accept this value.
+    /// The variable does not accept the value.
     BadValue,
     /// The file is not a script.
     Script(ScriptFault),
-    /// The first statement of the file isn't `syntax(2)`.
+    /// The first statement of the file is missing or is not `syntax(2)`.
     NoSyntax,
     /// A later statement of the file is a call.
     NotAssignment,
@@ -25,7 +26,9 @@ pub enum ConfigFault {
 impl ConfigFault {
     ghost use Rattle.kt_config.specs.FaultWords.{config_words};
 
-    /// The words of the fault's line (this profile). `Display` prints them.
+    /// Returns the message of the fault, without a line number (this profile).
+    ///
+    /// `Display` prints this message.
     pub fn words(&self) -> &'static str
         ensures { result.now ≡ config_words self.now }
     {

@@ -1,4 +1,4 @@
-//! The configuration of the runner and of its test suites: the last value of each variable.
+//! The configuration of the runner and of test suites: the last value of each variable.
 #![tactic(auto)]
 
 mod config;

@@ -6,20 +6,24 @@ use crate::width::Width;
 use crate::words::{has_zero, is_variable};
 use kt_base::{NoMemory, Text, Variable};
 
-/// A variable with the value that it is given.
+/// A definition: a variable with its new value.
 #[derive(Drop)]
 pub enum Definition {
+    /// The architecture of the machine, not empty.
     Architecture(Text),
+    /// The platform of the machine, not empty.
     Platform(Text),
-    /// How many cases may run at once.
+    /// The maximum number of cases that run at the same time.
     Parallelism(Width),
-    /// The user for tests that ask for an unprivileged one. This profile runs every test as its own
-    /// user, so the value has no effect.
+    /// The user for tests that require an unprivileged user.
+    ///
+    /// The value has no effect, because this profile runs each test as the user of the runner.
     UnprivilegedUser,
-    /// A variable of a test suite.
+    /// The name of a test suite, and a variable of the suite.
     OfSuite(Text, Variable),
 }
 
+/// Returns `definition`, or `BadValue` if its value is `empty`.
 fn unless_empty(empty: bool, definition: Definition) -> Result<Definition, ConfigFault>
     ensures { result ≡ unless_empty empty definition }
 {
@@ -29,6 +33,7 @@ fn unless_empty(empty: bool, definition: Definition) -> Result<Definition, Confi
     Ok(definition)
 }
 
+/// Returns the definition of `parallelism`, or `BadValue` without a width.
 fn of_width(width: Option<Width>) -> Result<Definition, ConfigFault>
     ensures { result ≡ of_width width }
 {
@@ -38,7 +43,7 @@ fn of_width(width: Option<Width>) -> Result<Definition, ConfigFault>
     }
 }
 
-/// What a value for a variable of the runner means.
+/// Returns the definition of the runner's variable `name`, or the fault of its name or value.
 #[tactic(auto, unfolding(crate::proofs::Common::chars))]
 fn runner_definition(name: &Text, value: Text) -> Result<Definition, ConfigFault>
     ensures { result ≡ runner_definition name.now value }
@@ -57,7 +62,7 @@ fn runner_definition(name: &Text, value: Text) -> Result<Definition, ConfigFault
     }
 }
 
-/// Whether three parts name a variable of a suite.
+/// Returns `true` if three parts name a variable of a test suite: `test_suites.SUITE.NAME`.
 #[tactic(auto, unfolding(crate::proofs::Common::chars))]
 fn is_suite_variable(root: &Text, suite: &Text, name: &Text) -> bool
     ensures { result ≡ is_suite_variable root.now suite.now name.now }
@@ -71,7 +76,7 @@ fn is_suite_variable(root: &Text, suite: &Text, name: &Text) -> bool
     is_variable(name)
 }
 
-/// What a value for a variable of a suite means.
+/// Returns the definition of a test suite's variable, or the fault of its name or value.
 fn suite_definition(
     root: &Text,
     suite: &Text,
@@ -92,7 +97,9 @@ fn suite_definition(
     Ok(Ok(Definition::OfSuite(suite, Variable { name, value })))
 }
 
-/// What a value for a name in parts means: a definition, or the fault of the name, else that of the value.
+/// Returns the definition of the variable named by `parts`, or the fault of its name or value.
+///
+/// The name is checked before the value.
 pub fn definition_of(
     parts: &[Text],
     value: Text,

@@ -7,7 +7,7 @@ use kt_base::NoMemory;
 use kt_script::{Action, Arg, Literal, ScriptFault, Stmt};
 use std::alloc::Global;
 
-/// The fault of a file that is not a script.
+/// Returns the fault of a configuration file that is not a script, by the script's fault.
 pub fn script_fault(fault: ScriptFault) -> ConfigFault
     ensures { result ≡ fault_of_script fault }
 {
@@ -17,6 +17,7 @@ pub fn script_fault(fault: ScriptFault) -> ConfigFault
     }
 }
 
+/// Returns `true` if `arg` is the number 2.
 fn is_version(arg: &Arg) -> bool
     ensures { result ≡ is_version arg.now }
 {
@@ -26,7 +27,7 @@ fn is_version(arg: &Arg) -> bool
     }
 }
 
-/// Whether a statement is `syntax(2)`.
+/// Returns `true` if `action` is the call `syntax(2)`.
 fn is_opening(action: &Action) -> bool
     ensures { result ≡ is_opening action.now }
 {
@@ -36,7 +37,7 @@ fn is_opening(action: &Action) -> bool
     }
 }
 
-/// What a statement after the first means.
+/// Returns the definition or the fault of a statement after the first statement.
 fn meaning_of(alloc: Global, action: &Action) -> Result<Result<Definition, ConfigFault>, NoMemory>
     ensures { IfOk result (λ meaning. meaning ≡ meaning_of action.now) }
 {
@@ -46,7 +47,7 @@ fn meaning_of(alloc: Global, action: &Action) -> Result<Result<Definition, Confi
     }
 }
 
-/// Adds what a statement after the first defines, or returns its fault.
+/// Adds the definition of a statement after the first statement, or returns the statement's fault.
 fn read_statement(
     alloc: Global,
     config: &mut Config,
@@ -65,7 +66,7 @@ fn read_statement(
     }
 }
 
-/// Reads the statements after the first one, up to the first fault.
+/// Creates the configuration of the statements after the first, or returns the first fault.
 fn read_statements(alloc: Global, stmts: &[Stmt]) -> Result<Result<Config, ConfigFault>, NoMemory>
     ensures { IfOk result (λ outcome. Gives outcome (definitions_in stmts.now)) }
 {
@@ -79,7 +80,7 @@ fn read_statements(alloc: Global, stmts: &[Stmt]) -> Result<Result<Config, Confi
     Ok(Ok(config))
 }
 
-/// Reads a script, whose first statement must be `syntax(2)`.
+/// Creates the configuration of a script that begins with `syntax(2)`, or returns its first fault.
 pub fn read_script(alloc: Global, stmts: &[Stmt]) -> Result<Result<Config, ConfigFault>, NoMemory>
     ensures { IfOk result (λ outcome. Gives outcome (outcome_of stmts.now)) }
 {

@@ -7,10 +7,14 @@ use kt_base::{NoMemory, Text, Variable, Variables};
 use std::alloc::Global;
 use std::marker::Model;
 
-/// The variables of a test suite, in the order of their first definitions, so that what a case gets never depends on
-/// how a map is kept. Contracts see the list of their pairs, in which each name occurs once.
+/// The variables of a test suite, each with its last value.
+///
+/// The variables are in the order of their first definitions, so the order of a case's arguments
+/// never depends on hashes. In contracts, a `SuiteVariables` is the list of its pairs, with each
+/// name once.
 #[derive(Drop)]
 pub struct SuiteVariables {
+    /// The values by name.
     values: IndexMap<String, Text>,
 }
 
@@ -23,7 +27,7 @@ impl Model for SuiteVariables {
 }
 
 impl SuiteVariables {
-    /// No variables. Allocates nothing.
+    /// Creates an empty list of variables. Allocates nothing.
     pub(crate) fn new(alloc: Global) -> SuiteVariables
         ensures { result ≡ [] }
     {
@@ -32,7 +36,9 @@ impl SuiteVariables {
         }
     }
 
-    /// Gives a variable a value, in the place of an earlier one or else at the end.
+    /// Replaces the value of the variable of the same name, or appends `variable`.
+    ///
+    /// If an allocation fails, the variables are unchanged.
     pub(crate) fn put(&mut self, variable: Variable) -> Result<(), NoMemory>
         ensures ok { OnOk result (self.new ≡ last_values (self.old ++ variable ∷ [])) }
         ensures err { OnErr result (self.new ≡ self.old) }
@@ -42,21 +48,27 @@ impl SuiteVariables {
         Ok(())
     }
 
-    /// The value of a variable, if the suite has one of this name. It takes constant time.
+    /// Returns the value of the variable `name`, or `None` if the suite does not have the variable.
+    ///
+    /// Takes constant time and allocates nothing.
     pub fn get(&self, name: &Text) -> Option<&Text>
         ensures { option_copied result ≡ value_of name.now self.now }
     {
         self.values.get(name.as_str())
     }
 
-    /// Whether the suite has a variable of this name. It takes constant time.
+    /// Returns `true` if the suite has the variable `name`. Takes constant time.
     pub fn is_defined(&self, name: &Text) -> bool
         ensures { result ≡ is_some (value_of name.now self.now) }
     {
         self.get(name).is_some()
     }
 
-    /// The variables as a list with memory of its own, as a test program is given them.
+    /// Copies the variables into a list, in the order of the arguments of a test program.
+    ///
+    /// # Errors
+    ///
+    /// - `NoMemory`: an allocation fails.
     pub fn copy(&self) -> Result<Variables, NoMemory>
         ensures { IfOk result (λ variables. variables ≡ self.now) }
     {
@@ -70,7 +82,7 @@ impl SuiteVariables {
     }
 }
 
-/// A variable with memory of its own.
+/// Copies a name and a value into a new variable.
 fn copy_of(name: &String, value: &Text) -> Result<Variable, NoMemory>
     ensures { IfOk result (λ variable. variable ≡ variable_in (name.now, value.now)) }
 {

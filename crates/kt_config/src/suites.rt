@@ -9,8 +9,11 @@ use std::alloc::Global;
 use std::marker::Model;
 
 /// The test suites that have variables, in the order of their first definitions.
+///
+/// In contracts, a `Suites` is the list of the suites with their variables.
 #[derive(Drop)]
 pub struct Suites {
+    /// The variables by the name of the suite.
     groups: IndexMap<String, SuiteVariables>,
 }
 
@@ -21,7 +24,7 @@ impl Model for Suites {
 }
 
 impl Suites {
-    /// No suites, which take no memory.
+    /// Creates an empty list of suites. Allocates nothing.
     pub fn new(alloc: Global) -> Suites
         ensures { result ≡ [] }
     {
@@ -30,14 +33,16 @@ impl Suites {
         }
     }
 
-    /// The variables of a suite, if it has any.
+    /// Returns the variables of `suite`, or `None` if the suite has no variables.
     pub fn get(&self, suite: &Text) -> Option<&SuiteVariables>
         ensures { option_copied result ≡ variables_of suite.now self.now }
     {
         self.groups.get(suite.as_str())
     }
 
-    /// Gives a variable of a suite its value.
+    /// Sets a variable of `suite` to its value.
+    ///
+    /// If an allocation fails, the suites are unchanged.
     pub fn put(&mut self, suite: Text, variable: Variable) -> Result<(), NoMemory>
         ensures ok { OnOk result (AddsToSuite suite variable self.old self.new) }
         ensures err { OnErr result (self.new ≡ self.old) }

@@ -6,12 +6,15 @@ ghost use Rattle.kt_base.specs.Limits.{largest_width};
 use kt_base::{Text, decimal_up_to, is_digit};
 use std::marker::Model;
 
-/// The greatest width.
+/// The maximum width, in test cases.
 const GREATEST: u64 = 256;
 
-/// The number of cases that may run at once, 1 to 256. Contracts see the number.
+/// A maximum number of cases that run at the same time, 1 to 256.
+///
+/// In contracts, a `Width` is its number.
 #[derive(Drop)]
 pub struct Width {
+    /// The number of cases, 1 to 256.
     cases: u32,
 }
 
@@ -23,13 +26,14 @@ impl Model for Width {
     ghost invariant = { λ w. (1 ≤ w.cases) × (w.cases ≤ largest_width) };
 }
 
+/// Returns `true` if `bytes` contains a byte that is not a decimal digit.
 fn has_no_digit(bytes: &[u8]) -> bool
     ensures { result ≡ list_any is_no_digit bytes.now }
 {
     bytes.iter().any(|c| !is_digit(*c))
 }
 
-/// A number, if it is a width.
+/// Returns `number`, or `None` if it is not 1 to 256.
 fn in_range(number: u64) -> Option<u32>
     ensures { result ≡ in_range number }
 {
@@ -39,7 +43,7 @@ fn in_range(number: u64) -> Option<u32>
     None
 }
 
-/// The number that bytes spell in decimal, if it is a width.
+/// Parses `bytes` as a decimal number, or returns `None` if they are not a number from 1 to 256.
 fn width_in(bytes: &[u8]) -> Option<u32>
     ensures { result ≡ width_in bytes.now }
 {
@@ -50,14 +54,16 @@ fn width_in(bytes: &[u8]) -> Option<u32>
 }
 
 impl Width {
-    /// One case at a time.
+    /// Creates the width 1: one case at a time.
     pub fn one() -> Width
         ensures { result ≡ 1 }
     {
         Width { cases: 1 }
     }
 
-    /// The width that a text spells in decimal digits, if it is one. Leading zeros don't count.
+    /// Parses `text` as a width, or returns `None` if it is not a decimal number from 1 to 256.
+    ///
+    /// Leading zeros are allowed.
     pub fn from_text(text: &Text) -> Option<Width>
         ensures { result ≡ width_of text.now }
     {
@@ -65,7 +71,7 @@ impl Width {
         Some(Width { cases })
     }
 
-    /// The number of cases.
+    /// Returns the number of cases, 1 to 256.
     pub fn cases(&self) -> u32
         ensures value { result ≡ self.now }
         ensures within { (1 ≤ result) × (result ≤ largest_width) }
