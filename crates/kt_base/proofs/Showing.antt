@@ -3,11 +3,11 @@ use Rattle.std.proofs.Common.{Option, Some, None, Result, Ok, Err, is_err, arith
 use Rattle.kt_base.proofs.Common.{append-nil, length-drop, encodes-append, Appends, Keeps, Holds, Shows, utf8}
 use Rattle.std.specs.Result.{IsErrAnd}
 
--- the bytes of two joined texts are the joined bytes of each
+-- the bytes of two joined texts are the bytes of the first text, then those of the second
 pub utf8-append : (xs ys : List ℕ) → utf8 (xs ++ ys) ≡ utf8 xs ++ utf8 ys
 utf8-append xs ys = encodes-append xs ys
 
--- the bytes of three, four or five joined texts are the joined bytes of each
+-- the bytes of three, four or five joined texts are the bytes of each text in turn
 pub utf8_three : (a b c : List ℕ) → utf8 (a ++ b ++ c) ≡ utf8 a ++ utf8 b ++ utf8 c
 utf8_three a b c = utf8-append (a ++ b) c ∙ ap (λ (z : List ℕ). z ++ utf8 c) (utf8-append a b)
 
@@ -53,11 +53,11 @@ shows_none {a} = record { holds = appends_none a }
 pub shows_nothing : {a : Option (List ℕ)} (x : ℕ) (xs : List ℕ) → Shows a a true (x ∷ xs)
 shows_nothing {a} x xs = record { holds = ([], xs, x, refl, appends_none a) }
 
--- `Shows` of a text holds of an equal text
+-- `Shows` of a text implies `Shows` of an equal text
 pub shows_as : {a b : Option (List ℕ)} {failed : Bool} {xs ys : List ℕ} → xs ≡ ys → Shows a b failed xs → Shows a b failed ys
 shows_as {a} {b} {failed} e p = subst (λ (zs : List ℕ). Shows a b failed zs) e p
 
--- `Shows` holds for an equal flag
+-- `Shows` with a flag implies `Shows` with an equal flag
 pub shows_of : {a b : Option (List ℕ)} {failed failed' : Bool} {xs : List ℕ} → failed ≡ failed' → Shows a b failed xs → Shows a b failed' xs
 shows_of {a} {b} {xs = xs} e p = subst (λ (f : Bool). Shows a b f xs) e p
 

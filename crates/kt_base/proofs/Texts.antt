@@ -29,7 +29,7 @@ pub is_empty-chars : (bs : List ℕ) → IsUtf8 bs → is_empty (chars bs) ≡ (
 is_empty-chars [] u = ap is_empty chars-nil
 is_empty-chars (b ∷ bs) u = some_bytes b bs (chars (b ∷ bs)) (encodes-chars (b ∷ bs) u) ∙ not_zero (length bs)
 
--- `before` and `after` of a text without `sign`, and of a text with a first `sign`
+-- without `sign`, `before` is the whole text; otherwise `before` and `after` are its two sides
 uncut : (sign : ℕ) (cs : List ℕ) → NonePass (λ d. d == sign) cs → (before sign cs ≡ cs) × (after sign cs ≡ None)
 uncut sign [] none = (refl, refl)
 uncut sign (c ∷ cs) none = let e = uncut sign cs none.1 in rw (none.0, e.0, e.1) (refl, refl)

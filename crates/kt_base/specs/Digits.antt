@@ -14,6 +14,6 @@ decimal_from v (c ∷ cs) = decimal_from (10 * v + (c - 48)) cs
 abbrev pub up_to : ℕ → ℕ → Option ℕ
 up_to greatest n = if nat_le n greatest then Some n else None
 
--- `fits n`: `n`, or nothing if `n` has more than 64 bits.
+-- `fits n`: `n`, or nothing if `n` does not fit in 64 bits.
 abbrev pub fits : ℕ → Option ℕ
 fits n = if nat_lt n (2 ^ 64) then Some n else None

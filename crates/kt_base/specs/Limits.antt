@@ -9,7 +9,7 @@ largest_width = 256
 abbrev pub longest_timeout : ℕ
 longest_timeout = 1000000
 
--- `last_run`: the greatest number of a run.
+-- `last_run`: the greatest run number.
 abbrev pub last_run : ℕ
 last_run = 1000000
 

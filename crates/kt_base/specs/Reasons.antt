@@ -39,7 +39,7 @@ reason_text (Ended phrase ending) = phrase_text phrase ++ ending_text ending
 reason_text (Counted phrase m n) = counted_text phrase m n
 reason_text (Owned text) = text
 
--- `refused_reason cause`: the reason of a case whose program was not started, by `cause`.
+-- `refused_reason cause`: the reason of a case whose start failed because of `cause`.
 abbrev pub refused_reason : Refused → Reason
 refused_reason Directory = Fixed NoDirectory
 refused_reason Output = Fixed NoOutput

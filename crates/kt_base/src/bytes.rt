@@ -4,7 +4,7 @@ use crate::NoMemory;
 use std::alloc::Global;
 use std::marker::Model;
 
-/// A byte string whose failed allocations are reported as `NoMemory`.
+/// A growable byte string that returns `NoMemory` if an allocation fails.
 ///
 /// In contracts, a `Bytes` is the list of its bytes.
 #[derive(Debug)]
@@ -48,14 +48,14 @@ impl Bytes {
         })
     }
 
-    /// Converts the vector `bytes` to a byte string without copying it.
+    /// Converts the vector `bytes` to a byte string, without a copy.
     pub fn from_vec(bytes: Vec<u8>) -> Bytes
         ensures { result ≡ bytes.items }
     {
         Bytes { bytes }
     }
 
-    /// Converts the byte string to a vector without copying it.
+    /// Converts the byte string to a vector, without a copy.
     pub fn into_vec(self) -> Vec<u8>
         ensures { result.items ≡ self }
     {

@@ -33,7 +33,7 @@ pub enum Outcome {
     WaitFailed,
 }
 
-/// A cause for which a child process was not started.
+/// A cause of a failed start of a child process.
 #[derive(Clone, Copy, Debug)]
 pub enum Refused {
     /// The work directory could not be created.
@@ -50,7 +50,7 @@ impl Refused {
     ghost use Rattle.std.specs.Prelude.{◌≡◌};
     ghost use Rattle.kt_base.specs.Common.{refused_reason};
 
-    /// Returns the reason of a broken case whose child process was not started.
+    /// Returns the reason of a case that is broken because its child process was not started.
     pub fn reason(self) -> Reason
         ensures { result ≡ refused_reason self }
     {

@@ -5,7 +5,7 @@ use std::marker::Model;
 
 /// The decimal digits of a number, in a buffer on the stack.
 ///
-/// Reasons and reports print numbers with a `Decimal`, because they must not allocate. In
+/// Reasons and reports print numbers with a `Decimal`, because a `Decimal` allocates nothing. In
 /// contracts, a `Decimal` is the list of the digits' bytes.
 #[derive(Drop)]
 pub struct Decimal {

@@ -6,7 +6,7 @@ use thiserror::Error;
 
 /// A failed write: the writer returned an error or wrote none of the remaining bytes.
 ///
-/// Only `emit` creates an `OutputFault`, after such a write. Callers pass it on with `?`.
+/// Only `emit` creates an `OutputFault`, after such a write. Callers return it with `?`.
 #[derive(Clone, Copy, Debug, Error)]
 #[error("output could not be written")]
 pub struct OutputFault {
@@ -20,7 +20,7 @@ struct FailedWrite;
 /// Writes `bytes` to `out` until all bytes are written or a write fails.
 ///
 /// Returns the number of bytes written, and `true` if a write failed. A write that is interrupted
-/// or writes no byte is a failed write. All output of the runner is written by this loop.
+/// or writes no byte is a failed write. This function writes all output of the runner.
 pub fn send<W: Write>(bytes: &[u8], out: &mut W) -> (usize, bool)
     ensures bound { result.0 ≤ length bytes.now }
     ensures all { result.1 ≡ false → result.0 ≡ length bytes.now }

@@ -4,7 +4,7 @@ use crate::NoMemory;
 use std::alloc::Global;
 use std::marker::Model;
 
-/// A vector whose failed allocations are reported as `NoMemory`.
+/// A list that returns `NoMemory` if an allocation fails.
 ///
 /// In contracts, an `Items` is the list of its elements.
 #[derive(Debug)]
@@ -35,14 +35,14 @@ impl<T> Items<T> {
         }
     }
 
-    /// Converts the vector `items` to a list without copying it.
+    /// Converts the vector `items` to a list, without a copy.
     pub fn from_vec(items: Vec<T>) -> Items<T>
         ensures { result ≡ items.items }
     {
         Items { items }
     }
 
-    /// Converts the list to a vector without copying it.
+    /// Converts the list to a vector, without a copy.
     pub fn into_vec(self) -> Vec<T>
         ensures { result.items ≡ self }
     {

@@ -1,9 +1,9 @@
 ghost use Rattle.std.specs.Prelude.{◌≡◌, ℕ, List, [], ◌∷◌, ◌++◌, None, IsSome};
 ghost use Rattle.kt_base.specs.Common.{Variable, value_of, last_values, IsReplaced};
 
-/// Theorem: `last_values` can be computed pair by pair, by replacing or appending.
+/// Theorem: a list of names with their last values can be updated in place, pair by pair.
 ///
-/// Proofs of code that updates a list in place use these facts.
+/// Proofs of code that updates such a list use these facts.
 pub fn last_values_laws()
     ensures value { (name : List ℕ) → (pairs : List Variable)
         → value_of name (last_values pairs) ≡ value_of name pairs }

@@ -9,7 +9,7 @@ pub const OUT_OF_MEMORY: &str = "out of memory";
 /// A failed allocation in this program or in the system.
 ///
 /// Only this module creates a `NoMemory`: from an allocator's error (`From`), or from a system
-/// error of kind `OutOfMemory` (`in_error`). Callers pass it on with `?`.
+/// error of kind `OutOfMemory` (`in_error`). Callers return it with `?`.
 #[derive(Clone, Copy, Debug, Error)]
 #[error("{OUT_OF_MEMORY}")]
 pub struct NoMemory {

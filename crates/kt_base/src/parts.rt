@@ -6,7 +6,7 @@ impl Parts<'_> {
     ghost use Rattle.std.specs.Prelude.{◌≡◌, ◌++◌, OnOk, OnErr, is_err};
     ghost use Rattle.kt_base.specs.Common.{chars, parts_text, phrase_text, counted_text, ending_text, Shows, utf8};
 
-    /// Creates the parts of a text without numbers.
+    /// Creates the parts of a reason's text that has no numbers.
     pub fn words(head: &str) -> Parts<'_>
         ensures { parts_text result ≡ chars head.now }
     {
@@ -20,7 +20,7 @@ impl Parts<'_> {
         }
     }
 
-    /// Creates the parts of `phrase`, followed by an exit status or a signal.
+    /// Creates the parts of a reason's text: `phrase`, followed by an exit status or a signal.
     ///
     /// Another outcome adds nothing.
     pub fn ended(phrase: Phrase, ending: Outcome) -> Parts<'static>
@@ -45,7 +45,9 @@ impl Parts<'_> {
         }
     }
 
-    /// Creates the parts of `phrase` with its numbers. A phrase with one number uses `m`.
+    /// Creates the parts of a reason's text: `phrase` with one number or two numbers.
+    ///
+    /// A phrase with one number uses `m`.
     pub fn counted(phrase: Phrase, m: u64, n: u64) -> Parts<'static>
         ensures { parts_text result ≡ counted_text phrase m n }
     {
@@ -148,14 +150,14 @@ fn print_numbered<W: Write>(
     print_number(number, out)
 }
 
-/// Returns the text that follows a signal: it mentions a core dump if `core` is `true`.
+/// Returns ` (core dumped)` if `core` is `true`, or an empty text.
 fn core_words(core: bool) -> &'static str
     ensures { chars result.now ≡ core_text core }
 {
     if core { " (core dumped)" } else { "" }
 }
 
-/// Creates the parts of a text with one number.
+/// Creates the parts of a reason's text that has one number.
 fn one_number(
     head: &'static str,
     lead: &'static str,
@@ -175,7 +177,7 @@ fn one_number(
     }
 }
 
-/// Creates the parts of a text with two numbers.
+/// Creates the parts of a reason's text that has two numbers.
 fn two_numbers(
     head: &'static str,
     first: u64,

@@ -8,7 +8,7 @@ use crate::NoMemory;
 use std::alloc::Global;
 use std::marker::Model;
 
-/// A string whose failed allocations are reported as `NoMemory`.
+/// A growable UTF-8 string that returns `NoMemory` if an allocation fails.
 ///
 /// In contracts, a `Text` is the list of its characters. `utf8` returns their bytes.
 #[derive(Debug)]
@@ -55,7 +55,7 @@ impl Text {
         })
     }
 
-    /// Converts `string` to a text without copying it.
+    /// Converts `string` to a text, without a copy.
     pub fn from_string(string: String) -> Text
         ensures { result ≡ chars (string_bytes string) }
     {
@@ -90,7 +90,7 @@ impl Text {
         })
     }
 
-    /// Converts the text to a string without copying it.
+    /// Converts the text to a string, without a copy.
     pub fn into_string(self) -> String
         ensures { string_bytes result ≡ utf8 self }
     {
@@ -138,13 +138,13 @@ impl Text {
         self.as_str() == word
     }
 
-    /// Splits the text at the first `sign`. Returns copies of the text before and after `sign`.
+    /// Splits the text at the first `sign` and returns copies of the text before and after `sign`.
     ///
     /// If the text does not contain `sign`, returns a copy of the whole text and `None`.
     ///
     /// # Errors
     ///
-    /// - `NoMemory`: the allocation fails.
+    /// - `NoMemory`: an allocation fails.
     pub fn split_at_first(&self, sign: char) -> Result<(Text, Option<Text>), NoMemory>
         ensures front { IfOk result (λ parts. parts.0 ≡ before sign self.now) }
         ensures rest { IfOk result (λ parts. parts.1 ≡ after sign self.now) }

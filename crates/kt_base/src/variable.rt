@@ -3,7 +3,9 @@ use crate::{NoMemory, Text};
 /// A name with its value, such as a variable of a test suite.
 #[derive(Drop)]
 pub struct Variable {
+    /// The name.
     pub name: Text,
+    /// The value of the name.
     pub value: Text,
 }
 

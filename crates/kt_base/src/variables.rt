@@ -6,9 +6,10 @@ use std::alloc::Global;
 use std::marker::Model;
 use std::rc::Rc;
 
-/// A list of names with their values. Copies of a shared list use the same memory.
+/// A list of names with their values.
 ///
-/// In contracts, a `Variables` is the list of its pairs, shared or not.
+/// Copies of a shared list use the same memory. In contracts, a `Variables` is the list of its
+/// pairs, shared or not.
 pub struct Variables {
     /// The pairs of a list that is not shared. Empty if `shared` is present.
     own: Vec<Variable>,
@@ -83,7 +84,7 @@ impl Variables {
         Ok(())
     }
 
-    /// Converts the list to a shared list: copies use its memory.
+    /// Converts the list to a shared list, whose copies use its memory.
     ///
     /// # Errors
     ///

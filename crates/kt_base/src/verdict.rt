@@ -4,7 +4,7 @@ use std::marker::Model;
 
 /// The reason of a verdict. Fixed messages are stored without an allocation.
 pub enum Reason {
-    /// No reason: the case passed.
+    /// No reason, because the case passed.
     Nothing,
     /// A fixed message.
     Fixed(Phrase),
@@ -66,7 +66,7 @@ impl Kind {
     ghost use Rattle.std.specs.Prelude.{◌≡◌};
     ghost use Rattle.kt_base.specs.Common.{good, word};
 
-    /// Returns `true` if a case with this verdict counts as a success.
+    /// Returns `true` if a verdict of this kind counts as a success.
     pub fn good(self) -> bool
         ensures { result ≡ good self }
     {
@@ -212,7 +212,7 @@ impl Verdict {
     }
 }
 
-/// A reason's text in parts, each of which can be written without an allocation.
+/// The parts of a reason's text, which can be written without an allocation.
 ///
 /// The text is the fields in their order. `None` is empty.
 #[derive(Clone, Copy)]
