@@ -120,7 +120,7 @@ path_is path _ a e = absurd cc
 
 -- ---- statements
 
--- a statement keeps its meaning for an equal action
+-- a statement with an action is a statement with an equal action
 ended : (w : List Kind) (b a : Action) → Some (Ends b) ≡ Some (Ends a) → Statement w b → Statement w a
 ended w b a e st = let same : b ≡ a = cc in rw (← same) st
 

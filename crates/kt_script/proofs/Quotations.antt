@@ -87,8 +87,7 @@ plain_stops quote small c e = grind (arith, nat_tests, e)
 pub plain_cut : (quote n : ℕ) (rest bytes : List ℕ) → quote < 128 → n ≡ prefix_len (is_plain quote) bytes → bytes ≡ rest → IsCharBoundary rest n
 plain_cut quote n rest bytes small n_is same = stopping_cut_at (is_plain quote) (plain_stops quote small) rest bytes n n_is same
 
--- `Stops quote string after text stop`: the plain bytes before `after` were read, and `stop` comes
--- next
+-- `Stops quote string after text stop`: `string` was read up to `after`, which begins with `stop`
 pub record Stops (quote : ℕ) (string after text : List ℕ) (stop : Stop) : Type 0 where
   pub reads : ReadsOn quote string after text
   pub none : prefix_len (is_plain quote) after ≡ 0

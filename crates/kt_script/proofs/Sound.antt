@@ -78,7 +78,7 @@ unfinished ts line q ss e =
       });
     }
 
--- `run` over an appended token is the transition by that token
+-- `run` over an appended token is the transition of that token
 pub run-push : (front : List Token) (t : Token) (p : Place) (ss : List Stmt) (to : Place × Option Stmt) → run Start front ≡ Some (p, ss) → next p t ≡ Some to
     → run Start (front ++ t ∷ []) ≡ Some (to.0, ss ++ option_to_list to.1)
 run-push front t p ss to e step =

@@ -23,8 +23,7 @@ kinds-append xs ys = map-append (λ (t : Token). t.kind) xs ys
 
 -- ---- the meaning of a position
 
--- `Begun to done ts`: `ts` are a script of `done`, a statement's name and tokens that lead to the
--- step `to`
+-- `Begun to done ts`: `ts` are a script of `done`, a name, and tokens that lead to the step `to`
 pub record Begun (to : Step) (done : List Stmt) (ts : List Token) : Type 0 where
   pub before : List Token
   pub first : Token

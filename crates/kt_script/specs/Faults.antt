@@ -60,7 +60,7 @@ abbrev pub open_lines : List ℕ → List Token → List ℕ
 open_lines lines [] = lines
 open_lines lines (t ∷ ts) = open_lines (after_bracket lines t.line t.kind) ts
 
--- `end_fault bracket line`: the fault of tokens that end in the statement on `line`: the open
+-- `end_fault bracket line`: the fault of tokens that end in the statement on `line`. The open
 -- `bracket` is not closed, or the statement is not finished.
 abbrev pub end_fault : Option ℕ → ℕ → ScriptFault
 end_fault None line = NotLiteral line

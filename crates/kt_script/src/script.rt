@@ -13,7 +13,7 @@ use std::alloc::Global;
 /// The maximum length of a script, in bytes.
 const LIMIT: usize = 1_048_576;
 
-/// Returns the line after `text`, which begins on line `from`.
+/// Returns the number of the line on which `text` ends, if `text` begins on line `from`.
 fn line_past(from: u32, text: &[u8]) -> u32
     requires { from + length text.now < 2 ^ 32 }
     ensures value { result ≡ line_past from text.now }
@@ -58,8 +58,8 @@ fn statements(alloc: Global, text: &str) -> Result<Items<Stmt>, ScriptFault>
 ///   profile.
 /// - `NotLiteral`: the first token that no script allows is another token, or the text ends within
 ///   a statement and outside brackets.
-/// - `Unclosed`: the first token that no script allows is a string or a comment that is not closed,
-///   or the text ends inside a bracket.
+/// - `Unclosed`: the first token that no script allows is an unclosed string or comment, or the
+///   text ends inside a bracket.
 /// - `NoMemory`: an allocation fails.
 pub fn parse(alloc: Global, text: &[u8]) -> Result<Items<Stmt>, ScriptFault>
     // On success, the text spells the returned statements.

@@ -8,7 +8,7 @@ use crate::{Action, Arg, Literal, Pair};
 use kt_base::{Items, NoMemory, Text};
 use std::alloc::Global;
 
-/// A call's table, up to the last token read.
+/// A table of a call whose end has not been read.
 #[derive(Drop)]
 pub struct Table {
     /// The name of the function that is called.
@@ -62,7 +62,7 @@ pub enum Step {
 }
 
 impl State {
-    /// Returns the transition by a token, or `None` if the grammar does not allow the token here.
+    /// Returns the transition of a token, or `None` if the grammar does not allow the token here.
     pub fn step(self, alloc: Global, kind: Kind) -> Result<Option<Step>, NoMemory>
         ensures { IfOk result (λ to. to ≡ step self kind) }
     {
@@ -161,7 +161,7 @@ impl Table {
         }
     }
 
-    /// Returns the transition by the `}` that closes the table.
+    /// Returns the transition of the `}` that closes the table.
     fn close(self) -> Step
         ensures { result ≡ closed self }
     {

@@ -17,9 +17,13 @@ pub enum Flaw {
 /// A kind of token, with its value.
 #[derive(Drop)]
 pub enum Kind {
+    /// A name.
     Name(Text),
+    /// A string, with its escapes replaced.
     Quoted(Text),
+    /// A decimal number, 0 to 2^64 - 1.
     Number(u64),
+    /// `true` or `false`.
     Truth(bool),
     OpenParen,
     CloseParen,

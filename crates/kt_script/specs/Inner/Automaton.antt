@@ -18,7 +18,7 @@ value_of (Number n) = Some (literal.Number n)
 value_of (Truth b) = Some (literal.Truth b)
 value_of _ = None
 
--- `closed t`: the transition by the brace that closes the table `t`.
+-- `closed t`: the transition of the brace that closes the table `t`.
 abbrev pub closed : Table → Step
 closed t = if t.in_parens then To (Closing (Call t.name (arg.Table t.pairs))) else Ends (Call t.name (arg.Table t.pairs))
 
@@ -26,7 +26,7 @@ closed t = if t.in_parens then To (Closing (Call t.name (arg.Table t.pairs))) el
 abbrev pub with_pair : Table → List ℕ → Literal → Table
 with_pair t key v = record t { pairs = t.pairs ++ pair key v ∷ [] }
 
--- `step q kind`: the transition by a token of `kind` in the state `q`, or nothing.
+-- `step q kind`: the transition of a token of `kind` in the state `q`, or nothing.
 abbrev pub step : State → Kind → Option Step
 step (Named n) (Quoted t) = Some (Ends (Call n (arg.Value (literal.Text t))))
 step (Named n) OpenParen = Some (To (Opened n))
@@ -58,13 +58,13 @@ step (Path path) Equals = Some (To (PathEquals path))
 step (PathEquals path) k = option_map (λ v. Ends (Assign path v)) (value_of k)
 step _ _ = None
 
--- `begin line kind`: the transition by a token of `kind` on `line` before a statement.
+-- `begin line kind`: the transition of a token of `kind` on `line` before a statement.
 abbrev pub begin : ℕ → Kind → Option (Place × Option Stmt)
 begin line (Name n) = Some (Within line (Named n), None)
 begin line _ = None
 
--- `go_on line kind`: the transition by a token of `kind` on `line` after a statement. A semicolon
--- may follow.
+-- `go_on line kind`: the transition of a token of `kind` on `line` after a statement, where a
+-- semicolon is allowed.
 abbrev pub go_on : ℕ → Kind → Option (Place × Option Stmt)
 go_on line Semicolon = Some (Start, None)
 go_on line kind = begin line kind

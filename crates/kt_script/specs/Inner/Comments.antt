@@ -11,8 +11,8 @@ abbrev pub closes_at : List ℕ → Option ℕ
 closes_at [] = None
 closes_at (c ∷ cs) = if starts_with nat_eq (c ∷ cs) (codes "]]") then Some 2 else option_map suc (closes_at cs)
 
--- `long_comment text n`: the comment in long brackets at the beginning of `text`, whose content has
--- `n` bytes with its `]]`.
+-- `long_comment text n`: the comment at the beginning of `text` whose `]]` ends `n` bytes after its
+-- `--[[`. Without `n`, a broken token.
 abbrev pub long_comment : List ℕ → Option ℕ → Piece
 long_comment text None = broken text Endless
 long_comment text (Some n) = blank (n + 4)
