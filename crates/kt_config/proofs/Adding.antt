@@ -13,8 +13,8 @@ or-or : {A : Type 0} (a b c : Option A) → option_or (option_or a b) c ≡ opti
 or-or None b c = refl
 or-or (Some x) b c = refl
 
--- the last value after an appended definition is the value of that definition, or else the last
--- value before
+-- an appended definition without a value for the variable keeps the last value; any other replaces
+-- it
 last_given-push : {A : Type 0} (given : Definition → Option A) (xs : List Definition) (d : Definition) → last_given given (xs ++ d ∷ []) ≡ option_or (given d) (last_given given xs)
 last_given-push given [] d = sym (or-none (given d))
 last_given-push given (x ∷ xs) d = ap (λ o. option_or o (given x)) (last_given-push given xs d) ∙ or-or (given d) (last_given given xs) (given x)
@@ -34,8 +34,7 @@ abbrev pub AddsToEach : Definition → List Group → List Group → Type 0
 AddsToEach d old new = (suite : List ℕ) → (before : List Definition) → variables_of suite old ≡ if_any (last_values (given_to suite before))
     → variables_of suite new ≡ if_any (last_values (given_to suite (before ++ d ∷ [])))
 
--- a configuration whose values and suites are updated by `d` is the old configuration with `d`
--- added
+-- values and suites that are updated by `d` are the old configuration with `d` added
 pub adds : (d : Definition) (old new : Values) → new.architecture ≡ option_or (architecture_in d) old.architecture → new.platform ≡ option_or (platform_in d) old.platform
     → new.parallelism ≡ unwrap_or (parallelism_in d) old.parallelism → AddsToEach d old.suites new.suites → Adds d old new
 adds d old new a p w s = λ before h. record {

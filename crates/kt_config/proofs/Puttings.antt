@@ -3,8 +3,7 @@ use Rattle.std.proofs.Common.{◌≡◌, ℕ, Bool, true, false, List, [], ◌�
 use Rattle.kt_config.proofs.Common.{bytes_eq, Variable, is_named, value_of, without, last_values, same, same-flip, or-none, or-some, value_of-append, last_values-without}
 use Rattle.kt_base.proofs.LastValueLaws.{first_of, overlaid, without-further, first-further, twice}
 
--- `put pairs pair`: `pairs` with the value of `pair` in place of the value of its name, or `pair`
--- appended
+-- `put pairs pair`: `pairs` after `pair` replaced the value of its name or was appended
 abbrev pub put : List Variable → Variable → List Variable
 put [] pair = pair ∷ []
 put (first ∷ rest) pair = if is_named pair.name first then record { name = first.name; value = pair.value } ∷ rest else first ∷ put rest pair

@@ -63,6 +63,7 @@ pub record Holds (config : Values) (definitions : List Definition) : Type 0 wher
   pub parallelism : config.parallelism ≡ unwrap_or (last_given parallelism_in definitions) 1
   pub suites : (suite : List ℕ) → variables_of suite config.suites ≡ if_any (last_values (given_to suite definitions))
 
--- `Adds definition old new`: `new` has the values of `definition` after any definitions of `old`.
+-- `Adds definition old new`: if some definitions have the values `old`, these definitions with
+-- `definition` appended have the values `new`.
 abbrev pub Adds : Definition → Values → Values → Type 0
 Adds definition old new = (before : List Definition) → Holds old before → Holds new (before ++ definition ∷ [])

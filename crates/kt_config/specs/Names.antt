@@ -13,12 +13,13 @@ use Rattle.kt_base.specs.Texts.{is_empty}
 abbrev pub Meaning : Type 0
 Meaning = Result Definition ConfigFault
 
--- `unless_empty empty definition`: `definition`, or `BadValue` if its value is `empty`.
+-- `unless_empty empty definition`: `definition`, or `BadValue` if `empty` is true.
 abbrev pub unless_empty : Bool → Definition → Meaning
 unless_empty true definition = Err BadValue
 unless_empty false definition = Ok definition
 
--- `of_width width`: the definition of `parallelism` as `width`, or `BadValue` without a width.
+-- `of_width width`: the definition of `parallelism` as `width`, or `BadValue` if `width` is
+-- nothing.
 abbrev pub of_width : Option ℕ → Meaning
 of_width None = Err BadValue
 of_width (Some width) = Ok (Parallelism width)

@@ -91,8 +91,7 @@ Refuses (Ok x) fault = ⊥
 Refuses (Err (NoMemory refusal)) fault = Unit {0}
 Refuses (Err found) fault = found ≡ fault
 
--- `Becomes old new meaning`: `new` is `old` with the definition of `meaning` added. A fault is
--- excluded.
+-- `Becomes old new meaning`: `meaning` is a definition, and `new` is `old` with it added.
 abbrev pub Becomes : Values → Values → Meaning → Type 0
 Becomes old new (Ok definition) = Adds definition old new
 Becomes old new (Err fault) = ⊥

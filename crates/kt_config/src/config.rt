@@ -100,8 +100,7 @@ impl Config {
         self.suites.get(suite)
     }
 
-    /// Returns the architecture of the machine, or `unknown` without a definition. Allocates
-    /// nothing.
+    /// Returns the machine's architecture, or `unknown` if it is not configured. Allocates nothing.
     pub fn architecture(&self) -> &str
         ensures { chars result.now ≡ unwrap_or self.now.architecture (codes "unknown") }
     {
@@ -111,7 +110,7 @@ impl Config {
         }
     }
 
-    /// Returns the platform of the machine, or `unknown` without a definition. Allocates nothing.
+    /// Returns the machine's platform, or `unknown` if it is not configured. Allocates nothing.
     pub fn platform(&self) -> &str
         ensures { chars result.now ≡ unwrap_or self.now.platform (codes "unknown") }
     {
@@ -131,8 +130,9 @@ impl Config {
         self.parallelism.cases()
     }
 
-    /// Sets the variable `name` to `value`. Dots separate the parts of `name` (kyua(1),
-    /// `--variable`).
+    /// Sets the variable `name` to `value`, as the option `--variable` does (kyua(1)).
+    ///
+    /// Dots separate the parts of `name`.
     ///
     /// # Errors
     ///

@@ -5,7 +5,7 @@ use kt_base::{NoMemory, OUT_OF_MEMORY};
 use kt_script::ScriptFault;
 use thiserror::Error;
 
-/// Errors returned by [`Config::read`](crate::Config::read) and [`Config::set`](crate::Config::set).
+/// Errors returned by [`Config::read`](crate::Config) and [`Config::set`](crate::Config).
 #[derive(Clone, Copy, Debug, Error)]
 #[error("{}", self.words())]
 pub enum ConfigFault {

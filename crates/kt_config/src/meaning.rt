@@ -23,7 +23,7 @@ pub enum Definition {
     OfSuite(Text, Variable),
 }
 
-/// Returns `definition`, or `BadValue` if its value is `empty`.
+/// Returns `definition`, or `BadValue` if `empty` is `true`.
 fn unless_empty(empty: bool, definition: Definition) -> Result<Definition, ConfigFault>
     ensures { result ≡ unless_empty empty definition }
 {
@@ -33,7 +33,7 @@ fn unless_empty(empty: bool, definition: Definition) -> Result<Definition, Confi
     Ok(definition)
 }
 
-/// Returns the definition of `parallelism`, or `BadValue` without a width.
+/// Returns the definition of `parallelism` as `width`, or `BadValue` if `width` is `None`.
 fn of_width(width: Option<Width>) -> Result<Definition, ConfigFault>
     ensures { result ≡ of_width width }
 {
