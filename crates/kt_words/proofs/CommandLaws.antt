@@ -1,4 +1,4 @@
--- Each command line that `clap` takes names a command.
+-- Each command line that `clap` accepts names a command.
 use Rattle.std.proofs.Common.{rules, tests, arith, IfOk, IfSome, ◌≤◌, subst, ◌≡◌, ◌∙◌, ℕ, Bool, true, false, cond, ◌||◌, ◌&&◌, List, [], ◌∷◌, Option, Some, None, refl, ap, ap₂, sym, is_some, Result, Ok, Err, bytes_eq, codes, find, option_map}
 use Rattle.kt_words.proofs.Common.{list_all, App, IsParsedFrom, Row, Shape, Text, app_of, built, fault_of, first_of, is_simple, is_simple_and_free, matches_of, subcommand_of, subcommand_rows_of, out-Command, out-ArgMatches, argument_words, entered, label_of, names_of, rows_at, Kind, kyua_app, Reads, RefusesWords, command_in, report_with, junit_with, report_in, junit_in, options_in, results_in, kinds_of, run_of}
 use Rattle.std.specs.Option.{option_map_or}
@@ -16,12 +16,12 @@ use Rattle.kt_words.specs.Inner.Reading.{Answers}
 use Rattle.kt_words.specs.declared.command.Command.TheVariants as command
 use Rattle.kt_words.specs.declared.command_fault.CommandFault.TheVariants as fault
 
--- one of the five commands
+-- `is_command name`: `name` is one of the five commands
 abbrev pub is_command : Text → Bool
 is_command name = bytes_eq name (codes "list") || (bytes_eq name (codes "test") || (bytes_eq name (codes "debug")
     || (bytes_eq name (codes "report") || bytes_eq name (codes "report-junit"))))
 
--- ---- what is entered
+-- ---- the command that is found
 
 found_named : (f : Shape → Bool) (ss : List Shape) → list_all (λ s. is_command s.name) ss ≡ true → option_map_or (λ (s : Shape). is_command s.name) (find f ss) true ≡ true
 found_named f [] all = refl
@@ -49,9 +49,9 @@ by_stop (Some p) = go (find (λ s. answers_to p.0 (label_of s)) (built kyua_app)
     go None e = refl
     go (Some s) e = e
 
--- ---- what is read of it
+-- ---- the result for it
 
--- a command has its run's number in range, and only a line that enters none of the five is refused for its words
+-- `Fits entered r`: a run number is in its range, and `Usage` comes only without `entered`
 abbrev Fits : Bool → Result Command CommandFault → Type 0
 Fits entered (Ok c) = HasRunNumber c
 Fits entered (Err (fault.Usage message)) = entered ≡ false
@@ -70,7 +70,7 @@ junit_fits : (before own : List Row) (run' : Option (Option ℕ)) → IfSome run
 junit_fits before own None range = tt
 junit_fits before own (Some run') range = range
 
--- by the tests of the name
+-- a result fits for each outcome of the comparisons of the name
 named_fits : (a b c d e : Bool) (options : CaseOptions) (file : List ℕ) (report junit : Result Command CommandFault) → Fits true report → Fits true junit
     → Fits (a || (b || (c || (d || e)))) (cond a (Ok (command.List options)) (cond b (Ok (command.Test options file)) (cond c (Ok (command.Debug options)) (cond d report (cond e junit (Err (fault.Usage [])))))))
 named_fits true b c d e options file report junit r j = tt
@@ -90,29 +90,31 @@ in_fits before (Some p) =
 both_true : (a b : Bool) → a ≡ true → b ≡ true → (a && b) ≡ false → ⊥
 both_true a b p q r = cc
 
--- where a command is entered, it is one of the five
+-- if `clap` finds a command, the result is not a usage fault
 pub no_usage : (before : List Row) (words : List Text) (message : List ℕ) → is_some (subcommand_of kyua_app words) ≡ true
     → command_in before (subcommand_of kyua_app words) ≡ Err (fault.Usage message) → ⊥
 no_usage before words message some is =
     both_true (is_some (subcommand_of kyua_app words)) _ some (by_stop (stop_after (built kyua_app).top.rules (names_of (built kyua_app)) (argument_words kyua_app words)))
     (subst (Fits _) is (in_fits before (subcommand_of kyua_app words)))
 
--- the number of a run is in its range, by the words
+-- the run number of each result is in its range
 pub number_in_range : (words : List Text) (r : Result Command CommandFault) → Reads words r → IfOk r HasRunNumber
 number_in_range words (Err f) s = tt
 number_in_range words (Ok c) s = subst (Fits _) (sym s.1) (in_fits (matches_of kyua_app words) (subcommand_of kyua_app words))
 
--- ---- the words
+-- ---- the arguments
 
+-- the command line is simple, as `clap` defines it
 pub is_simple_line : is_simple kyua_app ≡ true
 unfolding clap_on_literals
 is_simple_line = refl
 
+-- the command line is simple, and no argument has a rule about another
 pub is_free_line : is_simple_and_free kyua_app ≡ true
 unfolding clap_on_literals
 is_free_line = refl
 
--- what is found is read
+-- a result for the values that `clap` finds is a result for the arguments
 pub reads_found : (words : List Text) (before : List Row) (o : Option (Text × List Row)) (r : Result Command CommandFault)
     → before ≡ matches_of kyua_app words → o ≡ subcommand_of kyua_app words → is_some o ≡ true → fault_of kyua_app words ≡ []
     → Answers (command_in before o) r → Reads words r
@@ -123,14 +125,14 @@ reads_found words before o (Err (fault.NoMemory shortage)) e d some none a = tt
 reads_found words before o (Err (fault.Usage message)) e d some none a =
     absurd (no_usage before words message (ap is_some (sym d) ∙ some) (ap (command_in before) (sym d) ∙ a))
 
--- an error of another kind
+-- a fault that is right for a lack of memory is right for any other error
 pub refused_for : (short : Type 0) (f : CommandFault) → RefusesWords short f → RefusesWords ⊥ f
 refused_for short fault.BadKind r = r
 refused_for short fault.BadRun r = r
 refused_for short (fault.NoMemory shortage) r = tt
 refused_for short (fault.Usage message) r = λ none. none
 
--- a line that is taken enters a command
+-- a command line that `clap` accepts contains a command
 pub enters : (line : Line) (m : ArgMatches) → app_of line ≡ kyua_app → (out-Command line).has_globals ≡ false → IsParsedFrom line m
     → is_some (subcommand_rows_of m) ≡ true
 enters line m app globals p =

@@ -1,4 +1,4 @@
--- The names that most proofs of this crate cite, passed on from one place. Declares nothing.
+-- Re-exports the names that most proofs of this crate cite. Declares nothing.
 pub use Rattle.std.proofs.lemmas.Iterator.{YieldsList-from_slice, items_from_collect}
 pub use Rattle.std.specs.List.{list_all, onto_first, prefix_len}
 unfoldable pub use Rattle.std.specs.Str.{chars}

@@ -1,4 +1,4 @@
--- The words that the clauses of this crate cite, passed on from one place. Declares nothing.
+-- Re-exports the names that the clauses of this crate cite. Declares nothing.
 pub use Rattle.std.specs.IoError.{error_kind}
 pub use Rattle.std.specs.List.{prefix_len}
 pub use Rattle.std.specs.Option.{option_copied}

@@ -1,9 +1,9 @@
--- The words of a fault, as its line has them.
+-- Texts of command line faults.
 use Rattle.std.specs.Prelude.{ℕ, List, codes}
 use Rattle.kt_words.specs.declared.command_fault.CommandFault.{CommandFault}
 use Rattle.kt_words.specs.declared.command_fault.CommandFault.TheVariants.{NoMemory, Usage, BadKind, BadRun}
 
--- why a command line was refused
+-- `command_words fault`: the text that `fault` prints.
 abbrev pub command_words : CommandFault → List ℕ
 command_words (NoMemory shortage) = codes "out of memory"
 command_words (Usage text) = text

@@ -1,2 +1,2 @@
--- What private functions do: no public clause cites it.
+-- Definitions that only private functions cite.
 pub mod Reading

@@ -6,20 +6,20 @@ use clap::{Arg, ArgAction};
 use kt_base::NoMemory;
 use std::alloc::Global;
 
-/// The Kyuafile, unless `-k` names another.
+/// The default path of the Kyuafile (`-k`).
 pub const KYUAFILE: &str = "Kyuafile";
 
-/// Where work directories lie, unless `--work` says otherwise (this profile).
+/// The default directory for work directories (`--work`, this profile).
 pub const WORK: &str = "/tmp";
 
-/// The file of the results, unless `-r` names another (this profile).
+/// The default path of the results file (`-r`, this profile).
 pub const RESULTS: &str = "kyua.db";
 
-/// The end of each command's help.
+/// The last line of each command's help.
 const BEFORE: &str =
     "The options -c FILE and -v NAME=VALUE stand before the command; see 'kyua --help'.";
 
-/// An option that takes a value.
+/// Creates an option `--LONG VALUE` whose value is stored as `id`.
 fn option_word<'a>(alloc: Global, id: &'a str, long: &'a str, value: &'a str) -> Arg<'a>
     ensures rule { rule_of result ≡ option_rule id.entry.now long.entry.now }
     ensures own { result.global ≡ false }
@@ -30,6 +30,7 @@ fn option_word<'a>(alloc: Global, id: &'a str, long: &'a str, value: &'a str) ->
         .action(ArgAction::Set)
 }
 
+/// Creates the option `-c FILE`, `--config FILE`.
 fn config_word<'a>(alloc: Global) -> Arg<'a>
     ensures rule { rule_of result ≡ config_rule }
     ensures own { result.global ≡ false }
@@ -39,6 +40,7 @@ fn config_word<'a>(alloc: Global) -> Arg<'a>
         .help("The configuration file that the cases are read with [default: no file]")
 }
 
+/// Creates the repeatable option `-v NAME=VALUE`, `--variable NAME=VALUE`.
 fn variable_word<'a>(alloc: Global) -> Arg<'a>
     ensures rule { rule_of result ≡ variable_rule }
     ensures own { result.global ≡ false }
@@ -49,6 +51,7 @@ fn variable_word<'a>(alloc: Global) -> Arg<'a>
         .help("Sets a variable, after those of the configuration file; may be repeated")
 }
 
+/// Creates the option `-k FILE`, `--kyuafile FILE`.
 fn kyuafile_word<'a>(alloc: Global) -> Arg<'a>
     ensures rule { rule_of result ≡ kyuafile_rule }
     ensures own { result.global ≡ false }
@@ -59,6 +62,7 @@ fn kyuafile_word<'a>(alloc: Global) -> Arg<'a>
         .help("The Kyuafile to read")
 }
 
+/// Creates the option `--work DIR`.
 fn work_word<'a>(alloc: Global) -> Arg<'a>
     ensures rule { rule_of result ≡ work_rule }
     ensures own { result.global ≡ false }
@@ -68,6 +72,7 @@ fn work_word<'a>(alloc: Global) -> Arg<'a>
         .help("The absolute path of a directory to make work directories in")
 }
 
+/// Creates the option `-r FILE`, `--results-file FILE`.
 fn results_word<'a>(alloc: Global) -> Arg<'a>
     ensures rule { rule_of result ≡ results_rule }
     ensures own { result.global ≡ false }
@@ -78,6 +83,7 @@ fn results_word<'a>(alloc: Global) -> Arg<'a>
         .help("The file of the results")
 }
 
+/// Creates the argument `FILTER..` of `list` and `test`.
 fn filters_word<'a>(alloc: Global) -> Arg<'a>
     ensures rule { rule_of result ≡ filters_rule }
     ensures own { result.global ≡ false }
@@ -89,6 +95,7 @@ fn filters_word<'a>(alloc: Global) -> Arg<'a>
         .help("The test cases, as PROGRAM:CASE, PROGRAM or DIRECTORY [default: all]")
 }
 
+/// Creates the argument `PROGRAM:CASE` of `debug`.
 fn case_word<'a>(alloc: Global) -> Arg<'a>
     ensures rule { rule_of result ≡ case_rule }
     ensures own { result.global ≡ false }
@@ -100,6 +107,7 @@ fn case_word<'a>(alloc: Global) -> Arg<'a>
         .help("The test case to run")
 }
 
+/// Creates the option `--run N` of the reports.
 fn run_word<'a>(alloc: Global) -> Arg<'a>
     ensures rule { rule_of result ≡ run_rule }
     ensures own { result.global ≡ false }
@@ -109,6 +117,7 @@ fn run_word<'a>(alloc: Global) -> Arg<'a>
     )
 }
 
+/// Creates the option `--results-filter K,..` of `report`.
 fn kinds_word<'a>(alloc: Global) -> Arg<'a>
     ensures rule { rule_of result ≡ kinds_rule }
     ensures own { result.global ≡ false }
@@ -118,6 +127,7 @@ fn kinds_word<'a>(alloc: Global) -> Arg<'a>
     )
 }
 
+/// Creates the flag `--verbose` of `report`.
 fn verbose_word<'a>(alloc: Global) -> Arg<'a>
     ensures rule { rule_of result ≡ verbose_rule }
     ensures own { result.global ≡ false }
@@ -128,10 +138,10 @@ fn verbose_word<'a>(alloc: Global) -> Arg<'a>
         .help("Shows the properties of each case beneath its line, defaults included")
 }
 
-/// A command line as it is built, unless memory ran out.
+/// A command line that is being built, or its failed allocation.
 type Line<'a> = Result<clap::Command<'a>, NoMemory>;
 
-/// Both values, or the first refusal.
+/// Returns both values, or the error of the first one that failed.
 fn both<A: Drop, B: Drop>(
     first: Result<A, NoMemory>,
     second: Result<B, NoMemory>,
@@ -141,7 +151,7 @@ fn both<A: Drop, B: Drop>(
     Ok((first?, second?))
 }
 
-/// A command line with one more option, which is not global.
+/// Adds an option that is not global to a command line.
 fn with_option<'a>(line: Line<'a>, option: Arg<'a>) -> Line<'a>
     requires { option.global ≡ false }
     ensures app { (app : App) → (rule : Rule) → rule_of option.entry ≡ rule
@@ -153,7 +163,7 @@ fn with_option<'a>(line: Line<'a>, option: Arg<'a>) -> Line<'a>
     Ok(line.arg(option)?)
 }
 
-/// A command line with one more command. Its options are not global.
+/// Adds a command whose options are not global to a command line.
 fn with_command<'a>(line: Line<'a>, command: Line<'a>) -> Line<'a>
     requires { IfOk command (λ c. (fields_of c).has_globals ≡ false) }
     ensures app { (app : App) → (sub : App) → IfOk command.entry (λ c. app_of c ≡ sub)
@@ -165,7 +175,9 @@ fn with_command<'a>(line: Line<'a>, command: Line<'a>) -> Line<'a>
     Ok(line.subcommand(command)?)
 }
 
-/// A command. Its help ends with a line about the options that stand before it.
+/// Creates a command without options.
+///
+/// Its help ends with a line about the options before the command.
 fn command_words<'a>(alloc: Global, name: &'a str, about: &'a str) -> Line<'a>
     ensures app { IfOk result (λ c. app_of c ≡ new_app name.entry.now) }
     ensures own { IfOk result (λ c. (fields_of c).has_globals ≡ false) }
@@ -177,7 +189,9 @@ fn command_words<'a>(alloc: Global, name: &'a str, about: &'a str) -> Line<'a>
     )
 }
 
-/// `list [-k FILE] [--work=DIR] [FILTER..]`, as kyua-list(1) has it but for `--work`.
+/// Creates the command `list [-k FILE] [--work=DIR] [FILTER..]` of kyua-list(1).
+///
+/// The option `--work` is this profile's.
 fn list_words<'a>(alloc: Global) -> Line<'a>
     ensures app { IfOk result (λ c. app_of c ≡ list_app) }
     ensures own { IfOk result (λ c. (fields_of c).has_globals ≡ false) }
@@ -188,7 +202,9 @@ fn list_words<'a>(alloc: Global) -> Line<'a>
     with_option(line, filters_word(alloc))
 }
 
-/// `test [-k FILE] [-r FILE] [--work=DIR] [FILTER..]`, as kyua-test(1) has it but for `--work`.
+/// Creates the command `test [-k FILE] [-r FILE] [--work=DIR] [FILTER..]` of kyua-test(1).
+///
+/// The option `--work` is this profile's.
 fn test_words<'a>(alloc: Global) -> Line<'a>
     ensures app { IfOk result (λ c. app_of c ≡ test_app) }
     ensures own { IfOk result (λ c. (fields_of c).has_globals ≡ false) }
@@ -200,7 +216,9 @@ fn test_words<'a>(alloc: Global) -> Line<'a>
     with_option(line, filters_word(alloc))
 }
 
-/// `debug [-k FILE] [--work=DIR] PROGRAM:CASE`, as kyua-debug(1) has it but for `--work`.
+/// Creates the command `debug [-k FILE] [--work=DIR] PROGRAM:CASE` of kyua-debug(1).
+///
+/// The option `--work` is this profile's.
 fn debug_words<'a>(alloc: Global) -> Line<'a>
     ensures app { IfOk result (λ c. app_of c ≡ debug_app) }
     ensures own { IfOk result (λ c. (fields_of c).has_globals ≡ false) }
@@ -215,7 +233,10 @@ fn debug_words<'a>(alloc: Global) -> Line<'a>
     with_option(line, case_word(alloc))
 }
 
-/// `report [-r FILE] [--run=N] [--results-filter=K,..] [--verbose]`, as kyua-report(1) has it but for `--run`.
+/// Creates the command `report` of kyua-report(1).
+///
+/// Its options are `[-r FILE] [--run=N] [--results-filter=K,..] [--verbose]`. The option `--run` is
+/// this profile's.
 fn report_words<'a>(alloc: Global) -> Line<'a>
     ensures app { IfOk result (λ c. app_of c ≡ report_app) }
     ensures own { IfOk result (λ c. (fields_of c).has_globals ≡ false) }
@@ -227,7 +248,9 @@ fn report_words<'a>(alloc: Global) -> Line<'a>
     with_option(line, verbose_word(alloc))
 }
 
-/// `report-junit [-r FILE] [--run=N]`, as kyua-report-junit(1) has it but for `--run`.
+/// Creates the command `report-junit [-r FILE] [--run=N]` of kyua-report-junit(1).
+///
+/// The option `--run` is this profile's.
 fn junit_words<'a>(alloc: Global) -> Line<'a>
     ensures app { IfOk result (λ c. app_of c ≡ junit_app) }
     ensures own { IfOk result (λ c. (fields_of c).has_globals ≡ false) }
@@ -241,7 +264,9 @@ fn junit_words<'a>(alloc: Global) -> Line<'a>
     with_option(line, run_word(alloc))
 }
 
-/// The program. Its words don't include its own name, and must name a command.
+/// Creates the command line of the program, still without options and commands.
+///
+/// Its arguments don't include the program's own name, and a command is required.
 fn program_words<'a>(alloc: Global) -> Line<'a>
     ensures app { IfOk result (λ c. app_of c ≡ bare_app) }
     ensures own { IfOk result (λ c. (fields_of c).has_globals ≡ false) }
@@ -256,7 +281,9 @@ fn program_words<'a>(alloc: Global) -> Line<'a>
     )
 }
 
-/// The whole command line, without the program's own name.
+/// Creates the whole command line of kyua(1), with all options and commands.
+///
+/// Its arguments don't include the program's own name.
 pub fn all_words<'a>(alloc: Global) -> Result<clap::Command<'a>, NoMemory>
     ensures app { IfOk result (λ c. app_of c ≡ kyua_app) }
     ensures own { IfOk result (λ c. (fields_of c).has_globals ≡ false) }

@@ -10,26 +10,30 @@ use kt_base::{NoMemory, OUT_OF_MEMORY, Text};
 use std::alloc::Global;
 use thiserror::Error;
 
-/// Memory ran out while words were read. Only a refusal of the allocator, or of `clap`, makes this value.
+/// A failed allocation while arguments were parsed.
+///
+/// Only a failed allocation, here or in `clap`, creates this value.
 #[derive(Clone, Copy, Debug)]
 pub struct Shortage {
     refusal: Refusal,
 }
 
-/// A type of this module alone, so that no other can write a `Shortage`.
+/// A private type, so that no other module can construct a `Shortage`.
 #[derive(Clone, Copy, Debug)]
 struct Refusal;
 
-/// Why a command line was refused.
+/// Errors returned by [`read_command`](crate::read_command) and [`read_words`](crate::read_words).
 #[derive(Debug, Drop, Error)]
 #[error("{}", self.words())]
 pub enum CommandFault {
+    /// An allocation failed.
     NoMemory(Shortage),
-    /// The words are no command; this is what `clap` says of them, or the help that was asked for.
+    /// The arguments are not a command line, or `--help` is given. The text is `clap`'s message or
+    /// help.
     Usage(Text),
-    /// A word of a results filter is none of `passed`, `skipped`, `xfail`, `broken` and `failed`.
+    /// An element of a results filter is not `passed`, `skipped`, `xfail`, `broken` or `failed`.
     BadKind,
-    /// The number of a run isn't decimal digits, 1 to 1,000,000.
+    /// The run number is not decimal digits of 1 to 1,000,000.
     BadRun,
 }
 
@@ -42,7 +46,9 @@ impl From<NoMemory> for CommandFault {
 }
 
 impl CommandFault {
-    /// The words of the fault's line (this profile), or all that `clap` says. `Display` prints them.
+    /// Returns the text of the error line (this profile), or the whole message of `clap`.
+    ///
+    /// `Display` prints the same text.
     #[tactic(auto, unfolding(crate::proofs::Common::chars))]
     pub fn words(&self) -> &str
         ensures { chars result.now ≡ command_words self.now }
@@ -55,7 +61,7 @@ impl CommandFault {
         }
     }
 
-    /// What `clap` says of words that are no command.
+    /// Converts an error of `clap` to `Usage` with its message, or to `NoMemory` if memory ran out.
     pub(crate) fn of_words(alloc: Global, error: clap::Error) -> CommandFault
         ensures { RefusesWords (kind_of error ≡ OutOfMemory) result }
     {

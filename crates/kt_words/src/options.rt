@@ -1,20 +1,20 @@
 use kt_base::{Items, Text};
 
-/// The options of a command over test cases (kyua(1)).
+/// A set of options of `list`, `test` or `debug` (kyua(1)).
 pub struct CaseOptions {
-    /// The configuration file, if one is given (`-c`).
+    /// The path of the configuration file (`-c`), if it is given.
     pub config: Option<Text>,
-    /// The words `NAME=VALUE` of `-v`, in order.
+    /// The arguments `NAME=VALUE` of `-v`, in order.
     pub variables: Items<Text>,
-    /// The Kyuafile (`-k`). Its directory is the tree's root.
+    /// The path of the Kyuafile (`-k`). Its directory is the root of the tree.
     pub kyuafile: Text,
-    /// The directory that the root directory of the runner is made in (`--work`).
+    /// The directory in which the runner creates its root directory (`--work`).
     pub work: Text,
     /// The filters as they were given, in order.
     pub filters: Items<Text>,
 }
 
-/// Written out, so that a drop is one call.
+/// Written out instead of derived: for the prover, a drop is then one call.
 impl Drop for CaseOptions {
     fn drop(self) {
         let CaseOptions {
@@ -27,19 +27,19 @@ impl Drop for CaseOptions {
     }
 }
 
-/// The options of a command that shows a recorded run (kyua(1)).
+/// A set of options of `report` or `report-junit` (kyua(1)).
 pub struct ReportOptions {
-    /// The configuration file, if one is given (`-c`). No report reads it.
+    /// The path of the configuration file (`-c`), if it is given. Reports ignore the file.
     pub config: Option<Text>,
-    /// The words `NAME=VALUE` of `-v`, in order. No report uses them.
+    /// The arguments `NAME=VALUE` of `-v`, in order. Reports ignore them.
     pub variables: Items<Text>,
-    /// The file of the results (`-r`).
+    /// The path of the results file (`-r`).
     pub results: Text,
-    /// The number of the run, if one is asked for (`--run`). Otherwise the last run is shown.
+    /// The number of the run (`--run`), 1 to 1,000,000. Without it, the last run is shown.
     pub run: Option<u64>,
 }
 
-/// Written out, so that a drop is one call.
+/// Written out instead of derived: for the prover, a drop is then one call.
 impl Drop for ReportOptions {
     fn drop(self) {
         let ReportOptions {

@@ -12,17 +12,17 @@ use std::alloc::Global;
 use std::env::Args;
 use std::io;
 
-/// What `clap` says of words that aren't UTF-8.
+/// The message for arguments that are not UTF-8, as `clap` prints it.
 const UNREADABLE: &str = "invalid UTF-8 was detected in one or more arguments";
 
-/// The value of an option, if it has one.
+/// Returns the first value of the option `name`, if it has any.
 fn word_of<'a>(matches: &ArgMatches<'a>, name: &str) -> Option<&'a str>
     ensures { option_map (λ word. word.now) result ≡ first_of name.now (rows_of (found_of matches.now)) }
 {
     matches.get_str(name)
 }
 
-/// The values of an option or argument, if it has an entry.
+/// Returns all values of the option or argument `name`, or `None` if it has no entry.
 fn words_of<'b, 'a>(matches: &'b ArgMatches<'a>, name: &str) -> Option<&'b [&'a str]>
     ensures { option_map (λ words. map (λ word. word.now) words.now) result
         ≡ all_of name.now (rows_of (found_of matches.now)) }
@@ -30,8 +30,10 @@ fn words_of<'b, 'a>(matches: &'b ArgMatches<'a>, name: &str) -> Option<&'b [&'a 
     matches.get_strs(name)
 }
 
-/// The value of an option, or its default. `clap` has the same default, prints it in its help, and fills it in; that it
-/// does so for each option isn't proved, so the default stands here too.
+/// Returns a copy of the value of the option `name`, or of `instead` if it has no value.
+///
+/// `clap` has the same default: it prints the default in its help, and fills it in. That `clap`
+/// fills it in for each option is not proved, so this function applies the default too.
 fn text_or<'a>(
     alloc: Global,
     matches: &ArgMatches<'a>,
@@ -47,7 +49,7 @@ fn text_or<'a>(
     }
 }
 
-/// The value of an option, if it is given.
+/// Returns a copy of the value of the option `name`, if it has any.
 fn text_given<'a>(
     alloc: Global,
     matches: &ArgMatches<'a>,
@@ -61,7 +63,7 @@ fn text_given<'a>(
     }
 }
 
-/// A copy of each word, in order.
+/// Copies each argument into a `Text`, in order.
 fn texts(alloc: Global, words: &[&str]) -> Result<Items<Text>, NoMemory>
     ensures { IfOk result (λ texts. texts ≡ map (λ word. chars word.now) words.now) }
 {
@@ -72,7 +74,7 @@ fn texts(alloc: Global, words: &[&str]) -> Result<Items<Text>, NoMemory>
     Ok(texts)
 }
 
-/// The values of an option or argument that may be given several times, in their order.
+/// Returns copies of all values of the repeatable option or argument `name`, in order.
 fn texts_given<'a>(
     alloc: Global,
     matches: &ArgMatches<'a>,
@@ -86,7 +88,9 @@ fn texts_given<'a>(
     }
 }
 
-/// The run that is asked for, if one is.
+/// Parses the run number of `--run`, or returns `None` if the option is not given.
+///
+/// Fails with `BadRun` if the value is not a run number.
 fn run_of<'a>(matches: &ArgMatches<'a>) -> Result<Option<u64>, CommandFault>
     ensures { ReadsRun (run_of (first_of (codes "run") (rows_of (found_of matches.now)))) result }
 {
@@ -99,7 +103,9 @@ fn run_of<'a>(matches: &ArgMatches<'a>) -> Result<Option<u64>, CommandFault>
     }
 }
 
-/// The kinds to show: those that the option names, else all but passed.
+/// Returns the result kinds that `--results-filter` names, or the default kinds without the option.
+///
+/// Fails with `BadKind` if an element does not name a kind.
 fn kinds_of<'a>(alloc: Global, matches: &ArgMatches<'a>) -> Result<Items<Kind>, CommandFault>
     ensures { ReadsKinds (kinds_of (first_of (codes "kinds") (rows_of (found_of matches.now)))) result }
 {
@@ -112,7 +118,7 @@ fn kinds_of<'a>(alloc: Global, matches: &ArgMatches<'a>) -> Result<Items<Kind>, 
     }
 }
 
-/// Whether `--verbose` is given.
+/// Returns `true` if `--verbose` is given.
 fn is_verbose<'a>(matches: &ArgMatches<'a>) -> bool
     ensures { result ≡ is_true (first_of (codes "verbose") (rows_of (found_of matches.now))) }
 {
@@ -122,7 +128,9 @@ fn is_verbose<'a>(matches: &ArgMatches<'a>) -> bool
     }
 }
 
-/// The options of a command over test cases: those before the command, and its own.
+/// Returns the options of `list`, `test` or `debug`.
+///
+/// `before` has the options before the command (`-c` and `-v`), `own` those after it.
 fn case_options<'a>(
     alloc: Global,
     before: &ArgMatches<'a>,
@@ -145,14 +153,16 @@ fn case_options<'a>(
     })
 }
 
-/// The file of the results.
+/// Returns the path of the results file (`-r`), or its default.
 fn results_of<'a>(alloc: Global, own: &ArgMatches<'a>) -> Result<Text, NoMemory>
     ensures { IfOk result (λ text. text ≡ results_in (rows_of (found_of own.now))) }
 {
     text_or(alloc, own, "results", RESULTS)
 }
 
-/// The options of a command that shows a run: those before the command, its own, and the run.
+/// Returns the options of `report` or `report-junit`, with the run number `run`.
+///
+/// `before` has the options before the command (`-c` and `-v`), `own` those after it.
 fn report_options<'a>(
     alloc: Global,
     before: &ArgMatches<'a>,
@@ -173,6 +183,9 @@ fn report_options<'a>(
     })
 }
 
+/// Returns the command `report` with the values of its options.
+///
+/// A wrong results filter is reported before a wrong run number.
 fn read_report<'a>(
     alloc: Global,
     before: &ArgMatches<'a>,
@@ -191,6 +204,7 @@ fn read_report<'a>(
     })
 }
 
+/// Returns the command `report-junit` with the values of its options.
 fn read_junit<'a>(
     alloc: Global,
     before: &ArgMatches<'a>,
@@ -204,7 +218,9 @@ fn read_junit<'a>(
     Ok(Command::ReportJunit(options))
 }
 
-/// The command of this name.
+/// Returns the command `name` with the values of its options.
+///
+/// Fails with `Usage` if `name` is not a command.
 fn read_named<'a>(
     alloc: Global,
     before: &ArgMatches<'a>,
@@ -236,7 +252,7 @@ fn read_named<'a>(
     Err(CommandFault::Usage(Text::new(alloc)))
 }
 
-/// The command that the arguments name, and what follows it.
+/// Returns the command name that `clap` found, with the values after the name, if there is any.
 fn entered_in<'b, 'a>(matches: &'b ArgMatches<'a>) -> Option<(&'a str, &'b ArgMatches<'a>)>
     ensures { option_map (λ entered. (entered.0.now, rows_of (found_of entered.1.now))) result
         ≡ subcommand_rows_of matches.now }
@@ -244,6 +260,9 @@ fn entered_in<'b, 'a>(matches: &'b ArgMatches<'a>) -> Option<(&'a str, &'b ArgMa
     matches.subcommand()
 }
 
+/// Returns the command that `clap` found, with the values of its options.
+///
+/// Fails with `Usage` if there is no command.
 fn read_matches<'a>(alloc: Global, matches: &ArgMatches<'a>) -> Result<Command, CommandFault>
     ensures { Answers (command_in (rows_of (found_of matches.now))
         (subcommand_rows_of matches.now)) result }
@@ -254,12 +273,21 @@ fn read_matches<'a>(alloc: Global, matches: &ArgMatches<'a>) -> Result<Command, 
     }
 }
 
-/// The command of these words (kyua(1)), without the program's own name. A wrong command line is refused before a wrong
-/// results filter, and that before a wrong run number. `--help` is a refusal too, with the help as its words.
+/// Parses the arguments after the program's own name as a command of kyua(1).
 ///
-/// Every other value is its word as it stands, empty or not: variables, filters and paths are looked at when the command
-/// is carried out. An option without its word has its default (this profile), and a report that names no run leaves it
-/// open, since the last run is known only when the results are.
+/// Values are not interpreted here, not even empty ones: the command parses its variables, filters
+/// and paths when it runs. A missing option gets its default (this profile). A report without
+/// `--run` has no run number, because the last run is known only when the results file is open.
+///
+/// # Errors
+///
+/// `Usage` is checked first, then `BadKind`, then `BadRun`.
+///
+/// - `Usage`: the arguments are not a command line of kyua(1), or `--help` is given.
+/// - `BadKind`: an element of the results filter is not `passed`, `skipped`, `xfail`, `broken` or
+///   `failed`.
+/// - `BadRun`: the run number is not decimal digits of 1 to 1,000,000.
+/// - `NoMemory`: an allocation fails.
 pub fn read_command<'a>(alloc: Global, words: &'a [String]) -> Result<Command, CommandFault>
     ensures value { Reads (map (λ word. string_bytes word) words.entry.now) result }
     ensures range { IfOk result HasRunNumber }
@@ -271,7 +299,7 @@ pub fn read_command<'a>(alloc: Global, words: &'a [String]) -> Result<Command, C
     }
 }
 
-/// Why words that aren't UTF-8 are no command line.
+/// Creates the fault for arguments that are not UTF-8, with a message in the form of `clap`'s.
 fn refuse_words(alloc: Global) -> Result<CommandFault, NoMemory>
     ensures { IfOk result (λ fault. RefusesWords ⊥ fault) }
 {
@@ -280,7 +308,7 @@ fn refuse_words(alloc: Global) -> Result<CommandFault, NoMemory>
     Ok(CommandFault::of_words(alloc, error))
 }
 
-/// Why words that aren't UTF-8 are no command line, in the form of what `clap` says of others.
+/// Creates the fault for arguments that are not UTF-8, or `NoMemory` if an allocation fails.
 fn unreadable_words(alloc: Global) -> CommandFault
     ensures { RefusesWords ⊥ result }
 {
@@ -290,7 +318,9 @@ fn unreadable_words(alloc: Global) -> CommandFault
     }
 }
 
-/// Why the words of a process that can't be had are no command line.
+/// Converts the error of reading the process's arguments to a fault.
+///
+/// The fault is `NoMemory` if memory ran out. Otherwise an argument is not UTF-8.
 fn refused_words(alloc: Global, error: &io::Error) -> CommandFault
     ensures { RefusesWords (error_kind error.now ≡ OutOfMemory) result }
 {
@@ -300,7 +330,18 @@ fn refused_words(alloc: Global, error: &io::Error) -> CommandFault
     }
 }
 
-/// The command of the words of a process, of which the first is the program's own name.
+/// Parses the arguments of the process as a command of kyua(1).
+///
+/// The first argument, the program's own name, is skipped.
+///
+/// # Errors
+///
+/// - `Usage`: an argument is not UTF-8, the arguments are not a command line of kyua(1), or
+///   `--help` is given.
+/// - `BadKind`: an element of the results filter is not `passed`, `skipped`, `xfail`, `broken` or
+///   `failed`.
+/// - `BadRun`: the run number is not decimal digits of 1 to 1,000,000.
+/// - `NoMemory`: an allocation fails.
 pub fn read_words(alloc: Global, words: io::Result<Args>) -> Result<Command, CommandFault>
     ensures value { IfOk words (λ all.
         Reads (map (λ word. string_bytes word) (drop 1 (into_iter_items all))) result) }
@@ -322,7 +363,7 @@ pub fn read_words(alloc: Global, words: io::Result<Args>) -> Result<Command, Com
     }
 }
 
-/// The words that an iterator has yet to give.
+/// Collects the remaining arguments of an iterator, in order.
 fn collected(alloc: Global, words: Args) -> Result<Vec<String>, NoMemory>
     ensures { IfOk result (λ all. all.items ≡ into_iter_items words) }
 {
