@@ -18,7 +18,7 @@ at_number None runs r h e = at_place runs (length runs - 1) r h e
 at_number (Some zero) runs r h e = absurd (cc)
 at_number (Some (suc k)) runs r h e = at_place runs k r h e
 
--- the chosen head is that of the chosen run, by its number
+-- the chosen head is the head of the chosen run
 run_found : (number : Option ℕ) (runs : List Run) (heads : List RunHead) (head : RunHead) → AreNumbered 1 runs → heads ≡ map head_of runs → chosen number heads ≡ Some head
     → (r : Run) × (chosen number runs ≡ Some r) × (head_of r ≡ head) × (run_at runs r.number ≡ Some r)
 run_found number runs heads head h e f =
@@ -28,7 +28,7 @@ run_found number runs heads head h e f =
     by None k g = absurd cc
     by (Some r) k g = (r, k, same_Some (head_of r) head g, at_number number runs r h k)
 
--- a run that has a head has entries
+-- the outline of a run that has a head can only fail with the store
 pub entries_there : (number : Option ℕ) (runs : List Run) (heads : List RunHead) (head : RunHead) (fault : StoreFault) → AreNumbered 1 runs → heads ≡ map head_of runs → chosen number heads ≡ Some head
     → IsStoreFault fault ⊎ ((fault ≡ Absent) × (run_at runs head.number ≡ None)) → IsStoreFault fault
 entries_there number runs heads head fault h e f (inl s) = s
@@ -37,7 +37,7 @@ entries_there number runs heads head fault h e f (inr s) =
     let n : run_at runs head.number ≡ Some c.0 = ap (λ (x : RunHead). run_at runs x.number) (sym c.2) ∙ c.3 in
     let z = sym s.1 ∙ n in absurd (cc)
 
--- an entry of an outline is found in the run by its position
+-- each entry of an outline is in the run, by its position
 pub entry_found : (es xs rest : List Entry) (e : Entry) → DifferInOutputs (xs ++ e ∷ rest) (map outlined es) → find (λ (d : Entry). d.position == e.position) es ≡ None → ⊥
 entry_found [] [] rest e same none = absurd (cc)
 entry_found [] (x ∷ xs) rest e same none = absurd (cc)

@@ -1,4 +1,4 @@
--- The words of faults are ASCII.
+-- The messages of faults are ASCII.
 use Rattle.std.proofs.Common.{◌≡◌, refl}
 use Rattle.kt_cli.proofs.Common.{chars, RunFault, SinkFailed, StoreFault}
 use Rattle.kt_sched.specs.FaultWords.{run_words}
@@ -9,17 +9,20 @@ use Rattle.kt_child.specs.Driving.Roots.{driver_words}
 use Rattle.kt_child.specs.declared.driving.driver.DriverFault.{DriverFault}
 use Rattle.kt_child.specs.declared.driving.driver.DriverFault.TheVariants as driver
 
+-- the characters of a run fault's message are its bytes
 pub chars-run : (fault : RunFault) → chars (run_words fault) ≡ run_words fault
 unfolding chars
 chars-run (SinkFailed sink.Memory) = refl
 chars-run _ = refl
 
+-- the characters of a store fault's message are its bytes
 pub chars-store : (fault : StoreFault) → chars (fault_words fault) ≡ fault_words fault
 unfolding chars
 chars-store (store.NoMemory shortage) = refl
 chars-store (store.Store statement) = refl
 chars-store _ = refl
 
+-- the characters of a driver fault's message are its bytes
 pub chars-driver : (fault : DriverFault) → chars (driver_words fault) ≡ driver_words fault
 unfolding chars
 chars-driver (driver.NoMemory refusal) = refl

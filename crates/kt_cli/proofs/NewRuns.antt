@@ -1,17 +1,18 @@
--- The run that was begun last.
+-- The last run, which was begun by a command.
 use Rattle.std.proofs.Common.{Option, Some, Bool, true, false, nat_le, ◌≡◌, ℕ, suc, ◌+◌, List, [], ◌∷◌, ◌++◌, length, arith, refl, sym, ap, ◌∙◌}
 use Rattle.std.proofs.lemmas.Option.{gets}
 use Rattle.kt_cli.proofs.Common.{common_steps, nat_tests, Entry, Run, StoreFault, AreNumbered, new_run, insert_at, has_position, run_at, put_refusal, put_refusal_of, finish, finish_refusal, finish_refusal_of, with_new, put_all, put_among, by_position}
 use Rattle.kt_cli.proofs.Numbered.{entries_last, finish_last}
 
+-- `new_one runs moment total finished entries`: the run after `runs`
 abbrev new_one : List Run → ℕ → ℕ → Bool → List Entry → Run
 new_one runs moment total finished entries = record { number = suc (length runs); started = moment; total = total; finished = finished; entries = entries }
 
--- the runs after the puts of a new run
+-- putting entries into a new run gives the run with these entries
 pub put_new : (runs : List Run) (number total moment : ℕ) (es : List Entry) → AreNumbered 1 runs → number ≡ suc (length runs) → put_all number es (runs ++ new_run runs total moment ∷ []) ≡ with_new runs moment total false es
 put_new runs number total moment es h n = entries_last runs (new_run runs total moment) number es h (omega arith) (n ∙ omega arith)
 
--- and after its end
+-- finishing a new run marks it as finished
 pub finish_new : (runs : List Run) (number total moment : ℕ) (es : List Entry) → AreNumbered 1 runs → number ≡ suc (length runs) → finish number (with_new runs moment total false es) ≡ with_new runs moment total true es
 finish_new runs number total moment es h n = finish_last 1 runs (new_one runs moment total false (by_position es)) number h (omega arith) (n ∙ omega arith)
 
@@ -26,7 +27,7 @@ among_length there (e ∷ es) = omega (arith, among_length (insert_at e there) e
 new_there : (runs : List Run) (number total moment : ℕ) (es : List Entry) → number ≡ suc (length runs) → run_at (with_new runs moment total false es) number ≡ Some (new_one runs moment total false (by_position es))
 new_there runs number total moment es n = ap (λ (k : ℕ). run_at (with_new runs moment total false es) k) n ∙ grind (arith, common_steps, gets)
 
--- it takes an entry whose position is below its total and that of no other entry
+-- a new run accepts an entry whose position is below its total and is not taken
 pub takes_entry : (runs : List Run) (number total moment : ℕ) (es : List Entry) (e : Entry) (fault : StoreFault) → number ≡ suc (length runs) → nat_le total e.position ≡ false → has_position e.position (by_position es) ≡ false
     → put_refusal (with_new runs moment total false es) number e ≡ Some fault → ⊥
 takes_entry runs number total moment es e fault n below fresh f =

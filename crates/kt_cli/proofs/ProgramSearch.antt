@@ -1,4 +1,4 @@
--- A program is looked for in the directories of `PATH`.
+-- Search for a program in the directories of `PATH`.
 use Rattle.std.proofs.Common.{◌≡◌, ◌∙◌, ℕ, ◌==◌, ◌<◌, ◌+◌, Bool, true, false, List, [], ◌∷◌, length, ap, sym, subst, arith, drop, IsUtf8, Some}
 use Rattle.std.proofs.lemmas.List.Elements.{All-from_get_or}
 use Rattle.std.proofs.lemmas.List.Sums.{fails_before_first}
@@ -9,22 +9,22 @@ use Rattle.std.specs.Str.Pattern.{FindsChar}
 use Rattle.std.specs.List.{after_first, before_first, position_or_len, slice_split}
 use Rattle.kt_cli.proofs.Common.{InDirectory, MachineAnswer, Searched, directories, further, here, nowhere}
 
--- the colon
+-- `colon b`: `b` is a colon
 abbrev pub colon : ℕ → Bool
 colon b = b == 58
 
--- where no colon stands there is one directory
+-- a text without a colon is one directory
 none_splits : (xs : List ℕ) → position_or_len colon xs ≡ length xs → slice_split colon xs ≡ xs ∷ []
 none_splits xs e = slice_split_none colon xs (All-from_get_or (λ b. colon b ≡ false) xs 0 (λ k low. fails_before_first colon xs k 0 (omega (arith, e, low))))
 
--- what stands behind a colon is a text
+-- the bytes after a colon are UTF-8
 pub behind_text : (s behind : List ℕ) (i j : ℕ) → IsUtf8 s → FindsChar 58 s (Some (i, j)) → behind ≡ drop j s → IsUtf8 behind
 behind_text s behind i j u f b =
     let at = f.1 in
     subst IsUtf8 (sym b) (subst (λ (k : ℕ). IsUtf8 (drop k s)) (sym at.ends) (IsUtf8-drop s (i + len_utf8 58) u at.after))
 
 module _ {M : Type 0} (answers : M → MachineAnswer → M → Type 0) (name : List ℕ) where
-  -- the search goes on behind a colon
+  -- if the program is not in the first directory, the search continues after the colon
   pub goes_on : (among rest directory behind : List ℕ) (was old mid : M) → position_or_len colon rest < length rest → directory ≡ before_first colon rest
       → behind ≡ after_first colon rest → InDirectory answers name directory false old mid
       → ((answer : Bool) (new : M) → Searched answers name (directories rest) answer old new → Searched answers name (directories among) answer was new)
@@ -34,13 +34,13 @@ module _ {M : Type 0} (answers : M → MachineAnswer → M → Type 0) (name : L
       (ap (λ (x : List ℕ). x ∷ directories behind) d ∙ ap (λ (x : List ℕ). before_first colon rest ∷ slice_split colon x) b ∙ sym (slice_split_first colon rest 0 within))
       (further directory (directories behind) answer old mid new lacks s))
 
-  -- it ends where the program is
+  -- the search ends in the directory that has the program
   pub goes_here : (rest directory : List ℕ) (old new : M) → position_or_len colon rest < length rest → directory ≡ before_first colon rest
       → InDirectory answers name directory true old new → Searched answers name (directories rest) true old new
   goes_here rest directory old new within d has =
       rw (slice_split_first colon rest 0 within) (here (before_first colon rest) (slice_split colon (after_first colon rest)) old new (rw d at has))
 
-  -- it ends in the last directory
+  -- the search ends in the last directory
   pub goes_last : (rest : List ℕ) (answer : Bool) (old new : M) → position_or_len colon rest ≡ length rest → InDirectory answers name rest answer old new
       → Searched answers name (directories rest) answer old new
   goes_last rest true old new none is = rw (none_splits rest none) (here rest [] old new is)

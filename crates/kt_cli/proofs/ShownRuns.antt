@@ -1,4 +1,4 @@
--- A run is read and shown.
+-- Runs that are read and shown.
 use Rattle.std.proofs.Common.{Option, Some, None, Ok, Err, Bool, true, false, ◌⊎◌, if◌then◌else◌, flat_map, ◌≡◌, ℕ, List, [], ◌∷◌, ◌++◌, refl, ap, sym, subst, inl, inr}
 use Rattle.kt_cli.proofs.Common.{Shows, utf8, Entry, Kind, Run, shows_as, shows_both, heading, case_bytes, ending, junit_bytes, StoreCall, Heads, Outline, Outputs, Pairs, RunHead, StoreFault, Refused, Report, NoPairs, Output, memory_line, refusal_line, TextOrUnread, JunitOrUnread, DidReport, WritesJunit, WritesText, chosen, run_of, Reported, run_shown, pairs_shown, ReportedJunit, Unread, no_pairs, no_output, no_outputs, asked_outputs, ending_of, asked_pairs, next_bytes, IsDateOf, last_kind, opening, summary, text_bytes, titled_lines, Stored, Date}
 use Rattle.kt_report.specs.declared.report_fault.ReportFault.{ReportFault}
@@ -12,11 +12,13 @@ use Rattle.kt_cli.proofs.JunitSteps.{heading_shown}
 use Rattle.kt_cli.proofs.StoreChains.{stored_both}
 
 module _ {R : Type 0} (keep : keeping.Ghosts R) (number : Option ℕ) where
-  -- ---- what was read
+  -- ---- reading
 
+  -- a report reads no run if the heads can't be read
   pub reads_no_heads : (old new : R) (fault : StoreFault) → Stored keep (Heads (Err fault) ∷ []) old new → ReadsRun keep number old new (Err (Unshown fault))
   reads_no_heads old new fault p = record { calls = Heads (Err fault) ∷ []; stored = p; finds = no_heads fault }
 
+  -- a report reads no run if none has the number
   pub reads_missing : (old new : R) (heads seen again : List RunHead) (why : NotShown) → seen ≡ heads → again ≡ heads → Stored keep (Heads (Ok heads) ∷ []) old new
       → None ≡ chosen number seen → IsMissing number again why
       → ReadsRun keep number old new (Err why)
@@ -26,6 +28,7 @@ module _ {R : Type 0} (keep : keeping.Ghosts R) (number : Option ℕ) where
     finds = missing heads why (cc) (subst (λ (xs : List RunHead). IsMissing number xs why) f m);
   }
 
+  -- a report reads no run if the entries can't be read
   pub reads_no_outline : (old mid new : R) (heads seen : List RunHead) (head : RunHead) (fault : StoreFault) → seen ≡ heads → Stored keep (Heads (Ok heads) ∷ []) old mid
       → Some head ≡ chosen number seen
       → Stored keep (Outline head.number (Err fault) ∷ []) mid new → ReadsRun keep number old new (Err (Unshown fault))
@@ -35,6 +38,7 @@ module _ {R : Type 0} (keep : keeping.Ghosts R) (number : Option ℕ) where
     finds = no_outline heads head fault (cc);
   }
 
+  -- a report reads the run with the number, and its entries
   pub reads_run : (old mid new : R) (heads seen : List RunHead) (head : RunHead) (entries kept : List Entry) → seen ≡ heads → kept ≡ entries → Stored keep (Heads (Ok heads) ∷ []) old mid
       → Some head ≡ chosen number seen
       → Stored keep (Outline head.number (Ok entries) ∷ []) mid new → ReadsRun keep number old new (Ok (run_of head kept))
@@ -54,42 +58,43 @@ module _ {R : Type 0} (keep : keeping.Ghosts R) (number : Option ℕ) where
   not_shown M C calls why none unread (no_outline heads head fault e) = inr (unread calls (utf8 (refusal_line fault)) (unread_outline heads head fault e))
 
   module _ (old new : R) (was now : Option (List ℕ)) (exit : ℕ) where
-    -- what was read and what was printed of it
+    -- a report did what its calls and its output show
     did : {M : List StoreCall → List ℕ → ℕ → Type 0} {C : Bool → List StoreCall → List ℕ → ℕ → Type 0} (calls : List StoreCall) (bytes : List ℕ) (due : ℕ) (f : Bool)
         → Stored keep calls old new
         → M calls bytes due ⊎ C f calls bytes due → Shows was now f bytes → exit ≡ (if f then 2 else due) → DidReport keep old new was now exit M C
     did calls bytes due f p is s e = record { calls = calls; stored = p; bytes = bytes; due = due; printed = record { failed = f; shows = s; exits = e }; is = is }
 
-    -- no run was found
+    -- a report without a run prints the error line
     pub did_not_show : (M : List StoreCall → List ℕ → ℕ → Type 0) (C : Bool → List StoreCall → List ℕ → ℕ → Type 0) (why : NotShown) (f : Bool)
         → ((heads : List RunHead) → chosen number heads ≡ None → M (Heads (Ok heads) ∷ []) (utf8 (missing_line number heads)) 2)
         → ((cs : List StoreCall) (xs : List ℕ) → Unread number cs xs 2 → C f cs xs 2)
         → ReadsRun keep number old new (Err why) → Shows was now f (utf8 (not_shown_line why)) → exit ≡ (if f then 2 else 2) → DidReport keep old new was now exit M C
     did_not_show M C why f none unread r s e = did r.calls (utf8 (not_shown_line why)) 2 f r.stored (not_shown M (C f) r.calls why none unread r.finds) s e
 
-    -- a run was read, and then what it holds
+    -- a report that read the run makes the calls for the run and then for its properties or outputs
     did_more : {M : List StoreCall → List ℕ → ℕ → Type 0} {C : Bool → List StoreCall → List ℕ → ℕ → Type 0} (mid : R) (calls asked : List StoreCall) (bytes : List ℕ) (due : ℕ) (f : Bool)
         → Stored keep calls old mid → Stored keep asked mid new → M (calls ++ asked) bytes due ⊎ C f (calls ++ asked) bytes due → Shows was now f bytes → exit ≡ (if f then 2 else due)
         → DidReport keep old new was now exit M C
     did_more mid calls asked bytes due f p q is s e = did (calls ++ asked) bytes due f (stored_both keep calls asked old mid new p q) is s e
 
     module _ (kinds : List Kind) (verbose : Bool) where
+      -- `Texts verbose`: the effect of `report`
       abbrev Texts : Bool → Type 0
       Texts v = DidReport keep old new was now exit (Reported number kinds v) (TextOrUnread number kinds v)
 
-      -- the text without pairs
+      -- `report` prints the text without properties
       pub did_show : (calls : List StoreCall) (run : Run) (f : Bool) → verbose ≡ false → Stored keep calls old new → FindsRun number calls (Ok run)
           → ((date : Date) × IsDateOf run.started date × Shows was now f (text_bytes date kinds false run)) → exit ≡ (if f then 2 else 0) → Texts verbose
       did_show calls run f off p (read heads head outline e) d x = subst Texts (sym off) (did calls (text_bytes d.0 kinds false run) 0 f p (inl (run_shown heads head outline d.0 e d.1)) d.2 x)
 
-      -- the text with pairs
+      -- `report` prints the text with properties
       pub did_show_pairs : (mid : R) (calls : List StoreCall) (run : Run) → verbose ≡ true → Stored keep calls old mid → FindsRun number calls (Ok run)
           → WritesText keep mid new was now kinds run (Ok tt) → exit ≡ 0 → Texts verbose
       did_show_pairs mid calls run on p (read heads head outline e) w x =
           subst Texts (sym on)
           (did_more mid calls (asked_pairs run.number w.ends.0) (titled_lines true None w.ends.0 ++ summary w.ends.1 run) 0 false p w.ends.4 (inl (pairs_shown heads head outline w.ends.0 w.ends.1 e w.ends.2 w.ends.3)) w.ends.5 x)
 
-      -- the store refused pairs
+      -- `report` ends early if properties can't be read
       pub did_refuse_pairs : (mid : R) (calls : List StoreCall) (run : Run) (held : Option (List ℕ)) (f : Bool) (fault : StoreFault) → verbose ≡ true → Stored keep calls old mid
           → FindsRun number calls (Ok run) → WritesText keep mid new was held kinds run (Err (NoPairs fault)) → Shows held now f (utf8 (refusal_line fault))
           → exit ≡ (if f then 2 else 2) → Texts verbose
@@ -99,7 +104,7 @@ module _ {R : Type 0} (keep : keeping.Ghosts R) (number : Option ℕ) where
           (titled_lines true None w.ends.0 ++ opening (last_kind None w.ends.0) w.ends.2.verdict.kind ++ utf8 (refusal_line fault)) 2 f p w.ends.4
           (inr (inr (refl, no_pairs heads head outline w.ends.0 w.ends.1 w.ends.2 fault e w.ends.3))) (shows_both w.ends.5 s) x)
 
-      -- a write failed
+      -- a report ends early if a write fails
       pub did_stop_pairs : (mid : R) (calls : List StoreCall) (run : Run) (fault : OutputFault) → verbose ≡ true → Stored keep calls old mid → FindsRun number calls (Ok run)
           → WritesText keep mid new was now kinds run (Err (Output fault)) → exit ≡ 2 → Texts verbose
       did_stop_pairs mid calls run fault on p (read heads head outline e) w x =
@@ -107,23 +112,24 @@ module _ {R : Type 0} (keep : keeping.Ghosts R) (number : Option ℕ) where
           (did_more mid calls (asked_pairs run.number w.ends.0) (titled_lines true None w.ends.0 ++ next_bytes (last_kind None w.ends.0) w.ends.1 (summary w.ends.2 run)) 2 true p w.ends.5
           (inr (inr (refl, no_output heads head outline w.ends.0 w.ends.1 w.ends.2 refl e w.ends.3 w.ends.4))) w.ends.6 x)
 
+    -- the effect of `report-junit`
     abbrev Junit : Type 0
     Junit = DidReport keep old new was now exit (ReportedJunit number) (JunitOrUnread number)
 
-    -- the whole report
+    -- `report-junit` prints the JUnit report
     pub did_show_junit : (mid : R) (calls : List StoreCall) (run : Run) → Stored keep calls old mid → FindsRun number calls (Ok run) → WritesJunit keep mid new was now run (Ok tt) → exit ≡ 0 → Junit
     did_show_junit mid calls run p (read heads head outline e) w x =
         did_more mid calls (asked_outputs run.number w.ends.0) (junit_bytes (record run { entries = w.ends.0 })) 0 false p w.ends.2 (inl (run_shown_junit heads head outline w.ends.0 e w.ends.1))
         (shows_as (ap (λ (xs : List ℕ). xs ++ flat_map case_bytes w.ends.0 ++ ending) (heading_shown run w.ends.0 w.ends.1)) w.ends.3) x
 
-    -- the store refused outputs
+    -- `report-junit` ends early if outputs can't be read
     pub did_refuse : (mid : R) (calls : List StoreCall) (run : Run) (held : Option (List ℕ)) (f : Bool) (fault : StoreFault) → Stored keep calls old mid → FindsRun number calls (Ok run)
         → WritesJunit keep mid new was held run (Err (Refused fault)) → Shows held now f (utf8 (refusal_line fault)) → exit ≡ (if f then 2 else 2) → Junit
     did_refuse mid calls run held f fault p (read heads head outline e) w s x =
         did_more mid calls (asked_outputs run.number w.ends.0 ++ Outputs run.number w.ends.2.position (Err fault) ∷ []) (heading run ++ flat_map case_bytes w.ends.0 ++ utf8 (refusal_line fault)) 2 f p w.ends.4
         (inr (inr (no_outputs heads head outline w.ends.0 w.ends.1 w.ends.2 fault e w.ends.3))) (shows_both w.ends.5 s) x
 
-    -- memory ran out in the middle
+    -- `report-junit` ends early if an allocation fails
     pub did_cut : (mid : R) (calls : List StoreCall) (run : Run) (held : Option (List ℕ)) (f : Bool) (fault : ReportFault) → Stored keep calls old mid → FindsRun number calls (Ok run)
         → WritesJunit keep mid new was held run (Err (Report fault)) → Shows held now f (utf8 memory_line) → exit ≡ (if f then 2 else 2) → Junit
     did_cut mid calls run held f fault p (read heads head outline e) w s x =
@@ -131,7 +137,7 @@ module _ {R : Type 0} (keep : keeping.Ghosts R) (number : Option ℕ) where
         did_more mid calls (asked_outputs run.number w.ends.0) (h.0 ++ utf8 memory_line) 2 f p w.ends.3 (inr (inr (no_memory heads head outline w.ends.0 w.ends.1 h.0 h.1 h.2 e w.ends.2 h.3)))
         (shows_both {xs = h.0} (record { holds = h.4 }) s) x
 
-    -- a write failed
+    -- a report ends early if a write fails
     pub did_stop : (mid : R) (calls : List StoreCall) (run : Run) (fault : ReportFault) → Stored keep calls old mid → FindsRun number calls (Ok run) → WritesJunit keep mid new was now run (Err (Report fault)) → exit ≡ 2 → Junit
     did_stop mid calls run fault p (read heads head outline e) w x =
         did_more mid calls (asked_outputs run.number w.ends.0) (heading run ++ flat_map case_bytes w.ends.0 ++ ending_of w.ends.1) 2 true p w.ends.3

@@ -1,4 +1,4 @@
--- What a command does to the runs of a sound store.
+-- Effect of a command on the runs of a sound store.
 use Rattle.std.proofs.Common.{Option, Some, None, Ok, Err, Bool, true, false, map, ◌≡◌, ℕ, suc, List, [], ◌∷◌, ◌++◌, length, refl, sym, ap, ◌∙◌, subst, append-nil, ◌⊎◌, inl, inr}
 use Rattle.kt_cli.proofs.Common.{AllByRecursion, Entry, Run, Job, plan_fits, AreEntries, IsPlan, Trace, IsStoreFault, entry_at, AreNumbered, new_run, run_at, with_entry, put_refusal, finish_refusal, StoreCall, Began, Put, Finished, Heads, Outline, Outputs, Pairs, outputs_of, without_outputs, RunHead, StoreFault, Command, Kind, Seen, Means, stopped, listed, tested, debugged, nothing_to_debug, reported, reported_junit, CutShort, no_memory, cut, report_cut, text_cut, junit_cut, Did, Scene, World, AllRecorded, JunitOrUnread, Reported, run_shown, pairs_shown, no_run, ReportedJunit, Unread, TextCut, no_pairs, no_output, asked_outputs, asked_pairs, with_new, Left, put_all, Agrees, changed_by, puts, changed, Agree, PlannedRun, run_for, Tested, TestCut, not_begun, not_run, not_put, not_finished}
 use Rattle.kt_sched.specs.RecordOrder.{recorded as record_order}
@@ -16,12 +16,12 @@ changed-puts : (number : ℕ) (es : List Entry) (runs : List Run) → changed (p
 changed-puts number [] runs = refl
 changed-puts number (e ∷ es) runs = changed-puts number es (with_entry number e runs)
 
--- the entries of these puts
+-- the entries of `puts` are its entries
 puts_put : (number : ℕ) (es : List Entry) (after : List StoreCall) → entries_put after ≡ [] → entries_put (puts number es ++ after) ≡ es
 puts_put number [] after n = n
 puts_put number (e ∷ es) after n = ap (λ (xs : List Entry). e ∷ xs) (puts_put number es after n)
 
--- none of them was refused
+-- no call of `puts` failed
 puts_done : (number : ℕ) (es : List Entry) (after : List StoreCall) → AllByRecursion OnlyFails after → AllByRecursion OnlyFails (puts number es ++ after)
 puts_done number [] after all = all
 puts_done number (e ∷ es) after all = (tt, puts_done number es after all)
@@ -31,29 +31,29 @@ entries_count plan T [] [] a = refl
 entries_count plan T (p ∷ ps) (e ∷ es) a = ap suc (entries_count plan T ps es a.1)
 entries_count plan T _ _ a = absurd a
 
--- there is an entry for each case
+-- if all cases are recorded, there is an entry for each case
 all_count : (plan : List Job) (n : ℕ) (T : Trace) (es : List Entry) → AllRecorded plan n T es → length es ≡ length plan
 all_count plan n T es a = entries_count plan T (record_order plan n T) es a.are ∙ a.once.all
 
--- a refusal that isn't due is a failure
+-- a fault with an impossible cause is a failure of the store
 failed : (fault : StoreFault) (Q : Type 0) → IsStoreFault fault ⊎ Q → (Q → ⊥) → IsStoreFault fault ⊎ (fault ≡ StoreFull)
 failed fault Q (inl p) never = inl p
 failed fault Q (inr q) never = absurd (never q)
 
--- what calls came to
+-- `Coming runs calls`: `calls` fail only with the store, and append at most one run
 record Coming (runs : List Run) (calls : List StoreCall) : Type 0 where
   only_fails : AllByRecursion OnlyFails calls
   adds : Adds runs calls
 
--- no call
+-- no calls change nothing
 none_coming : (runs : List Run) (calls : List StoreCall) → calls ≡ [] → Coming runs calls
 none_coming runs calls e = subst (λ (cs : List StoreCall). Coming runs cs) (sym e) (record { only_fails = tt; adds = none refl })
 
--- ---- a test
+-- ---- `test`
 
 module _ (runs : List Run) (h : AreNumbered 1 runs) where
   module _ (k total moment : ℕ) (n : k ≡ suc (length runs)) (es : List Entry) where
-    -- a call after the puts
+    -- one more call after all puts changes the runs with all entries
     after_end : (end : StoreCall) → changed (puts k es ++ end ∷ []) (runs ++ new_run runs total moment ∷ []) ≡ changed_by end (with_new runs moment total false es)
     after_end end =
         changed-append (puts k es) (end ∷ []) (runs ++ new_run runs total moment ∷ [])
@@ -64,7 +64,7 @@ module _ (runs : List Run) (h : AreNumbered 1 runs) where
         subst (λ (rs : List Run). Agrees rs end) (changed-puts k es (runs ++ new_run runs total moment ∷ []) ∙ put_new runs k total moment es h n)
         (agree_later (puts k es) (end ∷ []) (runs ++ new_run runs total moment ∷ []) a).0
 
-    -- a run is there with these entries
+    -- a begun run, its puts and one more call append a run with these entries
     one_coming : (end : StoreCall) (finished : Bool) → entries_put (end ∷ []) ≡ [] → changed_by end (with_new runs moment total false es) ≡ with_new runs moment total finished es
         → (finished ≡ true → length es ≡ total) → AllByRecursion OnlyFails (end ∷ []) → Coming runs (Began total moment (Ok k) ∷ (puts k es ++ end ∷ []))
     one_coming end finished none_put is whole all = record {
@@ -97,9 +97,9 @@ module _ (runs : List Run) (h : AreNumbered 1 runs) where
       one_coming k total planned.moment i es (Finished k (Err why)) false refl refl (λ f. absurd (cc))
       (failed why (finish_refusal (with_new runs planned.moment total false es) k ≡ Some why) cause (finishes runs k total planned.moment es why i (all_count planned.plan planned.width T es all)), tt)
 
--- ---- a report
+-- ---- reports
 
--- calls that read change nothing, and those that were answered are no refusals
+-- reading calls change nothing, and successful calls have no fault
 module _ (call : Entry → StoreCall) (reads : (e : Entry) (runs : List Run) → changed_by (call e) runs ≡ runs) (done : (e : Entry) → OnlyFails (call e)) where
   asked_change : (shown : List Entry) (runs : List Run) → changed (map call shown) runs ≡ runs
   asked_change [] runs = refl
@@ -122,7 +122,7 @@ outputs_done : (number : ℕ) (shown : List Entry) (after : List StoreCall) → 
 outputs_done number = asked_done (λ (e : Entry). Outputs number e.position (Ok (outputs_of e))) (λ e runs. refl) (λ e. tt)
 
 module _ (number : Option ℕ) (runs : List Run) (h : AreNumbered 1 runs) where
-  -- a run was read, and then what it holds
+  -- a report that read the run, and then its properties or outputs, changes nothing
   read_coming : (heads : List RunHead) (head : RunHead) (outline : List Entry) (asked : List StoreCall) → AllByRecursion OnlyFails (asked ++ []) → changed asked runs ≡ runs
       → Coming runs (Heads (Ok heads) ∷ Outline head.number (Ok outline) ∷ asked)
   read_coming heads head outline asked all same = record { only_fails = (tt, (tt, subst (λ (cs : List StoreCall). AllByRecursion OnlyFails cs) (append-nil asked) all)); adds = none same }
@@ -168,7 +168,7 @@ module _ (number : Option ℕ) (runs : List Run) (h : AreNumbered 1 runs) where
       (λ missing. inside (ap (λ (x : Option Run). entry_at x last.position) (sym a.1.0.1) ∙ missing.1)) in
       record { only_fails = (tt, (tt, outputs_done head.number shown end (missed, tt))); adds = none (changed-append before end runs ∙ kept) }
 
--- ---- any command
+-- ---- all commands
 
 module _ (seen : Seen) (runs : List Run) (h : AreNumbered 1 runs) (a : Agree runs seen.calls) where
   coming : (c : Command) (failed : Bool) (bytes : List ℕ) (exit : ℕ) → Means seen c bytes exit ⊎ CutShort seen failed c bytes exit → Coming runs seen.calls
@@ -186,7 +186,7 @@ module _ (seen : Seen) (runs : List Run) (h : AreNumbered 1 runs) (a : Agree run
   coming c failed bytes exit (inr (text_cut options kinds bs x u r)) = text_coming options.run runs h kinds failed seen.calls bytes exit r a
   coming c failed bytes exit (inr (junit_cut options bs x u r)) = junit_or_unread options.run runs h failed seen.calls bytes exit r a
 
--- what a command left of a sound store that stood for runs
+-- a command on a sound store of `runs` leaves what `Left` states
 pub left_by : {W R : Type 0} (w : World W) (keep : keeping.Ghosts R) (c : Command) (old new : Scene W R) (exit : ℕ) (runs : List Run) (did : Did w keep c old new exit)
     → keep.stands old.store runs → keep.sound new.store → Left did runs
 left_by w keep c old new exit runs did h sound =

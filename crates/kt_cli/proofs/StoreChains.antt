@@ -1,12 +1,14 @@
--- Calls on a store, one after the other.
+-- Calls of a store, one after the other.
 use Rattle.std.proofs.Common.{Ok, ◌≡◌, List, [], ◌∷◌, ◌++◌, refl, sym, subst}
 use Rattle.kt_cli.proofs.Common.{Run, StoreCall, Began, Put, Finished, Heads, Outline, Outputs, Pairs, chain-append, Outlasts, Serves, changed_by, beside_by, changed, beside, Agree, Stored}
 use Rattle.kt_store.specs.declared.result_store.Keeping as keeping
 
+-- calls and then others change the runs one after the other
 pub changed-append : (xs ys : List StoreCall) (runs : List Run) → changed (xs ++ ys) runs ≡ changed ys (changed xs runs)
 changed-append [] ys runs = refl
 changed-append (x ∷ xs) ys runs = changed-append xs ys (changed_by x runs)
 
+-- calls and then others change what a crash may leave one after the other
 pub beside-append : (xs ys : List StoreCall) (runs : List Run) (may : List (List Run)) → beside (xs ++ ys) runs may ≡ beside ys (changed xs runs) (beside xs runs may)
 beside-append [] ys runs may = refl
 beside-append (x ∷ xs) ys runs may = beside-append xs ys (changed_by x runs) (beside_by x runs may)
@@ -15,12 +17,12 @@ agree_both : (xs ys : List StoreCall) (runs : List Run) → Agree runs xs → Ag
 agree_both [] ys runs a b = b
 agree_both (x ∷ xs) ys runs a b = (a.0, agree_both xs ys (changed_by x runs) a.1 b)
 
--- the later calls agree with the runs that the earlier ones left
+-- later calls agree with the runs that the earlier ones left
 pub agree_later : (xs ys : List StoreCall) (runs : List Run) → Agree runs (xs ++ ys) → Agree (changed xs runs) ys
 agree_later [] ys runs a = a
 agree_later (x ∷ xs) ys runs a = agree_later xs ys (changed_by x runs) a.1
 
--- what a crash leaves beside the runs after a call
+-- a crash after a call leaves the runs after it or others in `beside_by`
 crash_by : {R : Type 0} (Leaves : R → List (List Run) → Type 0) (call : StoreCall) (runs : List Run) (may : List (List Run)) (a b : R) → ((m : List (List Run)) → Outlasts Leaves call runs m a b) → Leaves a (runs ∷ may)
     → Leaves b (changed_by call runs ∷ beside_by call runs may)
 crash_by Leaves (Began total moment (Ok number)) runs may a b h l = h may
@@ -33,11 +35,11 @@ crash_by Leaves (Outputs number position answer) runs may a b h l = h (runs ∷ 
 crash_by Leaves _ runs may a b h l = h may l
 
 module _ {R : Type 0} (keep : keeping.Ghosts R) where
-  -- no call
+  -- no calls change nothing
   pub stored_none : (a : R) → Stored keep [] a a
   stored_none a = record { answered = refl; kept = record { stands = λ runs h. h; earlier = λ runs h s. s; agree = λ runs h s. tt; crash = λ runs may h l. l } }
 
-  -- some calls, and then others
+  -- calls and then others have the effect of both
   pub stored_both : (xs ys : List StoreCall) (a b d : R) → Stored keep xs a b → Stored keep ys b d → Stored keep (xs ++ ys) a d
   stored_both xs ys a b d p q =
       let x = p.kept in
@@ -52,11 +54,11 @@ module _ {R : Type 0} (keep : keeping.Ghosts R) where
         };
       }
 
-  -- the same calls
+  -- equal lists of calls have the same effect
   pub stored_as : (xs ys : List StoreCall) (a b : R) → xs ≡ ys → Stored keep xs a b → Stored keep ys a b
   stored_as xs ys a b e p = subst (λ (cs : List StoreCall). Stored keep cs a b) e p
 
-  -- a call that a store served
+  -- one call that obeys the contract has its effect on the store
   pub stored_call : (call : StoreCall) (a b : R) → Serves keep call a b → Stored keep (call ∷ []) a b
   stored_call call a b s = record {
     answered = (b, s.asked, refl);

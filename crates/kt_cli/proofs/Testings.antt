@@ -1,4 +1,4 @@
--- A command over a world and a store.
+-- Commands over a world and a store.
 use Rattle.std.proofs.Common.{Option, Some, Ok, Err, Bool, true, false, take, ◌==◌, if◌then◌else◌, ◌≡◌, ℕ, List, [], ◌∷◌, ◌++◌, refl, sym, ap, ◌∙◌, subst, ◌⊎◌, inl, inr}
 use Rattle.kt_cli.proofs.Common.{utf8, Kind, IsIdle, Job, StoreCall, Chain, Candidate, Command, ReportOptions, Entry, RunFault, NoMemory, SinkFailed, Totals, NoEvent, Trace, cases_of, needs_case, Debugged, all_debug_bytes, debug_exit, memory_line, run_line, Seen, IsPrepared, IsAskedOnly, IsUnasked, Means, stopped, tested, debugged, reported, reported_junit, taken, AsksFirst, selecting, preparing, CutShort, no_memory, cut, report_cut, text_cut, junit_cut, Did, Says, Printed, Question, leads_by, of_host, TextOrUnread, JunitOrUnread, DidReport, Reported, ReportedJunit, Scene, scene, World, launcher_of, Shows, RanPlan, run_for, chain-append}
 use Rattle.kt_base.specs.declared.child.Role.{Role}
@@ -19,21 +19,21 @@ use Rattle.kt_words.specs.declared.command.Command.TheVariants as command
 use Rattle.kt_cli.proofs.Saying.{says_both}
 use Rattle.kt_cli.proofs.StoreChains.{stored_none, stored_as}
 
--- bytes were printed, and the exit is the one that was due
+-- bytes were printed, and the exit status is the expected one, under another name
 pub printed_as : (was now : Option (List ℕ)) (f : Bool) (exit due : ℕ) (bytes : List ℕ) (own : ℕ) → Shows was now f bytes → due ≡ own → exit ≡ (if f then 2 else due) → Printed was now exit bytes own
 printed_as was now f exit due bytes own s k e = record { failed = f; shows = s; exits = e ∙ ap (λ (x : ℕ). if f then 2 else x) k }
 
 module _ {W : Type 0} (w : World W) where
-  -- these cases were selected for a command, by questions whose answers lead from one world to the other
+  -- `HasSelected c options old picked new`: the selection `picked` leads from `old` to `new`
   abbrev HasSelected : Command → CaseOptions → W → Picked → W → Type 0
   HasSelected c options old picked new = Answered (leads_by w.asks w.replies) old new (λ questions. SelectsOrShort (needs_case c) options questions (Ok picked))
 
-  -- a world is idle as before, after a question to its host
+  -- an idle world is idle after a call of its host
   pub idle_after : ((s t : W) (q : Reply) → w.replies s q t → (k : ℕ) (role : Role) → w.running t k role ≡ w.running s k role) → ((s t : W) (q : Reply) → w.replies s q t → (k : ℕ) → w.pending t k ≡ w.pending s k)
       → (mid new : W) (m : Reply) → w.replies mid m new → IsIdle (w.running mid) (w.pending mid) → IsIdle (w.running new) (w.pending new)
   idle_after d e mid new m t j = record { runs = λ k role. d mid new m t k role ∙ j.runs k role; pends = λ k. e mid new m t k ∙ j.pends k }
 
-  -- nothing was started
+  -- a command that started no case did what its calls of the world mean
   asks_only : (c : Command) (old new : W) (was now : Option (List ℕ)) (exit : ℕ) (questions : List Question) (bytes : List ℕ) (due : ℕ) → Chain (leads_by w.asks w.replies) old questions new
       → (q : Printed was now exit bytes due) → Means (asked_only questions) c bytes due ⊎ CutShort (asked_only questions) q.failed c bytes due
       → AsksOnly w c old new was now exit
@@ -42,7 +42,7 @@ module _ {W : Type 0} (w : World W) where
   only_asked : (questions : List Question) → IsAskedOnly (asked_only questions)
   only_asked questions = record { trace = refl; calls = refl }
 
-  -- a fault of the steps ended the command
+  -- a command that a fault stopped prints the fault
   pub stopped_only : (c : Command) (options : CaseOptions) (old new : W) (was now : Option (List ℕ)) (exit : ℕ) (fault : Stop) → cases_of c ≡ Some options
       → Answered (leads_by w.asks w.replies) old new (λ questions. SelectsOrShort (needs_case c) options questions (Err fault))
       → Printed was now exit (utf8 (stop_line fault)) (stop_exit fault) → AsksOnly w c old new was now exit
@@ -56,20 +56,20 @@ module _ {W : Type 0} (w : World W) where
   picked_is needed options questions picked (inl s) = absurd s.0
   picked_is needed options questions picked (inr s) = s
 
-  -- cases were selected, and nothing more was asked
+  -- a command that only selected cases did what the selection means
   pub picked_only : (c : Command) (needed : Bool) (options : CaseOptions) (old new : W) (was now : Option (List ℕ)) (exit : ℕ) (picked : Picked) (bytes : List ℕ) (due : ℕ)
       → ((questions : List Question) → Selects needed options questions (Ok picked) → IsAskedOnly (asked_only questions) → Means (asked_only questions) c bytes due)
       → Answered (leads_by w.asks w.replies) old new (λ questions. SelectsOrShort needed options questions (Ok picked)) → Printed was now exit bytes due → AsksOnly w c old new was now exit
   picked_only c needed options old new was now exit picked bytes due means a p =
       asks_only c old new was now exit a.asked bytes due a.chain p (inl (means a.asked (picked_is needed options a.asked picked a.holds) (only_asked a.asked)))
 
-  -- the selection, and the first questions about its cases
+  -- the calls of a selection, and then the first calls about its cases
   prepared_first : (needed : Bool) (options : CaseOptions) (questions : List Question) (answers : List Reply) (picked : Picked) (cases : List Candidate) → SelectsOrShort needed options questions (Ok picked) → cases ≡ taken needed picked.chosen.cases
       → SurveysFirst cases answers → AsksFirst needed options (questions ++ of_host answers)
   prepared_first needed options questions answers picked cases a same s =
       preparing questions picked answers (picked_is needed options questions picked a) (subst (λ (cs : List Candidate). SurveysFirst cs answers) same s)
 
-  -- memory ran out before a plan was made
+  -- a command ends early if an allocation fails before the plan is made
   pub short_only : (c : Command) (options : CaseOptions) (old mid new : W) (was now : Option (List ℕ)) (exit : ℕ) (picked : Picked) (cases : List Candidate) → cases_of c ≡ Some options
       → HasSelected c options old picked mid → cases ≡ taken (needs_case c) picked.chosen.cases → Answered w.replies mid new (λ answers. SurveysFirst cases answers)
       → Printed was now exit (utf8 memory_line) 2 → AsksOnly w c old new was now exit
@@ -77,11 +77,11 @@ module _ {W : Type 0} (w : World W) where
       asks_only c old new was now exit (a.asked ++ of_host b.asked) (utf8 memory_line) 2 (chain-append (leads_by w.asks w.replies) a.asked (of_host b.asked) old mid new a.chain (chain_of_host w.asks w.replies b.asked mid new b.chain)) p
       (inr (no_memory c options e (prepared_first (needs_case c) options a.asked b.asked picked cases a.holds same b.holds) (only_asked (a.asked ++ of_host b.asked))))
 
-  -- what the host was asked for some cases, and their plan
+  -- `Prepares picked cases plan answers`: `plan` is that of `cases`, by the host's `answers`
   abbrev pub Prepares : Picked → List Candidate → List Job → List Reply → Type 0
   Prepares picked cases plan answers = (host : Host) × Surveys cases answers host × ArePlanned picked.settings.config host 0 cases plan
 
-  -- the questions for cases, for what these require, and then some more
+  -- the calls for the selection, for requirements, and the last ones, together
   asks_all : (before : List Question) (answers last : List Reply) (old mid asked begun : W) → Chain (leads_by w.asks w.replies) old before mid
       → Chain w.replies mid answers asked → Chain w.replies asked last begun → Chain (leads_by w.asks w.replies) old (before ++ (of_host answers ++ of_host last)) begun
   asks_all before answers last old mid asked begun p q r =
@@ -95,7 +95,7 @@ module _ {W : Type 0} (w : World W) where
   prepared needed options before answers last picked cases plan trace calls s p =
       record { before = before; selects = picked_is needed options before picked s; answers = answers; host = p.0; surveys = p.1; asked = refl; planned = p.2 }
 
-  -- one case was run for `debug`
+  -- `debug` prints its case after the case ran
   pub debug_only : (options : CaseOptions) (old mid begun new : W) (was now : Option (List ℕ)) (exit : ℕ) (picked : Picked) (first : Candidate) (others cases some : List Candidate) (plan : List Job) (failed : Bool) (totals : Totals) (due : ℕ)
       → HasSelected (command.Debug options) options old picked mid → cases ≡ picked.chosen.cases → cases ≡ first ∷ others → some ≡ take 1 cases
       → Answered w.replies mid begun (Prepares picked some plan)
@@ -114,7 +114,7 @@ module _ {W : Type 0} (w : World W) where
         printed = record { failed = failed; shows = d.says.more; exits = e ∙ ap (λ (y : ℕ). if failed then 2 else y) (k ∙ ap (λ (y : ℕ). if y == 0 then 0 else 1) d.ends.1.bad) };
       }
 
-  -- memory ran out before the case was started
+  -- `debug` ends early if an allocation fails before its case starts
   pub debug_short : (options : CaseOptions) (old mid begun new : W) (was between now : Option (List ℕ)) (exit : ℕ) (picked : Picked) (some : List Candidate) (plan : List Job) (f g : Bool) (fault : RunFault)
       → Answered (leads_by w.asks w.replies) old mid (λ questions. SelectsOrShort true options questions (Ok picked))
       → some ≡ take 1 picked.chosen.cases → Answered w.replies mid begun (Prepares picked some plan) → Debugged (launcher_of w) plan begun new was between f (Err fault) → Says between f now g (utf8 (run_line fault)) → exit ≡ (if g then 2 else 2)
@@ -133,7 +133,7 @@ module _ {W : Type 0} (w : World W) where
       }
 
   module _ {R : Type 0} (keep : keeping.Ghosts R) where
-    -- a command that calls no store is a command
+    -- a command that makes no calls of the store did what `Did` states
     pub did_asked : (c : Command) (old new : W) (store : R) (was now : Option (List ℕ)) (exit : ℕ) → AsksOnly w c old new was now exit → Did w keep c (scene old store was) (scene new store now) exit
     did_asked c old new store was now exit t = record {
       seen = t.seen;
@@ -145,7 +145,7 @@ module _ {W : Type 0} (w : World W) where
       printed = t.printed;
     }
 
-    -- a plan was run
+    -- `test` did what `Did` states, after its plan was run
     pub did_test : (old new : Scene W R) (options : CaseOptions) (file : List ℕ) (mid asked begun : W) (picked : Picked) (cases : List Candidate) (plan : List Job) (moment exit : ℕ)
         → HasSelected (command.Test options file) options old.world picked mid → cases ≡ picked.chosen.cases
         → Answered w.replies mid asked (Prepares picked cases plan) → w.replies asked (Now moment) begun
@@ -164,7 +164,7 @@ module _ {W : Type 0} (w : World W) where
           printed = r.printed;
         }
 
-    -- nothing was asked
+    -- `called_only calls`: the calls of a command that only calls the store
     abbrev called_only : List StoreCall → Seen
     called_only calls = record { questions = []; plan = []; trace = NoEvent; calls = calls }
 
@@ -172,7 +172,7 @@ module _ {W : Type 0} (w : World W) where
     none_asked = record { questions = refl; trace = refl }
 
     module _ (c : Command) (world : W) (store after : R) (was now : Option (List ℕ)) (exit : ℕ) (options : ReportOptions) where
-      -- what a report did is what its command did
+      -- a report did what `Did` states of its command
       reports : {M : List StoreCall → List ℕ → ℕ → Type 0} {C : Bool → List StoreCall → List ℕ → ℕ → Type 0} (k : Command) → c ≡ k → (d : DidReport keep store after was now exit M C)
           → (M d.calls d.bytes d.due → Means (called_only d.calls) k d.bytes d.due) → (C d.printed.failed d.calls d.bytes d.due → CutShort (called_only d.calls) d.printed.failed k d.bytes d.due)
           → Did w keep c (scene world store was) (scene world after now) exit

@@ -1,4 +1,4 @@
--- A text report with pairs is written, an entry at a time.
+-- A text report with properties, written one entry at a time.
 use Rattle.std.proofs.Common.{Option, Some, None, Result, Ok, Err, Bool, true, false, flat_map, get_or, take, drop, ◌≡◌, ◌<◌, ◌≤◌, ◌+◌, ℕ, List, [], ◌∷◌, ◌++◌, length, map, refl, ap, ap₂, ◌∙◌, sym, subst, append_assoc, append-nil}
 use Rattle.kt_cli.proofs.Common.{Entry, Kind, Run, Shows, shows_as, shows_both, shows_more, shows_none, Pairs, StoreFault, without_pairs, titled_lines, last_kind, opening, by_section, summary, entry_bytes, with_meta, entries_of, same_kind, chosen_of, list_any, StoreCall, EndsEntries, WritesEntries, WritesText, NoPairs, Output, DifferInPairs, asked_pairs, next_bytes, IsDateOf, Date, Stored}
 use Rattle.kt_base.specs.declared.emission.OutputFault.{OutputFault}
@@ -14,7 +14,7 @@ use Rattle.std.proofs.lemmas.List.{map-append, take_all}
 differ_both : (us vs xs ys : List Entry) → DifferInPairs us xs → DifferInPairs vs ys → DifferInPairs (us ++ vs) (xs ++ ys)
 differ_both us vs xs ys p q = map-append without_pairs us vs ∙ ap₂ (λ (ps qs : List Entry). ps ++ qs) p q ∙ sym (map-append without_pairs xs ys)
 
--- what is written next where others are left too
+-- the next bytes before some entries and others are those before all of them
 next_more : (before : Option Kind) (rest more : List Entry) (end : List ℕ) → next_bytes before rest (next_bytes before more end) ≡ next_bytes before (rest ++ more) end
 next_more before [] more end = refl
 next_more before (e ∷ rest) more end = refl
@@ -22,6 +22,7 @@ next_more before (e ∷ rest) more end = refl
 asked_both : (number : ℕ) (xs ys : List Entry) → asked_pairs number (xs ++ ys) ≡ asked_pairs number xs ++ asked_pairs number ys
 asked_both number xs ys = map-append (λ (e : Entry). Pairs number e.position (Ok e.meta)) xs ys
 
+-- `single e`: the list of the entry `e`
 abbrev pub single : Entry → List Entry
 single e = e ∷ []
 
@@ -29,7 +30,7 @@ singles : (es : List Entry) → flat_map single es ≡ es
 singles [] = refl
 singles (e ∷ es) = ap (λ xs. e ∷ xs) (singles es)
 
--- all entries of a kind that is chosen
+-- the section of a chosen kind has all entries of the kind
 pub all_chosen : (kinds : List Kind) (kind : Kind) (items es : List Entry) (b : Bool) → items ≡ es → b ≡ list_any (same_kind kind) kinds → b ≡ true
     → flat_map (if_of single kind) items ≡ chosen_of kinds es kind
 all_chosen kinds kind items es b same is on = ap (flat_map (if_of single kind)) same ∙ if_of_all single kind es ∙ singles (entries_of kind es) ∙ rw (sym is ∙ on) refl
@@ -37,22 +38,27 @@ all_chosen kinds kind items es b same is on = ap (flat_map (if_of single kind)) 
 module _ {R : Type 0} (keep : keeping.Ghosts R) (number : ℕ) where
   -- ---- no entry, and one
 
+  -- without entries, nothing is written
   pub entries_none : {store : R} {was : Option (List ℕ)} {before : Option Kind} → WritesEntries keep store store was was number before [] (Ok before)
   entries_none {store} = record { ends = ([], refl, refl, stored_none keep store, shows_none) }
 
+  -- writing ends early if a title can't be written
   pub title_cut : {store : R} {was now : Option (List ℕ)} {before : Option Kind} {e : Entry} (fault : OutputFault) → Shows was now true (opening before e.verdict.kind)
       → WritesEntries keep store store was now number before (e ∷ []) (Err (Output fault))
   title_cut {store} {e = e} fault s = record { ends = ([], e ∷ [], refl, stored_none keep store, λ end. s) }
 
+  -- writing ends early if the properties of an entry can't be read
   pub pairs_refused : {store after : R} {was now : Option (List ℕ)} {before : Option Kind} {e : Entry} (fault : StoreFault) → Shows was now false (opening before e.verdict.kind)
       → Stored keep (Pairs number e.position (Err fault) ∷ []) store after → WritesEntries keep store after was now number before (e ∷ []) (Err (NoPairs fault))
   pairs_refused {e = e} fault s p = record { ends = ([], [], e, refl, p, s) }
 
   module _ {store after : R} {was held now : Option (List ℕ)} {before : Option Kind} {e : Entry} (pairs : List Variable) (s : Shows was held false (opening before e.verdict.kind))
       (p : Stored keep (Pairs number e.position (Ok pairs) ∷ []) store after) where
+    -- writing ends early if an entry can't be written
     pub entry_cut : (fault : OutputFault) → Shows held now true (entry_bytes true (with_meta e pairs)) → WritesEntries keep store after was now number before (e ∷ []) (Err (Output fault))
     entry_cut fault t = record { ends = (with_meta e pairs ∷ [], [], refl, p, λ end. shows_more end (shows_both s (shows_more [] t))) }
 
+    -- an entry is written after its title and its line
     pub entry_written : {kind : Kind} → kind ≡ e.verdict.kind → Shows held now false (entry_bytes true (with_meta e pairs))
         → WritesEntries keep store after was now number before (e ∷ []) (Ok (Some kind))
     entry_written is t = record { ends = (with_meta e pairs ∷ [], refl, ap Some is, p, shows_both s (shows_as (sym (append-nil (entry_bytes true (with_meta e pairs)))) t)) }
@@ -98,7 +104,7 @@ module _ {R : Type 0} (keep : keeping.Ghosts R) (number : ℕ) where
       let e = w.ends in
       record { ends = ends_both store mid after was held now before xs ys e.0 e.1 e.3 e.4 answer (subst (λ (k : Option Kind). EndsEntries keep mid after held now number k ys answer) e.2 v.ends) }
 
-  -- the writing of some ended early
+  -- if writing the first entries ends early, writing all of them does
   ends_cut : (store after : R) (was now : Option (List ℕ)) (before : Option Kind) (xs ys : List Entry) (stop : TextStop) → EndsEntries keep store after was now number before xs (Err stop)
       → EndsEntries keep store after was now number before (xs ++ ys) (Err stop)
   ends_cut store after was now before xs ys (NoPairs fault) v =
@@ -111,23 +117,27 @@ module _ {R : Type 0} (keep : keeping.Ghosts R) (number : ℕ) where
     λ end. shows_as (ap (λ (bs : List ℕ). titled_lines true before v.0 ++ bs) (next_more (last_kind before v.0) v.1 ys end)) (v.4 (next_bytes (last_kind before v.0) ys end)),
   )
 
+  -- equal entries are written alike
   pub entries_as : {store after : R} {was now : Option (List ℕ)} {before : Option Kind} {xs ys : List Entry} {answer : Result (Option Kind) TextStop} → xs ≡ ys
       → WritesEntries keep store after was now number before xs answer → WritesEntries keep store after was now number before ys answer
   entries_as {store} {after} {was} {now} {before} {answer = answer} same w = subst (λ (es : List Entry). WritesEntries keep store after was now number before es answer) same w
 
-  -- those of each item of a list in turn
+  -- the entries of each item of a list, item by item
   module _ {X : Type 0} (f : X → List Entry) (items : List X) (i : ℕ) where
+    -- after the entries of one more item, the entries of the items so far are written
     pub item_next : (d : X) {store mid after : R} {was held now : Option (List ℕ)} {before last : Option Kind} {answer : Result (Option Kind) TextStop} → i < length items
         → WritesEntries keep store mid was held number before (flat_map f (take i items)) (Ok last) → WritesEntries keep mid after held now number last (f (get_or items i d)) answer
         → WritesEntries keep store after was now number before (flat_map f (take (i + 1) items)) answer
     item_next d low w v = entries_as (in_turn_more f items i d low) (entries_both w v)
 
+    -- writing ends early if the entries of an item can't be written
     pub item_cut : (d : X) {store mid after : R} {was held now : Option (List ℕ)} {before last : Option Kind} {stop : TextStop} → i < length items
         → WritesEntries keep store mid was held number before (flat_map f (take i items)) (Ok last) → WritesEntries keep mid after held now number last (f (get_or items i d)) (Err stop)
         → WritesEntries keep store after was now number before (flat_map f items) (Err stop)
     item_cut d {store} {mid} {after} {was} {held} {now} {before} {last} {stop} low w v =
         entries_as (in_turn_all f items (i + 1)) (record { ends = ends_cut store after was now before _ (flat_map f (drop (i + 1) items)) stop (item_next d low w v).ends })
 
+    -- after the last item, the entries of all items are written
     pub items_all : {store after : R} {was now : Option (List ℕ)} {before last : Option Kind} → length items ≤ i
         → WritesEntries keep store after was now number before (flat_map f (take i items)) (Ok last)
         → WritesEntries keep store after was now number before (flat_map f items) (Ok last)
@@ -137,15 +147,18 @@ module _ {R : Type 0} (keep : keeping.Ghosts R) (number : ℕ) where
 
 module _ {R : Type 0} (keep : keeping.Ghosts R) where
   module _ {kinds : List Kind} {run : Run} (date : Date) (on : IsDateOf run.started date) where
+    -- the report ends early if a section can't be written
     pub sections_cut : {store after : R} {was now : Option (List ℕ)} (stop : TextStop) → WritesEntries keep store after was now run.number None (by_section kinds run.entries) (Err stop)
         → WritesText keep store after was now kinds run (Err stop)
     sections_cut (NoPairs fault) w = record { ends = w.ends }
     sections_cut (Output fault) w = let e = w.ends in record { ends = (e.0, e.1, date, on, e.2, e.3, e.4 (summary date run)) }
 
     module _ {store after : R} {was held now : Option (List ℕ)} {last : Option Kind} (w : WritesEntries keep store after was held run.number None (by_section kinds run.entries) (Ok last)) where
+      -- the report ends early if the summary can't be written
       pub summary_cut : (fault : OutputFault) → Shows held now true (summary date run) → WritesText keep store after was now kinds run (Err (Output fault))
       summary_cut fault s =
           let e = w.ends in record { ends = (e.0, [], date, on, ap (λ es. map without_pairs es) (append-nil e.0) ∙ e.1, e.3, shows_both e.4 s) }
 
+      -- after the summary, the whole report is written
       pub text_written : Shows held now false (summary date run) → WritesText keep store after was now kinds run (Ok tt)
       text_written s = let e = w.ends in record { ends = (e.0, date, on, e.1, e.3, shows_both e.4 s) }

@@ -1,7 +1,7 @@
--- The line of a case that `list` prints.
+-- Lines of `list`.
 use Rattle.std.specs.Prelude.{ℕ, List, ◌++◌, codes}
 use Rattle.kt_cli.specs.Types.{Candidate}
 
--- the program's path and the case's name
+-- `case_line candidate`: the line of `candidate`: its program's path, a colon and its name.
 abbrev pub case_line : Candidate → List ℕ
 case_line candidate = candidate.path ++ codes ":" ++ candidate.case.name ++ codes "\n"

@@ -1,12 +1,12 @@
--- The command that the words of a process say.
+-- The command in the arguments of a process.
 use Rattle.std.specs.Prelude.{◌≡◌, ℕ, List, Result, Ok, Err, IsErrAnd}
 use Rattle.std.specs.IoError.{error_kind}
 use Rattle.kt_cli.specs.Types.{Command, CommandFault, Error}
 use Rattle.std.specs.declared.io.ErrorKind.TheVariants.{OutOfMemory}
 use Rattle.kt_words.specs.Reading.{Reads, RefusesWords}
 
--- The words after the program's own name are read as this command, or are refused. If the system doesn't give the words, they
--- are refused, too.
+-- `IsSaid own words command`: `command` is the parse of the arguments `own words`, those after the
+-- program's own name. If the system returned an error for `words`, the arguments are rejected.
 abbrev pub IsSaid : {W : Type 0} → (W → List (List ℕ)) → Result W Error → Result Command CommandFault → Type 0
 IsSaid own (Ok words) command = Reads (own words) command
 IsSaid own (Err error) command = IsErrAnd command (RefusesWords (error_kind error ≡ OutOfMemory))

@@ -1,4 +1,4 @@
--- The words that the clauses of this crate cite, passed on from one place. Declares nothing.
+-- Re-exports the names that the clauses of this crate cite. Declares nothing.
 pub use Rattle.std.proofs.Common.{ap}
 pub use Rattle.std.specs.Io.{WritesAtMost}
 pub use Rattle.std.specs.Io.KnownBytes.{Keeps, WriteAppends}

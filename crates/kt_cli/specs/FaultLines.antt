@@ -1,16 +1,16 @@
--- The lines by which commands report faults.
+-- Error lines of commands.
 use Rattle.std.specs.Prelude.{ℕ, List, ◌++◌, codes}
 use Rattle.kt_cli.specs.Types.{StoreFault}
 use Rattle.kt_store.specs.Ask.{fault_words}
 
--- the line of a fault with these words
+-- `fault_line words`: the error line with the message `words`.
 abbrev pub fault_line : List ℕ → List ℕ
 fault_line words = codes "kyua: E: " ++ words ++ codes "\n"
 
--- memory ran out
+-- The error line of a failed allocation.
 abbrev pub memory_line : List ℕ
 memory_line = fault_line (codes "out of memory")
 
--- a call that the store refused
+-- `refusal_line fault`: the error line of a call of the store that failed with `fault`.
 abbrev pub refusal_line : StoreFault → List ℕ
 refusal_line fault = fault_line (fault_words fault)

@@ -1,4 +1,4 @@
--- What private functions do: no public clause cites it.
+-- Definitions that only private functions cite.
 pub mod Debugging
 pub mod FaultLines
 pub mod HostAnswers

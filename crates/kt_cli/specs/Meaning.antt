@@ -1,4 +1,4 @@
--- What a command means: by the answers of its world and of its store, the bytes and the exit.
+-- The meaning of a command: its output and its exit status, by the results of its calls.
 use Rattle.std.specs.Prelude.{ℕ, Bool, true, false, List, [], ◌∷◌, ◌++◌, ◌≡◌, ◌⊎◌, Some, Ok, Err, take, flat_map, if◌then◌else◌}
 use Rattle.kt_cli.specs.Types.{Candidate, CaseOptions, Chain, Command, Entry, Job, Kind, Leads, NoEvent, Now, Picked, Question, Stop, StoreCall, Reply, Trace, cases_of, leads_by, needs_case, utf8}
 use Rattle.kt_metadata.specs.declared.host.Host.{Host}
@@ -21,29 +21,31 @@ use Rattle.kt_cli.specs.Stores.{Stored}
 use Rattle.kt_cli.specs.Testing.{all_matched, run_for, Tested, TestCut}
 use Rattle.kt_cli.specs.Warnings.{warnings}
 
--- what was answered to one command: its questions in the order in which they were put, by the launcher, which was lent the jobs of this plan,
--- and by the store, in the order of the calls
+-- The calls of one command with their results, each list in order: of the world, of the launcher
+-- with its plan, and of the store.
 pub record Seen : Type 0 where
   pub questions : List Question
   pub plan : List Job
   pub trace : Trace
   pub calls : List StoreCall
 
--- these answers lead the world through the command
+-- `Course w seen old new`: the calls `seen` lead the world from `old` to `new`.
 pub record Course {W : Type 0} (w : World W) (seen : Seen) (old new : W) : Type 0 where
   pub begun : W
   pub asked : Chain (leads_by w.asks w.replies) old seen.questions begun
   pub ran : Leads w.starts w.waits seen.plan seen.trace begun new
 
--- a line for each selected case, and a warning for each filter that selects none
+-- `listing words chosen`: a line for each selected case, and a warning for each filter in `words`
+-- that selects none.
 abbrev pub listing : List (List ℕ) → Chosen → List ℕ
 listing words chosen = utf8 (flat_map case_line chosen.cases) ++ utf8 (warnings words chosen.unmatched)
 
--- 0 if each filter selects a case
+-- `listing_exit chosen`: 0 if each filter selects a case, else 1.
 abbrev pub listing_exit : Chosen → ℕ
 listing_exit chosen = if all_matched chosen.unmatched then 0 else 1
 
--- these cases were selected, the host was asked for what they require, and then these questions; the plan is theirs
+-- `IsPrepared needed options seen picked cases last`: `cases` were selected, the host was queried
+-- for their requirements, then the calls `last` were made, and the plan is that of `cases`.
 pub record IsPrepared (needed : Bool) (options : CaseOptions) (seen : Seen) (picked : Picked) (cases : List Candidate) (last : List Reply) : Type 0 where
   pub before : List Question
   pub selects : Selects needed options before (Ok picked)
@@ -53,17 +55,18 @@ pub record IsPrepared (needed : Bool) (options : CaseOptions) (seen : Seen) (pic
   pub asked : seen.questions ≡ before ++ (of_host answers ++ of_host last)
   pub planned : ArePlanned picked.settings.config host 0 cases seen.plan
 
--- no case was started, and the store was not called; programs may have been asked for their lists
+-- `IsAskedOnly seen`: no case was started and the store was not called. Programs may have listed
+-- their cases.
 pub record IsAskedOnly (seen : Seen) : Type 0 where
   pub trace : seen.trace ≡ NoEvent
   pub calls : seen.calls ≡ []
 
--- nothing was asked, and nothing was started
+-- `IsUnasked seen`: the world was not called and no case was started.
 pub record IsUnasked (seen : Seen) : Type 0 where
   pub questions : seen.questions ≡ []
   pub trace : seen.trace ≡ NoEvent
 
--- what one command means: its bytes and its exit
+-- `Means seen c bytes exit`: `c` prints `bytes` and has the status `exit`, by the calls `seen`.
 pub data Means (seen : Seen) : Command → List ℕ → ℕ → Type 0 where
   stopped : (c : Command) (options : CaseOptions) (fault : Stop) → cases_of c ≡ Some options → Selects (needs_case c) options seen.questions (Err fault) → IsAskedOnly seen
       → Means seen c (utf8 (stop_line fault)) (stop_exit fault)
@@ -82,18 +85,22 @@ pub data Means (seen : Seen) : Command → List ℕ → ℕ → Type 0 where
   reported_junit : (options : ReportOptions) (bytes : List ℕ) (exit : ℕ) → IsUnasked seen → ReportedJunit options.run seen.calls bytes exit
       → Means seen (command.ReportJunit options) bytes exit
 
--- the selected cases that a command runs: all, or for `debug` the first
+-- `taken needed cases`: the selected cases that a command runs: all, or the first for `debug`
+-- (`needed`).
 abbrev pub taken : Bool → List Candidate → List Candidate
 taken false cases = cases
 taken true cases = take 1 cases
 
--- the first questions of a command over test cases for which memory ran out: for its cases, and then for what they require
+-- `AsksFirst needed options questions`: `questions` are the calls of a command over test cases up
+-- to a failed allocation. The calls for the cases come first, then those for their requirements.
 pub data AsksFirst (needed : Bool) (options : CaseOptions) : List Question → Type 0 where
   selecting : (questions : List Question) → SelectsFirst needed options questions → AsksFirst needed options questions
   preparing : (before : List Question) (picked : Picked) (answers : List Reply) → Selects needed options before (Ok picked)
       → SurveysFirst (taken needed picked.chosen.cases) answers → AsksFirst needed options (before ++ of_host answers)
 
--- how a command ends if memory or the store cuts it short, or a failed writer, after which a report asks the store for no more
+-- `CutShort seen failed c bytes exit`: a failed allocation, the store, or a `failed` writer ends
+-- `c` early, with `bytes` and `exit`. After a failed write a report makes no more calls of the
+-- store.
 pub data CutShort (seen : Seen) (failed : Bool) : Command → List ℕ → ℕ → Type 0 where
   no_memory : (c : Command) (options : CaseOptions) → cases_of c ≡ Some options → AsksFirst (needs_case c) options seen.questions → IsAskedOnly seen
       → CutShort seen failed c (utf8 memory_line) 2
@@ -108,8 +115,9 @@ pub data CutShort (seen : Seen) (failed : Bool) : Command → List ℕ → ℕ �
       → CutShort seen failed (command.ReportJunit options) bytes exit
 
 module _ {W R : Type 0} (w : World W) (r : keeping.Ghosts R) where
-  -- what `execute` did, by what it saw: what the command means, or how memory or the store cut it short; a failed writer holds a proper
-  -- prefix of its bytes. The store's own answers are part of it, and what they did to the runs stands apart: nothing else rests on the store
+  -- `Did w r c old new exit`: `execute` ran `c`, with the calls `seen`, which include those of the
+  -- store. The output is what `c` means, or `c` ended early. A failed writer has a proper prefix of
+  -- the output. `stored` states the effect on the runs, and nothing else depends on the store.
   pub record Did (c : Command) (old new : Scene W R) (exit : ℕ) : Type 0 where
     pub seen : Seen
     pub course : Course w seen old.world new.world

@@ -1,4 +1,5 @@
--- How the program runs: it opens the results, executes the command and closes them; or the arguments are no command.
+-- The whole program: it opens the results, executes the command and closes the results, or it
+-- rejects the arguments.
 use Rattle.std.specs.Prelude.{ℕ, Bool, false, List, ◌≡◌, Option, None, Ok, Err, [], Some, Result, if◌then◌else◌}
 use Rattle.std.specs.Io.KnownBytes.{Keeps}
 use Rattle.kt_cli.specs.Types.{Access, Call, CaseOptions, Chain, Command, CommandFault, DriverFault, HostWorld, NoWorkDirectory, Run, StoreFault, Surroundings, cases_of, is_absolute, utf8}
@@ -30,7 +31,8 @@ use Rattle.kt_cli.specs.Platforms.{Opened, Closed, Found}
 use Rattle.kt_cli.specs.Refused.{driver_line, command_text, failure_exit, wrong_words_exit, Refused}
 use Rattle.kt_cli.specs.Scenes.{Scene, scene, with_world, with_store, World}
 
--- the relations of what the program has: the machine, the system, its platform, and the results that it opens
+-- The relations of the parts of a program: its machine, its system, its platform, and the results
+-- that the platform opens.
 pub record Program (M O P S : Type 0) : Type 1 where
   pub machine : machine.Ghosts M
   pub system : system.Ghosts O
@@ -38,21 +40,22 @@ pub record Program (M O P S : Type 0) : Type 1 where
   pub results : keeping.Ghosts S
 
 module _ {M O P S : Type 0} where
-  -- a program of these parts
+  -- `program machine system platform results`: a program of these parts.
   abbrev pub program : machine.Ghosts M → system.Ghosts O → platform.Ghosts P S → keeping.Ghosts S → Program M O P S
   program machine system platform results = record { machine = machine; system = system; platform = platform; results = results }
 
--- what a command finds and leaves: the platform, and what lies outside
+-- The state before or after a command: the platform, and the handles to the host.
 pub record State (M O P : Type 0) : Type 0 where
   pub platform : P
   pub outside : Outside M O
 
--- a state of these parts
+-- `state platform outside`: a state of these parts.
 abbrev pub state : {M O P : Type 0} → P → Outside M O → State M O P
 state platform outside = record { platform = platform; outside = outside }
 
 module _ {O : Type 0} (o : system.Ghosts O) (os : O) where
-  -- a driver for the programs beside a Kyuafile, whose root directory was just made
+  -- `IsMade here base kyuafile d`: `d` is a new driver for the programs of `kyuafile`, with a new
+  -- root directory in `base`.
   pub record IsMade (here base kyuafile : List ℕ) (d : Driver O) : Type 0 where
     pub calls : List Call
     pub asked : Chain o.leads os calls d.os
@@ -61,22 +64,23 @@ module _ {O : Type 0} (o : system.Ghosts O) (os : O) where
     pub first : d.next ≡ 0
     pub none_runs : d.running ≡ idle_state
 
-  -- why no driver is made below a work directory, and the system as it is given back: the directory begins elsewhere than at the root of the
-  -- host, or none of the root directories that were asked for could be made in it, and there are no more or memory ran out
+  -- `NoRoot base fault left`: no driver was created, because `base` is not absolute, no root
+  -- directory could be created in it, or an allocation failed. `left` is the system afterwards.
   pub data NoRoot (base : List ℕ) : DriverFault → O → Type 0 where
     not_absolute : is_absolute base ≡ false → NoRoot base NoWorkDirectory os
     none_made : (fault : DriverFault) (calls : List Call) (left : O) → Chain o.leads os calls left → FindsRoot base calls (Err fault) → NoRoot base fault left
 
 module _ {M O : Type 0} (o : system.Ghosts O) (before : Outside M O) where
-  -- why no driver is made, with what lies outside as it is given back: the machine was asked nothing
+  -- `NoDriver base fault after`: no driver was created, and the machine was not called.
   abbrev pub NoDriver : List ℕ → DriverFault → Outside M O → Type 0
   NoDriver base fault after = NoRoot o before.os base fault after.os × (after.machine ≡ before.machine)
 
 module _ {M O R : Type 0} (m : machine.Ghosts M) (o : system.Ghosts O) (r : keeping.Ghosts R) (before after : Scene (Outside M O) R) where
-  -- a command was executed over the files beside its Kyuafile and over a driver that was made for its options; then the removal of the driver's
-  -- root directory was asked for. Nothing else was asked of the machine and the system. All that the driver asked was for the answers of the
-  -- trace, from a board on which nothing runs: each poll and kill is heard by one child, and each end has the outcome that the table gives for
-  -- its child's answers
+  -- `OnDriver around options c exit`: `c` was executed over the files below its Kyuafile's
+  -- directory and over a new driver, whose root directory was removed afterwards. Nothing else was
+  -- called. The calls of the driver are those for the events of the trace, from a state without
+  -- running children. Each poll and kill belongs to one child, and each outcome is that of the
+  -- table for the child's results.
   pub record OnDriver (around : Surroundings) (options : CaseOptions) (c : Command) (exit : ℕ) : Type 0 where
     pub old : HostWorld M O
     pub new : HostWorld M O
@@ -89,14 +93,15 @@ module _ {M O R : Type 0} (m : machine.Ghosts M) (o : system.Ghosts O) (r : keep
     pub left : after.world.machine ≡ new.machine
     pub closed : (done : Bool) × o.leads new.driver.os (RemoveTree new.driver.root done) after.world.os
 
--- a world that answers nothing
+-- A world that can't be called.
 abbrev pub no_world : World (Unit {0})
 no_world = record { running = λ w k role. None; pending = λ w k. false; starts = λ w job role answer v. ⊥; waits = λ w ended v. ⊥; asks = λ w asked v. ⊥; replies = λ w answer v. ⊥ }
 
 module _ {M O P S R : Type 0} (p : Program M O P S) (r : keeping.Ghosts R) where
-  -- a command was executed over a store: a report by itself; a command over test cases with what was found around the process and a driver of
-  -- its own, or, without one of these, a line says so and the store is as it was. Nothing else is asked of the machine
-  -- and the system, and of the platform what is found around the process
+  -- `DoneOver c old new exit`: `c` was executed over a store. A report needs only the store. A
+  -- command over test cases also gets the surroundings of the process and a new driver. Without
+  -- these, an error line is printed and the store is unchanged. Nothing else of the machine and the
+  -- system is called.
   pub data DoneOver (c : Command) (old new : Scene (State M O P) R) (exit : ℕ) : Type 0 where
     needs_nothing : cases_of c ≡ None → new.world ≡ old.world → Did no_world r c (with_world tt old) (with_world tt new) exit → DoneOver c old new exit
     done : (options : CaseOptions) (around : Surroundings) → cases_of c ≡ Some options → p.platform.provides old.world.platform (Found (Ok around)) new.world.platform
@@ -107,39 +112,42 @@ module _ {M O P S R : Type 0} (p : Program M O P S) (r : keeping.Ghosts R) where
         → NoDriver p.system old.world.outside options.work fault new.world.outside → new.store ≡ old.store → Printed old.held new.held exit (utf8 (driver_line fault)) failure_exit
         → DoneOver c old new exit
 
--- what was given to standard output was handed on, and the exit is the due one; or it is 2, if some of this stays unwritten or the flush of
--- standard output failed
+-- `Flushed held now due exit`: all bytes for standard output were written, and `exit` is `due`. If
+-- some bytes are unwritten, or the flush failed, `exit` is 2.
 pub record Flushed (held : Option (List ℕ)) (now : LineState) (due exit : ℕ) : Type 0 where
   pub kept : Keeps held now.given
   pub failed : Bool
   pub ends : HandedOn now.failed now.unflushed now.unwritten failed
   pub exits : exit ≡ (if failed then failure_exit else due)
 
--- memory ran out as the arguments were read: one line says so on standard output
+-- `PrintsShortage was now exit`: an allocation failed while the arguments were parsed, and an error
+-- line is printed on standard output.
 pub record PrintsShortage (was : Option (List ℕ)) (now : LineState) (exit : ℕ) : Type 0 where
   pub held : Option (List ℕ)
   pub due : ℕ
   pub refused : Refused was held due (utf8 memory_line) failure_exit
   pub flushed : Flushed held now due exit
 
--- what was given to standard output, and what standard error holds
+-- The state of standard output, and the content of standard error.
 pub record Streams : Type 0 where
   pub out : LineState
   pub errors : Option (List ℕ)
 
--- why arguments are no command is printed on standard error, and nothing on standard output
+-- `Rejected fault was now exit`: the `fault` of the arguments is printed on standard error, and
+-- nothing on standard output. A failed allocation is printed on standard output instead.
 abbrev pub Rejected : CommandFault → Streams → Streams → ℕ → Type 0
 Rejected (command.NoMemory shortage) was now exit = PrintsShortage was.out.given now.out exit × (now.errors ≡ was.errors)
 Rejected fault was now exit = Refused was.errors now.errors exit (utf8 (command_text fault)) wrong_words_exit × (now.out.given ≡ was.out.given)
 
--- what a command opens its results for: `test` adds a run to them, another command only shows them
+-- `access_of c`: `test` adds a run to its results file, another command only reads.
 abbrev pub access_of : Command → Access
 access_of (Test options file) = Record
 access_of _ = Read
 
 module _ {M O P S : Type 0} (p : Program M O P S) where
-  -- a command was executed over the results in a file: they were opened first, for what it does with them, and closed last, once, as the
-  -- command left them; or they could not be opened: then a line says why, and nothing else was done. Before and after it no store is open
+  -- `DoneIn c file old new exit`: the results in `file` were opened, `c` was executed, and the
+  -- results were closed once. If the open failed, an error line is printed, and nothing else is
+  -- done.
   pub data DoneIn (c : Command) (file : List ℕ) (old new : Scene (State M O P) (Unit {0})) (exit : ℕ) : Type 0 where
     not_opened : (fault : StoreFault) → p.platform.provides old.world.platform (Opened file (access_of c) (Err fault)) new.world.platform → new.world.outside ≡ old.world.outside
         → Printed old.held new.held exit (utf8 (refusal_line fault)) failure_exit → DoneIn c file old new exit
@@ -148,19 +156,21 @@ module _ {M O P S : Type 0} (p : Program M O P S) where
         → DoneOver p p.results c (scene (state begun old.world.outside) store old.held) (scene (state done new.world.outside) after held) due
         → p.platform.provides done (Closed after answer) new.world.platform → Concluded answer held new.held due exit → DoneIn c file old new exit
 
-  -- a command was executed over the results in its file, or, if it has no file, over an empty store in memory
+  -- `DoneBy c file old new exit`: `c` was executed over the results in `file`, or, without a file,
+  -- over an empty store in memory.
   abbrev pub DoneBy : Command → Option (List ℕ) → Scene (State M O P) (Unit {0}) → Scene (State M O P) (Unit {0}) → ℕ → Type 0
   DoneBy c (Some file) old new exit = DoneIn c file old new exit
   DoneBy c None old new exit = (after : List Run) × DoneOver p memory_runs c (with_store [] old) (with_store after new) exit
 
-  -- a command was performed: it was executed, and then all its text was handed on
+  -- `Performed c old new was now exit`: `c` was executed, and then all its output was written.
   pub record Performed (c : Command) (old new : State M O P) (was : Option (List ℕ)) (now : LineState) (exit : ℕ) : Type 0 where
     pub held : Option (List ℕ)
     pub due : ℕ
     pub done : DoneBy c (results_of c) (scene old tt was) (scene new tt held) due
     pub flushed : Flushed held now due exit
 
-  -- what came of the arguments: their command was performed, or they were rejected and nothing was asked for
+  -- `CarriedOut command old new was now exit`: the `command` in the arguments was executed, or its
+  -- fault was printed and nothing was called.
   abbrev pub CarriedOut : Result Command CommandFault → State M O P → State M O P → Streams → Streams → ℕ → Type 0
   CarriedOut (Ok c) old new was now exit = Performed c old new was.out.given now.out exit × (now.errors ≡ was.errors)
   CarriedOut (Err fault) old new was now exit = Rejected fault was now exit × (new ≡ old)

@@ -1,12 +1,12 @@
--- Where a Kyuafile lies among the host's files.
+-- The directory of a Kyuafile.
 use Rattle.std.specs.Prelude.{ℕ, List, ◌++◌, codes, if◌then◌else◌}
 use Rattle.kt_cli.specs.Types.{is_absolute}
 use Rattle.kt_suite.specs.Paths.{parent_of}
 
--- a path, seen from a directory
+-- `absolute here path`: the absolute form of `path`, with `here` as the working directory.
 abbrev pub absolute : List ℕ → List ℕ → List ℕ
 absolute here path = if is_absolute path then path else here ++ codes "/" ++ path
 
--- the directory of a Kyuafile, without a slash at its end
+-- `source_directory here kyuafile`: the directory of `kyuafile`, without a slash at its end.
 abbrev pub source_directory : List ℕ → List ℕ → List ℕ
 source_directory here kyuafile = parent_of (absolute here kyuafile)

@@ -1,4 +1,4 @@
--- What became of a plan's cases: which were recorded and printed, and how it ended.
+-- Recording of a plan's cases.
 use Rattle.std.specs.Prelude.{ℕ, List, ◌==◌, ◌≡◌, ◌≤◌, Some, count_by, length, take, slice_get}
 use Rattle.kt_cli.specs.Types.{Entry, Job, Trace}
 use Rattle.kt_sched.specs.EntryOf.{IsEntryOf, AreEntries}
@@ -6,13 +6,15 @@ use Rattle.kt_sched.specs.RecordOrder.{Due, dues, recorded}
 use Rattle.kt_sched.specs.Run.{NamesEachOnce}
 use Rattle.kt_sched.specs.ScheduleRules.{Legal, Stopped}
 
--- the trace is legal at a width, and each case is recorded once with the verdict of its own events
+-- `AllRecorded plan n T entries`: the trace `T` is legal at width `n`, and each case of `plan` is
+-- recorded once, with the verdict that its events give.
 pub record AllRecorded (plan : List Job) (n : ℕ) (T : Trace) (entries : List Entry) : Type 0 where
   pub legal : Legal plan n T
   pub once : NamesEachOnce plan (recorded plan n T)
   pub are : AreEntries plan T (recorded plan n T) entries
 
--- the entries before a put that failed, and where the schedule stopped
+-- `IsStopped plan n T entries refused`: `entries` were recorded, the put of the next entry
+-- `refused` failed, and the schedule stopped there.
 pub record IsStopped (plan : List Job) (n : ℕ) (T : Trace) (entries : List Entry) (refused : Entry) : Type 0 where
   pub due : Due
   pub next : slice_get (dues plan n T) (length entries) ≡ Some due

@@ -1,4 +1,4 @@
--- Which run is shown, and what is shown of it.
+-- Output of the reports.
 use Rattle.std.specs.Prelude.{ℕ, Bool, true, false, zero, suc, List, [], ◌∷◌, ◌++◌, ◌-◌, ◌≡◌, Option, Some, None, Ok, Err, codes, length, map, slice_get, flat_map}
 use Rattle.kt_cli.specs.Types.{Date, Entry, Heads, IsDateOf, Kind, Outline, Outputs, Pairs, Run, RunHead, StoreCall, StoreFault, by_section, case_bytes, decimal, ending, heading, last_kind, opening, summary, titled_lines, utf8}
 use Rattle.kt_report.specs.Junits.{junit_bytes}
@@ -6,58 +6,63 @@ use Rattle.kt_report.specs.Texts.{text_bytes}
 use Rattle.kt_store.specs.Heads.{outputs_of, without_outputs, without_pairs}
 use Rattle.kt_cli.specs.FaultLines.{memory_line, refusal_line}
 
--- the one of a number, counted from 1, or else the last one
+-- `chosen number xs`: the element of `xs` with this number, counted from 1. If `number` is `None`,
+-- the last element.
 abbrev pub chosen : {X : Type 0} → Option ℕ → List X → Option X
 chosen None xs = slice_get xs (length xs - 1)
 chosen (Some zero) xs = None
 chosen (Some (suc k)) xs = slice_get xs k
 
--- there is no run
+-- The error line of a store without runs.
 abbrev pub no_runs_line : List ℕ
 no_runs_line = codes "kyua: E: no runs\n"
 
--- there are runs, but none of this number
+-- `no_run_line number`: the error line of a store that has runs, but none with this number.
 abbrev pub no_run_line : ℕ → List ℕ
 no_run_line number = codes "kyua: E: no run " ++ decimal number ++ codes "\n"
 
--- why no run is shown, by the heads of all runs
+-- `missing_line number heads`: the error line of a missing run, by the heads of all runs.
 abbrev pub missing_line : Option ℕ → List RunHead → List ℕ
 missing_line number [] = no_runs_line
 missing_line None (head ∷ heads) = no_runs_line
 missing_line (Some number) (head ∷ heads) = no_run_line number
 
--- a run, by its head and its entries
+-- `run_of head entries`: the run with this head and these entries.
 abbrev pub run_of : RunHead → List Entry → Run
 run_of head entries = record { number = head.number; started = head.started; total = head.total; finished = head.finished; entries = entries }
 
--- the same entries but for their pairs
+-- `DifferInPairs xs ys`: `xs` and `ys` are equal but for their properties.
 abbrev pub DifferInPairs : List Entry → List Entry → Type 0
 DifferInPairs xs ys = map without_pairs xs ≡ map without_pairs ys
 
--- the calls that asked for the pairs of these entries of a run, one after the other, and returned those that the entries have
+-- `asked_pairs number entries`: the calls that read the properties of each of `entries` in run
+-- `number`, and return those that the entry has.
 abbrev pub asked_pairs : ℕ → List Entry → List StoreCall
 asked_pairs number entries = map (λ (e : Entry). Pairs number e.position (Ok e.meta)) entries
 
--- the same entries but for their outputs
+-- `DifferInOutputs xs ys`: `xs` and `ys` are equal but for their outputs.
 abbrev pub DifferInOutputs : List Entry → List Entry → Type 0
 DifferInOutputs xs ys = map without_outputs xs ≡ map without_outputs ys
 
--- the calls that asked for the outputs of these entries of a run, one after the other, and returned those that the entries have
+-- `asked_outputs number entries`: the calls that read the outputs of each of `entries` in run
+-- `number`, and return those that the entry has.
 abbrev pub asked_outputs : ℕ → List Entry → List StoreCall
 asked_outputs number entries = map (λ (e : Entry). Outputs number e.position (Ok (outputs_of e))) entries
 
--- the end of a JUnit report, if no entry is left
+-- `ending_of rest`: the end of a JUnit report, if no entry is in `rest`.
 abbrev pub ending_of : List Entry → List ℕ
 ending_of [] = ending
 ending_of (e ∷ rest) = []
 
--- what is written next if these entries are left: the title of the first, unless the entry before has it, or the end
+-- `next_bytes before rest end`: the bytes of a text report before the entries `rest`: the title of
+-- the first one, if it needs a title, or `end`.
 abbrev pub next_bytes : Option Kind → List Entry → List ℕ → List ℕ
 next_bytes before [] end = end
 next_bytes before (e ∷ rest) end = opening before e.verdict.kind
 
--- `report`: the text of the run whose head is the chosen one, on the date of its start; no outputs are asked for, and pairs only if they are
--- shown, those of an entry before its line is written
+-- `Reported number kinds verbose calls bytes exit`: the output of `report`, with the calls of the
+-- store. No outputs are read. Properties are read only for `verbose`, each entry's before its line
+-- is written.
 pub data Reported (number : Option ℕ) (kinds : List Kind) : Bool → List StoreCall → List ℕ → ℕ → Type 0 where
   run_shown : (heads : List RunHead) (head : RunHead) (outline : List Entry) (date : Date) → chosen number heads ≡ Some head → IsDateOf head.started date
       → Reported number kinds false (Heads (Ok heads) ∷ Outline head.number (Ok outline) ∷ []) (text_bytes date kinds false (run_of head outline)) 0
@@ -68,20 +73,23 @@ pub data Reported (number : Option ℕ) (kinds : List Kind) : Bool → List Stor
   no_run : (verbose : Bool) (heads : List RunHead) → chosen number heads ≡ None
       → Reported number kinds verbose (Heads (Ok heads) ∷ []) (utf8 (missing_line number heads)) 2
 
--- `report-junit`: the JUnit report of that run, with the outputs of each entry; no pairs are asked for
+-- `ReportedJunit number calls bytes exit`: the output of `report-junit`, with the calls of the
+-- store. The outputs of each entry are read, but no properties.
 pub data ReportedJunit (number : Option ℕ) : List StoreCall → List ℕ → ℕ → Type 0 where
   run_shown : (heads : List RunHead) (head : RunHead) (outline shown : List Entry) → chosen number heads ≡ Some head → DifferInOutputs shown outline
       → ReportedJunit number (Heads (Ok heads) ∷ Outline head.number (Ok outline) ∷ asked_outputs head.number shown) (junit_bytes (run_of head shown)) 0
   no_run : (heads : List RunHead) → chosen number heads ≡ None → ReportedJunit number (Heads (Ok heads) ∷ []) (utf8 (missing_line number heads)) 2
 
--- the store refused to be read, and its own answer is printed
+-- `Unread number calls bytes exit`: a call of the store for the run failed, and its fault is
+-- printed.
 pub data Unread (number : Option ℕ) : List StoreCall → List ℕ → ℕ → Type 0 where
   no_heads : (fault : StoreFault) → Unread number (Heads (Err fault) ∷ []) (utf8 (refusal_line fault)) 2
   no_outline : (heads : List RunHead) (head : RunHead) (fault : StoreFault) → chosen number heads ≡ Some head
       → Unread number (Heads (Ok heads) ∷ Outline head.number (Err fault) ∷ []) (utf8 (refusal_line fault)) 2
 
--- the text of that run, with pairs, ended early: the store refused the pairs of an entry, and its answer is printed after the entries before
--- and the title; or the output failed, and no further pairs were asked for
+-- `TextCut number kinds failed calls bytes exit`: a text report with properties ends early, in one
+-- of two ways. A call for properties failed, and its fault is printed after the entries before and
+-- the title. Or a write `failed`, and no further properties are read.
 pub data TextCut (number : Option ℕ) (kinds : List Kind) (failed : Bool) : List StoreCall → List ℕ → ℕ → Type 0 where
   no_pairs : (heads : List RunHead) (head : RunHead) (outline shown rest : List Entry) (e : Entry) (fault : StoreFault)
       → chosen number heads ≡ Some head
@@ -94,8 +102,9 @@ pub data TextCut (number : Option ℕ) (kinds : List Kind) (failed : Bool) : Lis
       → TextCut number kinds failed (Heads (Ok heads) ∷ Outline head.number (Ok outline) ∷ asked_pairs head.number shown)
       (titled_lines true None shown ++ next_bytes (last_kind None shown) rest (summary date (run_of head outline))) 2
 
--- the JUnit report of that run ended early: the store refused the outputs of an entry, and its answer is printed after the cases before; or
--- memory ran out, and a proper prefix was written of the report of the entries whose outputs were returned; or the output failed
+-- `JunitCut number failed calls bytes exit`: a JUnit report ends early, in one of three ways. A
+-- call for outputs failed, and its fault is printed after the cases before. Or an allocation
+-- failed, and a proper prefix of the report was written. Or a write `failed`.
 pub data JunitCut (number : Option ℕ) (failed : Bool) : List StoreCall → List ℕ → ℕ → Type 0 where
   no_outputs : (heads : List RunHead) (head : RunHead) (outline shown rest : List Entry) (e : Entry) (fault : StoreFault)
       → chosen number heads ≡ Some head

@@ -1,4 +1,4 @@
--- What a command finds and leaves, and the relations of its world.
+-- States before and after a command, and the relations of its world.
 use Rattle.std.specs.Prelude.{ℕ, Bool, List, Option}
 use Rattle.kt_cli.specs.Types.{Asked, Ended, Job, Role, StartAnswer, Reply}
 use Rattle.kt_sched.specs.declared.launcher.Launcher as launcher
@@ -6,25 +6,25 @@ use Rattle.kt_sched.specs.Children.{Child}
 use Rattle.kt_suite.specs.declared.tree.Tree as tree
 use Rattle.kt_plan.specs.declared.world.World as world
 
--- a world, a store of runs, and what a writer holds
+-- A world, a store of runs, and the content of a writer.
 pub record Scene (W R : Type 0) : Type 0 where
   pub world : W
   pub store : R
   pub held : Option (List ℕ)
 
--- a scene of these parts
+-- `scene world store held`: a scene of these parts.
 abbrev pub scene : {W R : Type 0} → W → R → Option (List ℕ) → Scene W R
 scene world store held = record { world = world; store = store; held = held }
 
--- the same scene, seen with this world
+-- `with_world world s`: `s` with another world.
 abbrev pub with_world : {V W R : Type 0} → W → Scene V R → Scene W R
 with_world world s = scene world s.store s.held
 
--- the same scene, seen with this store
+-- `with_store store s`: `s` with another store.
 abbrev pub with_store : {W R T : Type 0} → T → Scene W R → Scene W T
 with_store store s = scene s.world store s.held
 
--- the relations of a world: those of the launcher and the tree that it is, and its own
+-- `World W`: the relations of a world: those of its launcher, those of its tree, and its own.
 abbrev pub World : Type 0 → Type 1
 World W = record {
   running : W → ℕ → Role → Option Child;
@@ -35,10 +35,10 @@ World W = record {
   replies : W → Reply → W → Type 0;
 }
 
--- the relations of a world, from those of its three traits
+-- `world_of t l w`: the relations of a world, from those of its three traits.
 abbrev pub world_of : {W : Type 0} → tree.Ghosts W → launcher.Ghosts W → world.Ghosts W → World W
 world_of t l w = record { running = l.running; pending = l.pending; starts = l.starts; waits = l.waits; asks = t.asks; replies = w.replies }
 
--- the launcher of a world
+-- `launcher_of w`: the relations of the launcher of `w`.
 abbrev pub launcher_of : {W : Type 0} → World W → launcher.Ghosts W
 launcher_of w = record { running = w.running; pending = w.pending; starts = w.starts; waits = w.waits }

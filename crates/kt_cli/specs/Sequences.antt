@@ -1,4 +1,4 @@
--- What a list of commands does, one after the other.
+-- Commands that are executed one after the other.
 use Rattle.std.specs.Prelude.{List, [], ◌∷◌}
 use Rattle.kt_store.specs.declared.result_store.Keeping as keeping
 use Rattle.kt_cli.specs.Types.{Command}
@@ -7,7 +7,8 @@ use Rattle.kt_cli.specs.Meaning.{Did}
 use Rattle.kt_cli.specs.Scenes.{Scene, World}
 
 module _ {W R : Type 0} (w : World W) (r : keeping.Ghosts R) where
-  -- each command found what the one before it left
+  -- `DidAll commands old new exits`: each command was executed in the state that the command before
+  -- it left.
   pub data DidAll : List Command → Scene W R → Scene W R → List Exit → Type 0 where
     none_left : (here : Scene W R) → DidAll [] here here []
     one_and : (c : Command) (more : List Command) (old mid new : Scene W R) (exit : Exit) (exits : List Exit) → Did w r c old mid exit.status → DidAll more mid new exits

@@ -1,4 +1,4 @@
--- What a command does to the runs of a sound store.
+-- Effect of a command on the runs of a sound store.
 use Rattle.std.specs.Prelude.{ℕ, suc, Bool, true, List, [], ◌∷◌, ◌++◌, ◌≡◌, ◌⊎◌, Option, Some, None, IfSome, Ok, Err, length}
 use Rattle.std.specs.List.{AllByRecursion}
 use Rattle.kt_cli.specs.Types.{Began, Command, Entry, Finished, Heads, IsStoreFault, Outline, Outputs, Pairs, Put, Run, StoreCall, StoreFault}
@@ -8,17 +8,18 @@ use Rattle.kt_cli.specs.Meaning.{Did}
 use Rattle.kt_cli.specs.Scenes.{Scene, World}
 use Rattle.kt_cli.specs.Stores.{by_position, changed}
 
--- the runs with one more, which has these entries
+-- `with_new runs moment total finished entries`: `runs` with one run appended, which has these
+-- entries.
 abbrev pub with_new : List Run → ℕ → ℕ → Bool → List Entry → List Run
 with_new runs moment total finished entries = runs ++ record { number = suc (length runs); started = moment; total = total; finished = finished; entries = by_position entries } ∷ []
 
--- the entries that the store took, in the order of the calls
+-- `entries_put calls`: the entries of the successful puts, in the order of the calls.
 abbrev pub entries_put : List StoreCall → List Entry
 entries_put [] = []
 entries_put (Put number e (Ok done) ∷ calls) = e ∷ entries_put calls
 entries_put (other ∷ calls) = entries_put calls
 
--- why a call was refused, if it was
+-- `refusal_of call`: the fault of `call`, if it failed.
 abbrev pub refusal_of : StoreCall → Option StoreFault
 refusal_of (Began total moment (Err fault)) = Some fault
 refusal_of (Put number e (Err fault)) = Some fault
@@ -29,19 +30,20 @@ refusal_of (Pairs number position (Err fault)) = Some fault
 refusal_of (Outputs number position (Err fault)) = Some fault
 refusal_of done = None
 
--- a call is refused only where it failed, or where there are as many runs as may be
+-- `OnlyFails call`: if `call` failed, the store failed, or it has the maximum number of runs.
 abbrev pub OnlyFails : StoreCall → Type 0
 OnlyFails call = IfSome (refusal_of call) (λ fault. IsStoreFault fault ⊎ (fault ≡ StoreFull))
 
--- what calls did to the runs: they left them, or one more is there, with the entries that were put, and finished only with all of them
+-- `Adds runs calls`: `calls` left `runs` unchanged, or appended a run with the entries that were
+-- put. The run is finished only if it has all its entries.
 pub data Adds (runs : List Run) (calls : List StoreCall) : Type 0 where
   none : changed calls runs ≡ runs → Adds runs calls
   one_run : (moment total : ℕ) (finished : Bool) → changed calls runs ≡ with_new runs moment total finished (entries_put calls)
       → (finished ≡ true → length (entries_put calls) ≡ total) → Adds runs calls
 
 module _ {W R : Type 0} {w : World W} {r : keeping.Ghosts R} {c : Command} {old new : Scene W R} {exit : ℕ} (did : Did w r c old new exit) (runs : List Run) where
-  -- a command was executed over a store that stood for these runs and is sound; what its answers were and what a crash leaves, `stored` of
-  -- `Did` says of any store
+  -- `Left did runs`: a command was executed over a sound store of `runs`. `Did.stored` states for
+  -- any store how results agree with the runs, and which runs a crash leaves.
   pub record Left : Type 0 where
     pub only_fails : AllByRecursion OnlyFails did.seen.calls
     pub adds : Adds runs did.seen.calls

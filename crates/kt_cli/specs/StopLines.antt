@@ -1,15 +1,15 @@
--- How a command ends that was stopped by the first fault of its steps: its line and its exit.
+-- Error lines and exit statuses of commands that were stopped by a fault.
 use Rattle.std.specs.Prelude.{ℕ, List}
 use Rattle.kt_plan.specs.StopWords.{stop_words}
 use Rattle.kt_cli.specs.Types.{Stop}
 use Rattle.kt_plan.specs.declared.stop.Stop.TheVariants as stop
 use Rattle.kt_cli.specs.FaultLines.{fault_line}
 
--- the line of a stop
+-- `stop_line fault`: the error line of `fault`.
 abbrev pub stop_line : Stop → List ℕ
 stop_line fault = fault_line (stop_words fault)
 
--- the exit of a stop: 3 if the arguments are wrong
+-- `stop_exit fault`: the exit status: 3 if the arguments are wrong, else 2.
 abbrev pub stop_exit : Stop → ℕ
 stop_exit (stop.NoMemory refusal) = 2
 stop_exit stop.UnreadConfiguration = 2

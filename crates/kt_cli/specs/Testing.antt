@@ -1,4 +1,4 @@
--- What becomes of a plan that is run over a store: the calls on the store, the bytes and the exit.
+-- A plan that is run over a store: its calls of the store, its output and its exit status.
 use Rattle.std.specs.Prelude.{ℕ, Bool, true, false, List, [], ◌∷◌, ◌++◌, ◌≡◌, ◌==◌, ◌&&◌, Result, Ok, Err, length, if◌then◌else◌}
 use Rattle.kt_cli.specs.Types.{Began, CaseOptions, Entry, Finished, Job, NoEvent, Picked, Put, StoreCall, StoreFault, Trace, utf8}
 use Rattle.kt_cli.specs.FaultLines.{memory_line, refusal_line}
@@ -7,28 +7,31 @@ use Rattle.kt_cli.specs.Stores.{puts}
 use Rattle.kt_cli.specs.Totals.{lines, totals_text, good_count, bad_count}
 use Rattle.kt_cli.specs.Warnings.{warnings}
 
--- each filter selects a case
+-- `all_matched unmatched`: no filter is in `unmatched`, the filters that select no case.
 abbrev pub all_matched : List ℕ → Bool
 all_matched [] = true
 all_matched (position ∷ unmatched) = false
 
--- the totals, and a warning for each filter that selects no case
+-- `ending good total bad words unmatched`: the totals, and a warning for each filter in `words` at
+-- a position in `unmatched`.
 abbrev pub ending : ℕ → ℕ → ℕ → List (List ℕ) → List ℕ → List ℕ
 ending good total bad words unmatched = utf8 (totals_text good total bad) ++ utf8 (warnings words unmatched)
 
--- the lines, and what follows them
+-- `results entries words unmatched`: the lines of `entries`, followed by the totals and the
+-- warnings.
 abbrev pub results : List Entry → List (List ℕ) → List ℕ → List ℕ
 results entries words unmatched = lines entries ++ ending (good_count entries) (length entries) (bad_count entries) words unmatched
 
--- 0 if no entry is bad and each filter selects a case
+-- `exit_of bad unmatched`: 0 if no entry is bad and each filter selects a case, else 1.
 abbrev pub exit_of : ℕ → List ℕ → ℕ
 exit_of bad unmatched = if bad == 0 && all_matched unmatched then 0 else 1
 
--- `exit_of` for a list of entries
+-- `results_exit entries unmatched`: `exit_of` for these entries.
 abbrev pub results_exit : List Entry → List ℕ → ℕ
 results_exit entries unmatched = exit_of (bad_count entries) unmatched
 
--- what is to be run: a plan at a width, begun at this moment, with the filters as given, and the positions of those that select no case
+-- A plan to run: its width, its start time, the filters as given, and the positions of the filters
+-- that select no case.
 pub record PlannedRun : Type 0 where
   pub plan : List Job
   pub width : ℕ
@@ -36,21 +39,23 @@ pub record PlannedRun : Type 0 where
   pub unmatched : List ℕ
   pub moment : ℕ
 
--- the run of a plan, for what was picked by these options
+-- `run_for plan options picked moment`: the run of `plan`, for the selection `picked` by `options`.
 abbrev pub run_for : List Job → CaseOptions → Picked → ℕ → PlannedRun
 run_for plan options picked moment =
     record { plan = plan; width = picked.settings.config.parallelism; words = options.filters; unmatched = picked.chosen.unmatched; moment = moment }
 
--- the call that begins it, with its answer
+-- `begins planned answer`: the call that begins the run, with its result.
 abbrev pub begins : PlannedRun → Result ℕ StoreFault → StoreCall
 begins planned answer = Began (length planned.plan) planned.moment answer
 
--- a plan was run at a width: each case was put into the run that was begun, and printed in the order of recording; then the run was finished
+-- `Tested planned T calls bytes exit`: the run was begun, each case was put and then printed, in
+-- the order of recording, and the run was finished.
 pub data Tested (planned : PlannedRun) (T : Trace) : List StoreCall → List ℕ → ℕ → Type 0 where
   recorded : (number : ℕ) (entries : List Entry) → AllRecorded planned.plan planned.width T entries
       → Tested planned T (begins planned (Ok number) ∷ (puts number entries ++ Finished number (Ok tt) ∷ [])) (results entries planned.words planned.unmatched) (results_exit entries planned.unmatched)
 
--- how a planned run ends if memory or the store cuts it short: the line is that of the store's own answer
+-- `TestCut planned T calls bytes exit`: a failed allocation or a failed call of the store ended the
+-- run early. The error line is that of this fault.
 pub data TestCut (planned : PlannedRun) (T : Trace) : List StoreCall → List ℕ → ℕ → Type 0 where
   not_begun : (fault : StoreFault) → T ≡ NoEvent → TestCut planned T (begins planned (Err fault) ∷ []) (utf8 (refusal_line fault)) 2
   not_run : (number : ℕ) → T ≡ NoEvent → TestCut planned T (begins planned (Ok number) ∷ []) (utf8 memory_line) 2

@@ -1,4 +1,4 @@
--- The types and words that the definitions of this crate name, passed on from one place. Declares nothing.
+-- Re-exports the types and names that the definitions of this crate cite. Declares nothing.
 pub use Rattle.jiff_core.specs.declared.civil.date.Date.{Date}
 pub use Rattle.kt_base.specs.Chains.{Chain}
 pub use Rattle.kt_base.specs.Characters.{is_absolute}

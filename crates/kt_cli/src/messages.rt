@@ -1,4 +1,4 @@
-//! The lines that say what went wrong.
+//! The error messages and warnings of commands.
 
 ghost use Rattle.std.specs.Prelude.{◌≡◌, chars, is_err, slice_get};
 ghost use Rattle.kt_cli.specs.Common.{Shows, utf8, Concluded, fault_line, memory_line, refusal_line, run_line, Says, Printed, driver_line, command_text, command_exit, failure_exit, Refused, stop_exit, stop_line, warning_at, warnings};
@@ -13,10 +13,10 @@ use kt_store::StoreFault;
 use kt_words::{CaseOptions, CommandFault};
 use std::io::Write;
 
-/// The status of a wrong command line.
+/// The exit status of wrong arguments.
 const WRONG_WORDS: u8 = 3;
 
-/// Writes the line of a fault (this profile).
+/// Writes an error line with this message (this profile).
 fn write_fault<O: Write>(words: &str, out: &mut O) -> Result<(), OutputFault>
     ensures { Shows (O.contents out.old) (O.contents out.new) (is_err result)
         (utf8 (fault_line (chars words.now))) }
@@ -24,7 +24,9 @@ fn write_fault<O: Write>(words: &str, out: &mut O) -> Result<(), OutputFault>
     emit_all(&[b"kyua: E: ", words.as_bytes(), b"\n"], out)
 }
 
-/// Writes that memory ran out. The refusal isn't printed: it is a parameter so that only a real one leads here.
+/// Writes the error line of a failed allocation.
+///
+/// The refusal isn't printed: it is a parameter so that only a real failure can lead here.
 #[tactic(auto, unfolding(crate::proofs::Common::chars))]
 pub fn write_memory<O: Write>(_refusal: NoMemory, out: &mut O) -> Result<(), OutputFault>
     ensures { Shows (O.contents out.old) (O.contents out.new) (is_err result) (utf8 memory_line) }
@@ -32,7 +34,7 @@ pub fn write_memory<O: Write>(_refusal: NoMemory, out: &mut O) -> Result<(), Out
     write_fault(OUT_OF_MEMORY, out)
 }
 
-/// Writes why a run failed, unless an earlier write failed.
+/// Writes the error line of a failed run, unless an earlier write failed.
 pub fn write_run_fault<O: Write>(
     written: Result<(), OutputFault>,
     fault: RunFault,
@@ -45,7 +47,7 @@ pub fn write_run_fault<O: Write>(
     write_fault(fault.words(), out)
 }
 
-/// Writes why the store refused a call.
+/// Writes the error line of a failed call of the results store.
 pub fn write_refusal<O: Write>(fault: StoreFault, out: &mut O) -> Result<(), OutputFault>
     ensures { Shows (O.contents out.old) (O.contents out.new) (is_err result)
         (utf8 (refusal_line fault)) }
@@ -53,7 +55,7 @@ pub fn write_refusal<O: Write>(fault: StoreFault, out: &mut O) -> Result<(), Out
     write_fault(fault.words(), out)
 }
 
-/// Writes why a command was stopped, in the line of its fault (this profile).
+/// Writes the error line of the fault that stopped a command (this profile).
 fn write_stop<O: Write>(stop: &Stop, out: &mut O) -> Result<(), OutputFault>
     ensures { Shows (O.contents out.old) (O.contents out.new) (is_err result)
         (utf8 (stop_line stop.now)) }
@@ -63,7 +65,7 @@ fn write_stop<O: Write>(stop: &Stop, out: &mut O) -> Result<(), OutputFault>
     emit(b"\n", out)
 }
 
-/// The exit of a command that was stopped, if its line could be written: 3 if the arguments are wrong, else 2.
+/// Returns the exit status of a stopped command: 3 if the arguments are wrong, else 2.
 fn stop_status(stop: &Stop) -> u8
     ensures { result ≡ stop_exit stop.now }
 {
@@ -73,7 +75,7 @@ fn stop_status(stop: &Stop) -> u8
     }
 }
 
-/// Ends a command that was stopped by a fault.
+/// Prints the fault that stopped a command, and returns the exit status.
 pub fn stopped<O: Write>(fault: Stop, out: &mut O) -> Exit
     ensures { Printed (O.contents out.old) (O.contents out.new) result.status
         (utf8 (stop_line fault)) (stop_exit fault) }
@@ -81,7 +83,7 @@ pub fn stopped<O: Write>(fault: Stop, out: &mut O) -> Exit
     ended(write_stop(&fault, out), stop_status(&fault))
 }
 
-/// Prints why there is no driver.
+/// Prints why the driver could not be created, and returns exit status 2.
 pub fn print_driver_fault<O: Write>(fault: DriverFault, out: &mut O) -> Exit
     ensures { Printed (O.contents out.old) (O.contents out.new) result.status
         (utf8 (driver_line fault)) failure_exit }
@@ -89,7 +91,7 @@ pub fn print_driver_fault<O: Write>(fault: DriverFault, out: &mut O) -> Exit
     ended(write_fault(fault.words(), out), FAILED)
 }
 
-/// Prints why the results can't be opened.
+/// Prints a fault of the results store, and returns exit status 2.
 pub fn print_store_fault<O: Write>(fault: StoreFault, out: &mut O) -> Exit
     ensures { Printed (O.contents out.old) (O.contents out.new) result.status
         (utf8 (refusal_line fault)) failure_exit }
@@ -97,8 +99,10 @@ pub fn print_store_fault<O: Write>(fault: StoreFault, out: &mut O) -> Exit
     ended(write_refusal(fault, out), FAILED)
 }
 
-/// The exit of a command after its results were closed. If the close failed, this prints why and returns 2; the entries
-/// are safe in the log beside the file. A command that already failed prints nothing more.
+/// Returns the exit status of a command after its results file was closed.
+///
+/// If the close failed, this prints why and returns 2. The entries are then safe in the log next to
+/// the file. If the status is 2 already, nothing more is printed.
 pub fn with_closed<O: Write>(exit: Exit, closed: Result<(), StoreFault>, out: &mut O) -> Exit
     ensures { Concluded closed (O.contents out.old) (O.contents out.new) exit.status result.status }
 {
@@ -108,6 +112,7 @@ pub fn with_closed<O: Write>(exit: Exit, closed: Result<(), StoreFault>, out: &m
     }
 }
 
+/// Writes why the arguments are rejected: the message of `clap`, or an error line.
 fn write_command_fault<O: Write>(fault: &CommandFault, out: &mut O) -> Result<(), OutputFault>
     ensures { Shows (O.contents out.old) (O.contents out.new) (is_err result)
         (utf8 (command_text fault.now)) }
@@ -118,6 +123,7 @@ fn write_command_fault<O: Write>(fault: &CommandFault, out: &mut O) -> Result<()
     }
 }
 
+/// Returns the exit status of rejected arguments: 2 if memory ran out, else 3.
 fn status_of(fault: &CommandFault) -> u8
     ensures { result ≡ command_exit fault.now }
 {
@@ -127,7 +133,9 @@ fn status_of(fault: &CommandFault) -> u8
     }
 }
 
-/// Prints why the arguments are refused. If they are wrong the exit is 3, even if the line could not be written.
+/// Prints why the arguments are rejected, and returns exit status 3, or 2 if memory ran out.
+///
+/// A failed write does not change the status.
 pub fn print_command_fault<O: Write>(fault: &CommandFault, out: &mut O) -> Exit
     ensures { Refused (O.contents out.old) (O.contents out.new) result.status
         (utf8 (command_text fault.now)) (command_exit fault.now) }
@@ -138,7 +146,7 @@ pub fn print_command_fault<O: Write>(fault: &CommandFault, out: &mut O) -> Exit
     }
 }
 
-/// Warns of a filter that matches no case.
+/// Writes the warning that the filter at this position matches no case.
 fn write_warning_at<O: Write>(
     words: &[Text],
     position: usize,
@@ -160,7 +168,8 @@ fn write_warning_at<O: Write>(
     }
 }
 
-/// Warns of the filters that select no case, in order, by their words as they were given.
+/// Writes a warning for each filter that matches no case, in order, with the filter as it was
+/// given.
 pub fn write_warnings<O: Write>(
     options: &CaseOptions,
     chosen: &Chosen,

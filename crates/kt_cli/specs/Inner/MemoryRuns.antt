@@ -1,24 +1,27 @@
--- What the calls on runs in memory do.
+-- Calls of a store of runs in memory.
 use Rattle.std.specs.Prelude.{ℕ, suc, nat_lt, nat_le, if◌then◌else◌, Option, List, [], ◌∷◌, ◌≡◌, ◌<◌, Some, None, Result, Ok, Err, length}
 use Rattle.kt_cli.specs.Types.{Agrees, AreNumbered, Entry, Run, StoreCall, StoreFault, changed_by}
 use Rattle.kt_store.specs.Runs.{run_at, has_position}
 use Rattle.kt_store.specs.declared.store_fault.StoreFault.TheVariants.{NoRun, RunClosed, BadPosition, RepeatedPosition, Incomplete}
 
--- a call over runs in memory: its answer agrees with the runs, which change by it
+-- `ServesInMemory old call new`: the result of `call` agrees with `old`, and `new` is `old` changed
+-- by `call`.
 abbrev pub ServesInMemory : List Run → StoreCall → List Run → Type 0
 ServesInMemory old call new = Agrees old call × (AreNumbered 1 old → new ≡ changed_by call old)
 
--- a number is looked up
+-- `FindsPlace runs number result`: `result` is the index of run `number`, or `NoRun`.
 abbrev pub FindsPlace : List Run → ℕ → Result ℕ StoreFault → Type 0
 FindsPlace runs number (Ok place) = (number ≡ suc place) × (place < length runs)
 FindsPlace runs number (Err fault) = (fault ≡ NoRun) × (run_at runs number ≡ None)
 
--- how many entries stand before one at this position
+-- `place_among position entries`: the number of entries before the first one with a greater
+-- position.
 abbrev pub place_among : ℕ → List Entry → ℕ
 place_among position [] = 0
 place_among position (x ∷ es) = if nat_lt position x.position then 0 else suc (place_among position es)
 
--- why an entry at this position may not be put into a run, in this order
+-- `entry_refusal run position`: the first fault of putting an entry at `position` into `run`, in
+-- this order.
 abbrev pub entry_refusal : Run → ℕ → Option StoreFault
 entry_refusal run position =
     if run.finished then Some RunClosed
@@ -26,6 +29,6 @@ entry_refusal run position =
     else if has_position position run.entries then Some RepeatedPosition
     else None
 
--- why a run may not be finished, in this order
+-- `closing_refusal run`: the first fault of finishing `run`, in this order.
 abbrev pub closing_refusal : Run → Option StoreFault
 closing_refusal run = if run.finished then Some RunClosed else if nat_lt (length run.entries) run.total then Some Incomplete else None

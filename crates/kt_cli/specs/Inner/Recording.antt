@@ -1,4 +1,4 @@
--- An entry is put into a run, and then its line is printed.
+-- Recording of an entry: it is put into a run, and then its line is printed.
 use Rattle.std.specs.Prelude.{ℕ, Bool, List, [], ◌∷◌, ◌≡◌, Option, Result, Ok, Err}
 use Rattle.kt_cli.specs.Types.{Entry, Put, Run, SinkFault, StoreFault, line_bytes}
 use Rattle.kt_sched.specs.declared.sink.SinkFault.TheVariants.{Memory, Other}
@@ -8,28 +8,31 @@ use Rattle.kt_cli.specs.Inner.Pages.{Says}
 use Rattle.kt_cli.specs.Inner.Stores.{put_all}
 use Rattle.kt_cli.specs.Stores.{Stored}
 
--- a store's refusal as the scheduler sees it
+-- `sink_fault_of fault`: the fault of the scheduler's sink for `fault` of the store.
 abbrev pub sink_fault_of : StoreFault → SinkFault
 sink_fault_of (NoMemory shortage) = Memory
 sink_fault_of other = Other
 
--- the store stands for some runs with these entries put into the run of a number
+-- `Took Stands number store put`: the store contains some runs, with the entries `put` added to run
+-- `number`.
 abbrev pub Took : {R : Type 0} → (R → List Run → Type 0) → ℕ → R → List Entry → Type 0
 Took Stands number store put = (first : List Run) × Stands store (put_all number put first)
 
--- what a recorder has: a store of runs, the number of its run, whether a write failed, and what the writer holds
+-- The state of a recorder: the store, the number of the run, whether a write failed, and the
+-- content of the writer.
 pub record Recording (R : Type 0) : Type 0 where
   pub store : R
   pub number : ℕ
   pub failed : Bool
   pub held : Option (List ℕ)
 
--- a recording of these parts
+-- `recording store number failed held`: a recording of these parts.
 abbrev pub recording : {R : Type 0} → R → ℕ → Bool → Option (List ℕ) → Recording R
 recording store number failed held = record { store = store; number = number; failed = failed; held = held }
 
 module _ {R : Type 0} (r : keeping.Ghosts R) where
-  -- the store took the entry and its line was given to the writer, or the store refused it and nothing was written
+  -- `Recorded old e result new`: the put of `e` succeeded and its line was written, or the put
+  -- failed and nothing was written.
   abbrev pub Recorded : Recording R → Entry → Result (Unit {0}) SinkFault → Recording R → Type 0
   Recorded old e (Ok x) new =
       (new.number ≡ old.number) × Stored r (Put old.number e (Ok tt) ∷ []) old.store new.store × Says old.held old.failed new.held new.failed (line_bytes e)

@@ -1,4 +1,4 @@
--- What became of a plan's cases: which were recorded and printed, and how it ended.
+-- Outcomes of the recording of a plan.
 use Rattle.std.specs.Prelude.{ℕ, Bool, false, List, [], ◌∷◌, ◌++◌, ◌≡◌, Result, Ok, Err}
 use Rattle.kt_cli.specs.Types.{Counts, Entry, Job, Leads, NoEvent, Put, RunFault, SinkFailed, SinkFault, StoreCall, StoreFault, Totals, Trace}
 use Rattle.kt_sched.specs.declared.launcher.Launcher as launcher
@@ -11,20 +11,21 @@ use Rattle.kt_cli.specs.Stores.{Stored, puts}
 use Rattle.kt_cli.specs.Totals.{lines}
 use Rattle.kt_cli.specs.Recordings.{AllRecorded, IsStopped}
 
--- every case was recorded, and counted
+-- `RecordedAll plan n T entries last totals`: every case was recorded and counted.
 pub record RecordedAll (plan : List Job) (n : ℕ) (T : Trace) (entries : List Entry) (last : List StoreCall) (totals : Totals) : Type 0 where
   pub all : AllRecorded plan n T entries
   pub counts : Counts entries totals
   pub taken : last ≡ []
 
--- memory ran out before the first call, and nothing was recorded
+-- `RecordedNone T entries last`: an allocation failed before the first call, and nothing was
+-- recorded.
 pub record RecordedNone (T : Trace) (entries : List Entry) (last : List StoreCall) : Type 0 where
   pub events : T ≡ NoEvent
   pub none : entries ≡ []
   pub taken : last ≡ []
 
 module _ (plan : List Job) (n number : ℕ) (T : Trace) (entries : List Entry) (last : List StoreCall) where
-  -- the put of the next entry was refused, and the fault is that of this refusal
+  -- `RecordedSome fault`: the put of the next entry failed, and `fault` is its fault.
   pub record RecordedSome (fault : SinkFault) : Type 0 where
     pub entry : Entry
     pub refusal : StoreFault
@@ -32,14 +33,16 @@ module _ (plan : List Job) (n number : ℕ) (T : Trace) (entries : List Entry) (
     pub one : last ≡ Put number entry (Err refusal) ∷ []
     pub stopped : IsStopped plan n T entries entry
 
-  -- how a recording ended, by its answer
+  -- `RecordEnds outcome`: the state of a recording, by its `outcome`.
   abbrev pub RecordEnds : Result Totals RunFault → Type 0
   RecordEnds (Ok totals) = RecordedAll plan n T entries last totals
   RecordEnds (Err (SinkFailed fault)) = RecordedSome fault
   RecordEnds (Err (NoMemory refusal)) = RecordedNone T entries last
 
 module _ {L R : Type 0} (l : launcher.Ghosts L) (r : keeping.Ghosts R) (plan : List Job) (n number : ℕ) where
-  -- the launcher's answers, and the entries that were put into the run of a number and printed, in the order of the puts, and the put that was refused
+  -- `Records old new answer failed`: the events of the launcher, and the calls that put entries
+  -- into run `number`. The lines of the entries are printed in the order of the puts. The last put
+  -- may have failed.
   pub record Records (old new : Scene L R) (answer : Result Totals RunFault) (failed : Bool) : Type 0 where
     pub trace : Trace
     pub leads : Leads l.starts l.waits plan trace old.world new.world

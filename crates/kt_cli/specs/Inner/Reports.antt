@@ -1,4 +1,4 @@
--- Which run is shown, and what is shown of it.
+-- Output of the reports, as private functions write it.
 use Rattle.std.specs.Prelude.{ℕ, Bool, true, false, List, [], ◌∷◌, ◌++◌, ◌≡◌, ◌⊎◌, Option, None, Result, Ok, Err, drop, flat_map}
 use Rattle.kt_cli.specs.Types.{Date, Entry, IsDateOf, Kind, Outputs, Pairs, Run, Shows, StoreCall, by_section, case_bytes, ending, heading, last_kind, opening, summary, titled_lines}
 use Rattle.kt_store.specs.declared.result_store.Keeping as keeping
@@ -10,22 +10,24 @@ use Rattle.kt_cli.specs.declared.commands.report_stop.JunitStop.TheVariants.{Ref
 use Rattle.kt_cli.specs.declared.commands.report_stop.TextStop.{TextStop}
 use Rattle.kt_cli.specs.declared.commands.report_stop.TextStop.TheVariants.{NoPairs, Output}
 
--- how a report is cut short: whether a write failed, the calls, the bytes that are due, and the exit
+-- A predicate on reports that end early: whether a write failed, the calls, the bytes, and the exit
+-- status.
 abbrev pub Cuts : Type 1
 Cuts = Bool → List StoreCall → List ℕ → ℕ → Type 0
 
--- the store refused to be read, or the text ended early
+-- `TextOrUnread number kinds verbose`: the run could not be read, or the text report ended early.
 abbrev pub TextOrUnread : Option ℕ → List Kind → Bool → Cuts
 TextOrUnread number kinds verbose = λ failed calls bytes exit.
     Unread number calls bytes exit ⊎ ((verbose ≡ true) × TextCut number kinds failed calls bytes exit)
 
--- the store refused to be read, or the JUnit report ended early
+-- `JunitOrUnread number`: the run could not be read, or the JUnit report ended early.
 abbrev pub JunitOrUnread : Option ℕ → Cuts
 JunitOrUnread number = λ failed calls bytes exit. Unread number calls bytes exit ⊎ JunitCut number failed calls bytes exit
 
 module _ {R : Type 0} (r : keeping.Ghosts R) where
   module _ (store after : R) (was now : Option (List ℕ)) where
-    -- what was read of a store and printed of it, in one of two ways
+    -- `DidReport exit Means Cut`: a report made calls of the store and printed its output, by
+    -- `Means` or by `Cut`.
     pub record DidReport (exit : ℕ) (Means : List StoreCall → List ℕ → ℕ → Type 0) (Cut : Cuts) : Type 0 where
       pub calls : List StoreCall
       pub stored : Stored r calls store after
@@ -34,8 +36,9 @@ module _ {R : Type 0} (r : keeping.Ghosts R) where
       pub printed : Printed was now exit bytes due
       pub is : Means calls bytes due ⊎ Cut printed.failed calls bytes due
 
-    -- the entries that were due, of the run of a number, were written after one of a kind, each when its pairs had been asked for; or the first
-    -- of them, as the answer says
+    -- `EndsEntries number before due answer`: the entries `due` of run `number` were written after
+    -- an entry of kind `before`, the properties of each being read first. If `answer` is a fault,
+    -- only some of the entries were written.
     abbrev pub EndsEntries : ℕ → Option Kind → List Entry → Result (Option Kind) TextStop → Type 0
     EndsEntries number before due (Ok last) =
         (shown : List Entry) × DifferInPairs shown due × (last ≡ last_kind before shown) × Stored r (asked_pairs number shown) store after × Shows was now false (titled_lines true before shown)
@@ -47,10 +50,12 @@ module _ {R : Type 0} (r : keeping.Ghosts R) where
         (shown rest : List Entry) × DifferInPairs (shown ++ rest) due × Stored r (asked_pairs number shown) store after
         × ((end : List ℕ) → Shows was now true (titled_lines true before shown ++ next_bytes (last_kind before shown) rest end))
 
+    -- `WritesEntries number before due answer`: `EndsEntries`, as a record.
     pub record WritesEntries (number : ℕ) (before : Option Kind) (due : List Entry) (answer : Result (Option Kind) TextStop) : Type 0 where
       pub ends : EndsEntries number before due answer
 
-    -- the sections of a run and its summary were written in this way
+    -- `EndsText kinds run answer`: the sections of `kinds` and the summary of `run` were written,
+    -- or `answer` is the fault that ended the report.
     abbrev pub EndsText : List Kind → Run → Result (Unit {0}) TextStop → Type 0
     EndsText kinds run (Ok done) =
         (shown : List Entry) × (date : Date) × IsDateOf run.started date × DifferInPairs shown (by_section kinds run.entries) × Stored r (asked_pairs run.number shown) store after
@@ -61,16 +66,18 @@ module _ {R : Type 0} (r : keeping.Ghosts R) where
         (by_section kinds run.entries) × Stored r (asked_pairs run.number shown) store after
         × Shows was now true (titled_lines true None shown ++ next_bytes (last_kind None shown) rest (summary date run))
 
+    -- `WritesText kinds run answer`: `EndsText`, as a record.
     pub record WritesText (kinds : List Kind) (run : Run) (answer : Result (Unit {0}) TextStop) : Type 0 where
       pub ends : EndsText kinds run answer
 
-    -- the heading of a run was written, and the cases of its first entries
+    -- `WritesFirst run count`: the heading of `run` and its first `count` cases were written.
     abbrev pub WritesFirst : Run → ℕ → Type 0
     WritesFirst run count =
         (shown : List Entry) × DifferInOutputs (shown ++ drop count run.entries) run.entries × Stored r (asked_outputs run.number shown) store after
         × Shows was now false (heading run ++ flat_map case_bytes shown)
 
-    -- the outputs of the entries of a run were asked for, one after the other, and its report was written with them, or as far as it came
+    -- `EndsJunit run answer`: the outputs of each entry were read, and the JUnit report of `run`
+    -- was written, or `answer` is the fault that ended the report.
     abbrev pub EndsJunit : Run → Result (Unit {0}) JunitStop → Type 0
     EndsJunit run (Ok done) =
         (shown : List Entry) × DifferInOutputs shown run.entries × Stored r (asked_outputs run.number shown) store after
@@ -83,5 +90,6 @@ module _ {R : Type 0} (r : keeping.Ghosts R) where
         (shown rest : List Entry) × DifferInOutputs (shown ++ rest) run.entries × Stored r (asked_outputs run.number shown) store after
         × Shows was now true (heading run ++ flat_map case_bytes shown ++ ending_of rest)
 
+    -- `WritesJunit run answer`: `EndsJunit`, as a record.
     pub record WritesJunit (run : Run) (answer : Result (Unit {0}) JunitStop) : Type 0 where
       pub ends : EndsJunit run answer

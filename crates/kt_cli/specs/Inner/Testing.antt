@@ -1,4 +1,4 @@
--- What becomes of a plan that is run over a store: the calls on the store, the bytes and the exit.
+-- Execution of a plan over a store.
 use Rattle.std.specs.Prelude.{ℕ, List, ◌⊎◌}
 use Rattle.kt_sched.specs.declared.launcher.Launcher as launcher
 use Rattle.kt_cli.specs.Types.{Leads, StoreCall, Trace}
@@ -9,7 +9,8 @@ use Rattle.kt_cli.specs.Stores.{Stored}
 use Rattle.kt_cli.specs.Testing.{PlannedRun, TestCut, Tested}
 
 module _ {L R : Type 0} (l : launcher.Ghosts L) (r : keeping.Ghosts R) where
-  -- what was done with a plan
+  -- `RanPlan planned old new exit`: `planned` was run, with the events of the launcher, the calls
+  -- of the store, and the output.
   pub record RanPlan (planned : PlannedRun) (old new : Scene L R) (exit : ℕ) : Type 0 where
     pub trace : Trace
     pub leads : Leads l.starts l.waits planned.plan trace old.world new.world

@@ -13,8 +13,9 @@ use kt_words::CaseOptions;
 use std::alloc::Global;
 use std::io::Write;
 
-/// Runs a plan one case at a time, and prints what each case wrote and its line. Returns how it
-/// ended, and whether all of it could be written.
+/// Executes a plan one case at a time, and prints each case's output and line.
+///
+/// Returns the outcome of the run, and whether all output could be written.
 fn print_cases<L: Launcher, O: Write>(
     alloc: Global,
     plan: Items<Job>,
@@ -32,13 +33,15 @@ fn print_cases<L: Launcher, O: Write>(
         written: Ok(()),
     };
     let answer = run_cases(alloc, plan, 1, launcher, &mut printer);
-    // No effect: the proof needs this use to see that what the printer borrowed is given back here.
+    // No effect: this use shows the prover that the printer's borrow ends here.
     let _ = &*printer.out;
     (answer, printer.written)
 }
 
-/// The command `debug`: only the first selected case runs, and nothing is recorded. The status is 0 if that case is good,
-/// else 1.
+/// Executes `debug`: runs the first selected case, and prints its output and its line.
+///
+/// Nothing is recorded. The exit status is 0 if the case is good, 1 if it is bad or no case is
+/// selected, else that of the fault.
 pub fn debug<W: World, O: Write>(
     alloc: Global,
     options: &CaseOptions,

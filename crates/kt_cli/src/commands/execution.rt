@@ -13,12 +13,14 @@ use kt_words::Command;
 use std::alloc::Global;
 use std::io::Write;
 
-/// Executes a command over a world and a store of runs, and writes its text.
+/// Executes a command over a world and a results store, and writes its output.
 ///
-/// `test` asks its world before the store, so a fault of the configuration or of a Kyuafile begins no run. It puts an
-/// entry before it writes its line; after a failed write it goes on recording, after a refused put it only starts owed
-/// cleanups. Calls, text and exit follow from the answers, even of a store that forgets what was put; which runs there
-/// are afterwards depends on the store (`law_of_sound_stores`).
+/// `test` calls its world before the store, so a fault of the configuration or of a Kyuafile begins
+/// no run. It puts an entry before it writes the entry's line. After a failed write it goes on
+/// recording. After a failed put it only starts pending cleanups.
+///
+/// The calls, the output and the exit status follow from the results of earlier calls, even if the
+/// store forgets entries. `law_of_sound_stores` states which runs the store has afterwards.
 pub fn execute<W: World, R: ResultStore, O: Write>(
     alloc: Global,
     command: &Command,
@@ -48,8 +50,13 @@ pub fn execute<W: World, R: ResultStore, O: Write>(
     }
 }
 
-/// Executes commands one after the other, whatever their exits, and returns these. The memory for the exits is taken
-/// before the first command, so that no command is executed whose exit is lost.
+/// Executes commands one after the other, also after a failed one, and returns their exit statuses.
+///
+/// The list of exit statuses is allocated first, so that no command runs whose exit status is lost.
+///
+/// # Errors
+///
+/// - `NoMemory`: the list can't be allocated. No command has run.
 pub fn execute_all<W: World, R: ResultStore, O: Write>(
     alloc: Global,
     commands: &[Command],
@@ -69,15 +76,18 @@ pub fn execute_all<W: World, R: ResultStore, O: Write>(
     for command in commands {
         let exit = execute(alloc, command, world, results, out);
         if exits.push(exit).is_err() {
-            // Memory for each was taken before.
+            // The list was allocated for all commands.
             unreachable!()
         }
     }
     Ok(exits)
 }
 
-/// The law of sound stores: the effect of a command, as `execute` says it, on the runs of a store that returns what was
-/// written.
+/// Theorem: `execute` appends at most one run to a sound store, and changes no other run.
+///
+/// A sound store returns what was written. The new run has exactly the entries that were put, and
+/// is finished only if it has all of them. A call fails only if the store itself failed or has the
+/// maximum number of runs.
 pub fn law_of_sound_stores<W: World, R: ResultStore>()
     ensures { (c : Command) (old new : Scene W R) (exit : ℕ) (runs : List Run)
         (did : Did W.World R.Keeping c old new exit) → R.stands old.store runs

@@ -11,7 +11,7 @@ use kt_words::CaseOptions;
 use std::alloc::Global;
 use std::io::Write;
 
-/// Writes the lines of the selected cases, and warns of the filters that select none.
+/// Writes a line for each selected case, and a warning for each filter that selects none.
 fn write_listing<O: Write>(
     options: &CaseOptions,
     chosen: &Chosen,
@@ -27,7 +27,9 @@ fn write_listing<O: Write>(
     write_warnings(options, chosen, out)
 }
 
-/// The command `list`.
+/// Executes `list`: prints `PROGRAM:CASE` for each selected case, and returns the exit status.
+///
+/// The exit status is 0 if every filter selects a case, else 1 or that of a fault.
 pub fn list<W: World, O: Write>(
     alloc: Global,
     options: &CaseOptions,

@@ -1,4 +1,4 @@
-//! The commands, over any world, store and writer.
+//! The commands, over any world, results store and writer.
 
 pub(crate) mod debugging;
 pub(crate) mod execution;

@@ -7,18 +7,19 @@ use kt_sched::{Sink, SinkFault};
 use kt_store::{ResultStore, StoreFault};
 use std::io::Write;
 
-/// Puts entries into a run of a store, and then writes the line of each.
+/// A `Sink` that puts each entry into a run of a store, and then writes the entry's line.
 #[derive(Drop)]
 pub struct Recorder<'a, R, O> {
     pub results: &'a mut R,
     pub out: &'a mut O,
     /// The number of the run.
     pub number: u64,
-    /// An error once a write failed: then nothing more is written, and recording goes on.
+    /// The result of the writes so far. After an error nothing more is written, but recording goes
+    /// on.
     pub written: Result<(), OutputFault>,
 }
 
-/// The fault of a refused put, as the scheduler sees it.
+/// Converts a fault of the store to a fault of the scheduler's sink.
 pub fn sink_fault(fault: StoreFault) -> SinkFault
     ensures { result ≡ sink_fault_of fault }
 {
@@ -40,7 +41,7 @@ impl<R: ResultStore, O: Write> Sink for Recorder<'_, R, O> {
         (recording t.results.now t.number (is_err t.written) (O.contents t.out.now)) };
 
     fn put(&mut self, entry: Entry) -> Result<(), SinkFault> {
-        // The entry is recorded before its line is written.
+        // A printed entry must be recorded, so the put comes first.
         if let Err(fault) = self.results.put(self.number, &entry) {
             return Err(sink_fault(fault));
         }
@@ -52,15 +53,15 @@ impl<R: ResultStore, O: Write> Sink for Recorder<'_, R, O> {
     }
 }
 
-/// Prints what each case wrote, and then its line; it keeps nothing.
+/// A `Sink` that prints the output of each case and then its line. It stores no entries.
 #[derive(Drop)]
 pub struct Printer<'a, O> {
     pub out: &'a mut O,
-    /// An error once a write failed: then nothing more is written.
+    /// The result of the writes so far. After an error nothing more is written.
     pub written: Result<(), OutputFault>,
 }
 
-/// Writes what a case wrote, and then its line, unless an earlier write failed.
+/// Writes the output of a case and then its line, unless an earlier write failed.
 fn write_entry<O: Write>(
     written: Result<(), OutputFault>,
     entry: &Entry,
@@ -88,7 +89,7 @@ impl<O: Write> Sink for Printer<'_, O> {
     ghost use Rattle.std.specs.Prelude.{◌≡◌, is_err};
     ghost use Rattle.kt_cli.specs.Common.{Prints};
 
-    // It keeps no entry, so nothing is said of those that were put.
+    // The printer stores no entries, so this relation is trivial.
     ghost entries = { λ _ _. Unit {0} };
 
     ghost puts = { λ s e r t. (t.out.ghost_name ≡ s.out.ghost_name)

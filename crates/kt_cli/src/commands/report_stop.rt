@@ -7,22 +7,23 @@ use kt_base::OutputFault;
 use kt_report::ReportFault;
 use kt_store::StoreFault;
 
-/// Why no run is shown.
+/// Errors returned by `read_run`.
 #[derive(Clone, Copy)]
 pub enum NotShown {
-    /// There is no run.
+    /// The store has no runs.
     NoRuns,
-    /// There are runs, but none of this number.
+    /// The store has runs, but none with this number.
     NoRun(u64),
-    /// The store refused a call.
+    /// A call of the store failed.
     Refused(StoreFault),
 }
 
-/// Why a text report that shows pairs ends early.
+/// Errors returned by `write_text`.
 #[derive(Clone, Copy)]
 pub enum TextStop {
-    /// The store refused the pairs of an entry.
+    /// The properties of an entry could not be read.
     NoPairs(StoreFault),
+    /// A write failed.
     Output(OutputFault),
 }
 
@@ -42,11 +43,12 @@ impl From<OutputFault> for TextStop {
     }
 }
 
-/// Why a JUnit report ends early.
+/// Errors returned by `write_junit`.
 #[derive(Clone, Copy)]
 pub enum JunitStop {
-    /// The store refused the outputs of an entry.
+    /// The outputs of an entry could not be read.
     Refused(StoreFault),
+    /// A write or an allocation failed.
     Report(ReportFault),
 }
 

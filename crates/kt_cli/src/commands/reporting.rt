@@ -14,7 +14,7 @@ use kt_store::{ResultStore, RunHead};
 use std::alloc::Global;
 use std::io::Write;
 
-/// The head that is asked for, or else the last one.
+/// Returns the head of run `number`, or of the last run if `number` is `None`.
 fn chosen_head(number: Option<u64>, heads: &[RunHead]) -> Option<RunHead>
     ensures { result ≡ chosen number heads.now }
 {
@@ -28,7 +28,7 @@ fn chosen_head(number: Option<u64>, heads: &[RunHead]) -> Option<RunHead>
     }
 }
 
-/// Why no head was found.
+/// Returns why the requested run is missing: there are no runs, or none has this number.
 fn missing(number: Option<u64>, heads: &[RunHead]) -> NotShown
     ensures { IsMissing number heads.now result }
 {
@@ -38,7 +38,9 @@ fn missing(number: Option<u64>, heads: &[RunHead]) -> NotShown
     }
 }
 
-/// The run that is asked for, or else the last one, with its entries without their pairs and their outputs.
+/// Reads run `number`, or the last run if `number` is `None`.
+///
+/// The entries have no properties and no outputs.
 fn read_run<R: ResultStore>(number: Option<u64>, results: &mut R) -> Result<Run, NotShown>
     ensures { ReadsRun R.Keeping number results.old results.new result }
 {
@@ -61,7 +63,7 @@ fn read_run<R: ResultStore>(number: Option<u64>, results: &mut R) -> Result<Run,
     }
 }
 
-/// Writes why no run is shown.
+/// Writes the error line of a run that can't be shown.
 fn write_not_shown<O: Write>(why: NotShown, out: &mut O) -> Result<(), OutputFault>
     ensures { Shows (O.contents out.old) (O.contents out.new) (is_err result)
         (utf8 (not_shown_line why)) }
@@ -76,8 +78,10 @@ fn write_not_shown<O: Write>(why: NotShown, out: &mut O) -> Result<(), OutputFau
     }
 }
 
-/// Writes an entry of a text report after one of kind `before`, and the pairs below it, for which it
-/// asks. Returns its kind.
+/// Writes an entry of a text report, with its properties, and returns its kind.
+///
+/// `before` is the kind of the entry before it. A title precedes the entry if its kind differs. The
+/// properties are read from the store.
 fn write_entry<R: ResultStore, O: Write>(
     run: u64,
     before: Option<Kind>,
@@ -95,7 +99,9 @@ fn write_entry<R: ResultStore, O: Write>(
     Ok(Some(kind))
 }
 
-/// Writes the section of a kind, if it is chosen. Returns the kind of the last entry that is written.
+/// Writes the section of a kind, if the kind is chosen.
+///
+/// Returns the kind of the last written entry, or `before` if nothing is written.
 fn write_section<R: ResultStore, O: Write>(
     run: &Run,
     kinds: &[Kind],
@@ -120,7 +126,7 @@ fn write_section<R: ResultStore, O: Write>(
     Ok(last)
 }
 
-/// Writes the sections of the chosen kinds.
+/// Writes the sections of the chosen kinds, and returns the kind of the last written entry.
 fn write_sections<R: ResultStore, O: Write>(
     run: &Run,
     kinds: &[Kind],
@@ -137,8 +143,9 @@ fn write_sections<R: ResultStore, O: Write>(
     Ok(last)
 }
 
-/// Writes the text report, with pairs, of a run whose entries have none. It never holds the pairs of
-/// more than one entry.
+/// Writes the text report of a run, with the properties of each case.
+///
+/// The properties are read entry by entry, so that they are held for one entry at a time.
 fn write_text<R: ResultStore, O: Write>(
     run: &Run,
     kinds: &[Kind],
@@ -154,7 +161,10 @@ fn write_text<R: ResultStore, O: Write>(
     Ok(())
 }
 
-/// The command `report`. If `verbose` is set, what a case declared stands below its line.
+/// Executes `report`: prints a run as text, and returns the exit status.
+///
+/// If `verbose` is set, the properties of each case follow its line. The exit status is 0, or 2 if
+/// the run is missing, or can't be read or written.
 pub fn report<R: ResultStore, O: Write>(
     number: Option<u64>,
     kinds: &[Kind],
@@ -180,8 +190,9 @@ pub fn report<R: ResultStore, O: Write>(
     }
 }
 
-/// Writes the JUnit report of a run whose entries have no outputs. It never holds the outputs of
-/// more than one entry.
+/// Writes the JUnit report of a run.
+///
+/// The outputs are read entry by entry, so that they are held for one entry at a time.
 fn write_junit<R: ResultStore, O: Write>(
     alloc: Global,
     run: &Run,
@@ -200,7 +211,9 @@ fn write_junit<R: ResultStore, O: Write>(
     Ok(())
 }
 
-/// The command `report-junit`.
+/// Executes `report-junit`: prints a run as a JUnit report, and returns the exit status.
+///
+/// The exit status is 0, or 2 if the run is missing, can't be read or written, or memory runs out.
 pub fn report_junit<R: ResultStore, O: Write>(
     alloc: Global,
     number: Option<u64>,

@@ -14,7 +14,7 @@ use kt_words::CaseOptions;
 use std::alloc::Global;
 use std::io::Write;
 
-/// The plan of a run that was begun, how many of its cases may be active at once, and the number of the run.
+/// A plan with the number of its run and the maximum number of active cases.
 #[derive(Drop)]
 struct NumberedPlan {
     plan: Items<Job>,
@@ -22,7 +22,9 @@ struct NumberedPlan {
     number: u64,
 }
 
-/// Runs a plan, and records and prints each entry. Returns how it ended, and whether all lines could be written.
+/// Executes a plan, and records and prints each entry.
+///
+/// Returns the outcome of the run, and whether all lines could be written.
 fn record_cases<L: Launcher, R: ResultStore, O: Write>(
     alloc: Global,
     numbered: NumberedPlan,
@@ -50,13 +52,13 @@ fn record_cases<L: Launcher, R: ResultStore, O: Write>(
         written: Ok(()),
     };
     let answer = run_cases(alloc, plan, width, launcher, &mut recorder);
-    // No effect: the proof needs these uses to see that what the recorder borrowed is given back here.
+    // No effect: these uses show the prover that the recorder's borrows end here.
     let _ = &*recorder.results;
     let _ = &*recorder.out;
     (answer, recorder.written)
 }
 
-/// Writes a blank line and the totals: how many cases of how many passed, and how many failed.
+/// Writes an empty line and the totals of a run: `1/3 passed (2 failed)`.
 fn write_totals<O: Write>(good: u64, total: u64, bad: u64, out: &mut O) -> Result<(), OutputFault>
     ensures { Shows (O.contents out.old) (O.contents out.new) (is_err result)
         (utf8 (totals_text good total bad)) }
@@ -78,7 +80,8 @@ fn write_totals<O: Write>(good: u64, total: u64, bad: u64, out: &mut O) -> Resul
     )
 }
 
-/// Writes the totals, and warns of the filters that select no case, unless an earlier write failed.
+/// Writes the totals, and a warning for each filter that selects no case, unless an earlier write
+/// failed.
 fn write_ending<O: Write>(
     written: Result<(), OutputFault>,
     totals: Totals,
@@ -94,7 +97,7 @@ fn write_ending<O: Write>(
     write_warnings(options, chosen, out)
 }
 
-/// What is to be run: the plan of what these options picked, in a run that begins at this moment.
+/// A plan to run: its jobs, the options and the selection that they come from, and the start time.
 #[derive(Drop)]
 struct PlannedRun<'a> {
     plan: Items<Job>,
@@ -103,7 +106,7 @@ struct PlannedRun<'a> {
     moment: u64,
 }
 
-/// Begins a run, runs its plan and finishes it.
+/// Begins a run, runs its plan, finishes the run, and returns the exit status.
 fn run_plan<L: Launcher, R: ResultStore, O: Write>(
     alloc: Global,
     planned: PlannedRun<'_>,
@@ -155,7 +158,9 @@ fn run_plan<L: Launcher, R: ResultStore, O: Write>(
     }
 }
 
-/// The command `test`. `file` is the name of the results, which stand open already.
+/// Executes `test`: runs the selected cases and records them, and returns the exit status.
+///
+/// `file` is the path of the results file, which is open already.
 pub fn test<W: World, R: ResultStore, O: Write>(
     alloc: Global,
     options: &CaseOptions,

@@ -11,8 +11,11 @@ use std::env::Args;
 use std::io;
 use std::io::Write;
 
-/// Carries out the command that the words of a process say, and returns the exit status of the process. The first word is the
-/// program's own name. The lines of `kyua test` are handed on one by one, those of another command in pieces of 64 KiB.
+/// Executes the command in the arguments of the process, and returns the exit status.
+///
+/// The first argument is the program's own name. Wrong arguments are reported on `errors`. The
+/// output of `kyua test` is written line by line, that of another command in blocks of 64 KiB. The
+/// returned `Outside` is the given one, after the calls of the command.
 pub fn carry_out_words<M: Machine + Drop, O: Os + Drop, P: Platform, W: Write, E: Write>(
     outside: Outside<M, O>,
     platform: &mut P,

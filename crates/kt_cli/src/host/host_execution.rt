@@ -10,7 +10,13 @@ use kt_words::{CaseOptions, Command};
 use std::alloc::Global;
 use std::io::Write;
 
-/// The absolute directory of a Kyuafile, without a slash at its end. `here` is the absolute working directory.
+/// Returns the absolute path of a Kyuafile's directory, without a slash at its end.
+///
+/// `here` is the absolute working directory.
+///
+/// # Errors
+///
+/// - `NoMemory`: an allocation fails.
 pub fn source_of(alloc: Global, here: &str, kyuafile: &Text) -> Result<Text, NoMemory>
     ensures { IfOk result (λ source. source ≡ source_directory (chars here.now) kyuafile.now) }
 {
@@ -23,7 +29,10 @@ pub fn source_of(alloc: Global, here: &str, kyuafile: &Text) -> Result<Text, NoM
     parent_path(alloc, &path)
 }
 
-/// Makes the driver of a command over this system. `here` is the absolute working directory. Errors return `os`.
+/// Creates the driver that runs the test programs of a Kyuafile, with its root directory in `work`.
+///
+/// `here` is the absolute working directory. Fails with `NoWorkDirectory` if `work` is not absolute
+/// or no root directory can be created in it. An error returns `os`.
 fn driver_of<O: Os + Drop>(
     alloc: Global,
     os: O,
@@ -45,8 +54,11 @@ fn driver_of<O: Os + Drop>(
     }
 }
 
-/// Executes a command over test cases on this machine and this system, with work directories of its
-/// own, which are removed at the end. What is outside is returned.
+/// Executes a command over test cases on the host.
+///
+/// The command has its own root directory for work directories, which is removed at the end. Fails,
+/// and changes no results, if the driver can't be created. The returned `Outside` is the given one,
+/// after the calls of the command.
 pub fn execute_over_cases<M: Machine + Drop, O: Os + Drop, S: ResultStore, W: Write>(
     outside: Outside<M, O>,
     around: Surroundings,
@@ -85,7 +97,7 @@ pub fn execute_over_cases<M: Machine + Drop, O: Os + Drop, S: ResultStore, W: Wr
         driver,
         ..
     } = world;
-    // The root directory goes, whatever was done.
+    // The root directory is removed even after a failed command.
     let os = driver.close();
     Ok((exit, Outside { alloc, machine, os }))
 }

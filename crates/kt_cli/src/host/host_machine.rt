@@ -12,19 +12,20 @@ use std::rt::{Clock, Files};
 use std::time::SystemTime;
 use std::{fs, io};
 
-/// How many bytes of a file are read at the most: one more than a script may have.
+/// The maximum number of bytes that are read of a file: one more than a script may have.
 const READ_LIMIT: usize = 1_048_577;
 
-/// The rights to execute a file.
+/// The permission bits for execution by the owner, the group and others.
 const EXECUTE_RIGHTS: u32 = 0o111;
 
-/// The host as a machine.
+/// A `Machine` that reads the files and the clock of the host.
 #[derive(Drop)]
 pub struct HostMachine<'a, R> {
+    /// The runtime, through which files and the clock are read.
     pub rt: &'a R,
 }
 
-/// The fault of a system call that failed.
+/// Converts an error of a system call to a fault of reading a file.
 fn fault_of(error: io::Error) -> ReadFault {
     if let Some(refusal) = NoMemory::in_error(&error) {
         return ReadFault::Memory(refusal);
@@ -35,7 +36,7 @@ fn fault_of(error: io::Error) -> ReadFault {
     }
 }
 
-/// Whether someone may execute a file with these rights.
+/// Returns `true` if the owner, the group or others may execute a file with this mode.
 fn may_execute(mode: u32) -> bool
     ensures { result ≡ may_execute mode }
 {
@@ -43,7 +44,7 @@ fn may_execute(mode: u32) -> bool
 }
 
 impl<R: Files<File = File> + Clock + AllocGlobal> Machine for HostMachine<'_, R> {
-    // Nothing is known of what the host answers but what the trait asks for.
+    // Only the contracts of the trait restrict the results of the host.
     ghost answers = { λ _ _ _. Unit {0} };
 
     fn front(&mut self, path: &str) -> Result<Bytes, ReadFault> {

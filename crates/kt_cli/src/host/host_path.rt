@@ -1,10 +1,12 @@
 ghost use Rattle.std.specs.Prelude.{◌≡◌, ◌++◌, ◌+◌, ◌≤◌, ◌<◌, length, take, IfSome, IfNone};
 ghost use Rattle.kt_cli.specs.Common.{longest_path};
 
-/// The longest path that the host takes, in bytes.
+/// The length of the longest path that the host accepts, in bytes.
 pub const LONGEST_PATH: usize = 4_095;
 
-/// Writes a piece of a path after the first bytes of a buffer, and returns where it ends, if there is space for it.
+/// Copies a part of a path to `room`, at index `from`, and returns the index after it.
+///
+/// Returns `None` if the buffer is too short.
 fn put(room: &mut [u8], from: usize, piece: &str) -> Option<usize>
     requires { from ≤ length room.old }
     ensures within { IfSome result (λ end. end ≤ length room.new) }
@@ -22,8 +24,9 @@ fn put(room: &mut [u8], from: usize, piece: &str) -> Option<usize>
     Some(end)
 }
 
-/// A name after a directory and what stands between them, written into a buffer; it takes no memory. A path that is too
-/// long for the host is none.
+/// Joins `directory`, `between` and `name` to a path in a buffer.
+///
+/// Returns `None` if the path has more than 4,095 bytes. Allocates nothing.
 pub fn joined_path<'a>(
     directory: &str,
     between: &str,

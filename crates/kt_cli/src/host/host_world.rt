@@ -8,16 +8,17 @@ use kt_plan::World;
 use kt_sched::{Ended, Job, Launcher, StartAnswer};
 use kt_suite::{Program, ReadFault, Tree};
 
-/// A machine as a command sees it: the files below a directory, what is found around the command, a
-/// clock and a driver.
+/// A `World` of the host: files, environment, clock, and a driver of test programs.
+///
+/// Paths of the tree are relative to the directory of the Kyuafile.
 #[derive(Drop)]
 pub struct HostWorld<M: Drop, O: Os + Drop> {
     pub(crate) machine: M,
-    /// It ends with a slash, or is empty for the working directory.
+    /// The directory of the tree, with a slash at its end, or empty for the working directory.
     pub(crate) directory: Text,
-    /// What starts test programs and asks for their cases.
+    /// The driver, which starts test programs and lists their cases.
     pub(crate) driver: Driver<O>,
-    /// What the command finds around it.
+    /// The working directory and the environment of the process.
     pub(crate) around: Surroundings,
 }
 

@@ -1,4 +1,4 @@
-//! The commands on a platform and a machine, with what they find around them.
+//! The commands over the host: its files, its results files, and the environment of the process.
 
 pub(crate) mod command_line;
 pub(crate) mod host_execution;

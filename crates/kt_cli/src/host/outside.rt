@@ -1,9 +1,12 @@
 use std::alloc::Global;
 
-/// What lies outside of a command: memory, the machine that it reads, and the system that runs its test programs.
+/// A set of handles through which a command reaches the host.
 #[derive(Drop)]
 pub struct Outside<M: Drop, O: Drop> {
+    /// The allocator.
     pub alloc: Global,
+    /// The files and the clock that the command reads.
     pub machine: M,
+    /// The system that runs test programs.
     pub os: O,
 }

@@ -14,8 +14,9 @@ use kt_store::{Access, ResultStore};
 use kt_words::{Command, CommandFault};
 use std::io::Write;
 
-/// Executes a command over a store of runs. One over test cases gets what is found around the process; a report needs
-/// nothing else.
+/// Executes a command over an open results store.
+///
+/// Commands over test cases also get the working directory and the environment of the process.
 fn perform_over<M: Machine + Drop, O: Os + Drop, P: Platform, S: ResultStore, W: Write>(
     outside: Outside<M, O>,
     platform: &mut P,
@@ -55,7 +56,9 @@ fn perform_over<M: Machine + Drop, O: Os + Drop, P: Platform, S: ResultStore, W:
     }
 }
 
-/// What a command opens its results for: `test` adds a run, a report shows runs. The others have no file of results.
+/// Returns the access with which a command opens its results file.
+///
+/// `test` adds a run, and a report only reads. The other commands have no results file.
 fn access_of(command: &Command) -> Access
     ensures { result ≡ access_of command.now }
 {
@@ -65,7 +68,7 @@ fn access_of(command: &Command) -> Access
     }
 }
 
-/// Executes a command over the results in a file.
+/// Opens a results file, executes a command over it, and closes the file.
 fn perform_in_file<M: Machine + Drop, O: Os + Drop, P: Platform, W: Write>(
     outside: Outside<M, O>,
     platform: &mut P,
@@ -82,13 +85,14 @@ fn perform_in_file<M: Machine + Drop, O: Os + Drop, P: Platform, W: Write>(
         Err(fault) => return (print_store_fault(fault, out), outside),
     };
     let (exit, outside) = perform_over(outside, platform, command, &mut results, out);
-    // The results are closed, whatever was done.
+    // The results are closed even after a failed command.
     let closed = platform.close(results);
     (with_closed(exit, closed, out), outside)
 }
 
-/// Prints on standard error why the arguments are no command; an out-of-memory error goes to standard
-/// output, as every other message.
+/// Prints why the arguments are rejected, on standard error, and returns the exit status.
+///
+/// An out-of-memory message goes to standard output, as every other message does.
 fn reject<W: Write, E: Write>(fault: &CommandFault, out: &mut LineOutput<W>, errors: &mut E) -> Exit
     ensures { Rejected fault.now
         (record { out = line_state W.contents out.old; errors = E.contents errors.old })
@@ -104,9 +108,11 @@ fn reject<W: Write, E: Write>(fault: &CommandFault, out: &mut LineOutput<W>, err
     }
 }
 
-/// Carries out a command line: performs its command, or prints why it is none. A command is performed over this machine,
-/// this system and the results that the platform opens and closes, or, for `list` and `debug`, over an empty store in
-/// memory. At its end all its text is handed on. Returns what is outside, as the calls left it.
+/// Executes a parsed command, or prints the fault of its arguments, and returns the exit status.
+///
+/// The command runs over the machine and the system of `outside`, and over the results file that
+/// the platform opens and closes. `list` and `debug` run over an empty store in memory. At the end
+/// all output is written. The returned `Outside` is the given one, after the calls of the command.
 pub fn carry_out<M: Machine + Drop, O: Os + Drop, P: Platform, W: Write, E: Write>(
     outside: Outside<M, O>,
     platform: &mut P,

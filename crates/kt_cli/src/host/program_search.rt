@@ -4,7 +4,7 @@ use crate::Machine;
 use crate::host::host_path::{LONGEST_PATH, joined_path};
 use kt_base::{Text, has_slash, is_absolute};
 
-/// Whether a program is in a directory; the empty one is the working directory.
+/// Returns `true` if a directory has a program. The empty directory is the working directory.
 fn is_in<M: Machine>(machine: &mut M, directory: &str, name: &str) -> bool
     ensures { InDirectory M.answers name.now directory.now result machine.old machine.new }
 {
@@ -16,7 +16,7 @@ fn is_in<M: Machine>(machine: &mut M, directory: &str, name: &str) -> bool
     }
 }
 
-/// Whether a program is in one of the directories, which have colons between them.
+/// Returns `true` if one of the directories in `among`, separated by colons, has a program.
 fn is_among<M: Machine>(machine: &mut M, among: &str, name: &str) -> bool
     ensures { Searched M.answers name.now (directories among.now) result machine.old machine.new }
 {
@@ -30,7 +30,10 @@ fn is_among<M: Machine>(machine: &mut M, among: &str, name: &str) -> bool
     is_in(machine, rest, name)
 }
 
-/// Whether a program is found: at its absolute path, or by a name without a slash in a directory of `PATH`.
+/// Returns `true` if a required program exists.
+///
+/// A program with an absolute path must be at that path. A name without a slash must be in a
+/// directory of `path`, the value of `PATH`. Other names are not found.
 pub fn is_found<M: Machine>(machine: &mut M, path: &Option<Text>, name: &Text) -> bool
     ensures { IsSought M.answers path.now name.now result machine.old machine.new }
 {

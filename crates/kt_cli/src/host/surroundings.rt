@@ -13,21 +13,24 @@ use std::path::PathBuf;
 use std::rt::Env;
 use std::{env, io};
 
-/// The longest variable of an environment, in bytes: Linux takes no longer one.
+/// The maximum length of an environment variable in bytes: Linux takes no longer one.
 const LONGEST_VARIABLE: usize = 131_072;
 
-/// The working directory and the environment of the process that carries out a command.
+/// A copy of the working directory of a command's process, and of its variables `PATH` and `USER`.
 #[derive(Drop)]
 pub struct Surroundings {
-    /// The absolute working directory.
+    /// The absolute path of the working directory.
     pub here: Text,
-    /// The value of `PATH`, if it is set: the directories in which programs are looked for.
+    /// The value of `PATH`, if it is set and is UTF-8: the directories in which programs are looked
+    /// up.
     pub path: Option<Text>,
-    /// The value of `USER`, if it is set: who runs the command.
+    /// The value of `USER`, if it is set and is UTF-8. It decides whether the user is root.
     pub user: Option<Text>,
 }
 
-/// The value of a variable, from the answer of the system and the buffer that it filled.
+/// Copies the value of a variable out of the buffer that the system filled.
+///
+/// Returns `None` if the variable is not set or is not UTF-8.
 fn value_of(
     alloc: Global,
     answer: Result<usize, FillError>,
@@ -45,7 +48,9 @@ fn value_of(
     }
 }
 
-/// The value of a variable, which is copied through a buffer on the stack.
+/// Reads an environment variable through the buffer `room`.
+///
+/// Returns `None` if the variable is not set or is not UTF-8.
 fn variable<R: Env + AllocGlobal>(
     rt: &R,
     name: &str,
@@ -59,7 +64,9 @@ fn variable<R: Env + AllocGlobal>(
     value_of(rt.alloc(), answer, room)
 }
 
-/// The absolute working directory, from the answer of the system.
+/// Copies the path of the working directory out of the system's result.
+///
+/// Fails with `NoWorkDirectory` if the system returned an error other than out of memory.
 fn here_of(alloc: Global, answer: io::Result<PathBuf>) -> Result<Text, DriverFault>
     ensures { IsHere (result_map_both path_buf_bytes (λ error. error) answer) result }
 {
@@ -75,7 +82,13 @@ fn here_of(alloc: Global, answer: io::Result<PathBuf>) -> Result<Text, DriverFau
 impl Surroundings {
     ghost use Rattle.kt_cli.specs.HostAnswers.{is_root};
 
-    /// Takes the variables from the environment. One that isn't UTF-8 counts as not set.
+    /// Reads `PATH` and `USER` from the environment.
+    ///
+    /// A variable that is not UTF-8 counts as not set.
+    ///
+    /// # Errors
+    ///
+    /// - `NoMemory`: an allocation fails.
     pub fn new<R: Env + AllocGlobal>(rt: &R, here: Text) -> Result<Surroundings, NoMemory>
         ensures here { IfOk result (λ around. around.here ≡ here) }
         ensures path { IfOk result (λ around. IsAnswered around.path) }
@@ -87,7 +100,12 @@ impl Surroundings {
         Ok(Surroundings { here, path, user })
     }
 
-    /// What is found around this process.
+    /// Reads the working directory and the environment of this process.
+    ///
+    /// # Errors
+    ///
+    /// - `NoWorkDirectory`: the working directory is not known.
+    /// - `NoMemory`: an allocation fails.
     pub fn of_process<R: Env + AllocGlobal>(rt: &R) -> Result<Surroundings, DriverFault>
         ensures { IsFound result }
     {
@@ -98,7 +116,7 @@ impl Surroundings {
         }
     }
 
-    /// Whether root runs the command.
+    /// Returns `true` if the value of `USER` is `root`.
     #[tactic(auto, unfolding(crate::proofs::Common::chars))]
     pub fn is_root(&self) -> bool
         ensures { result ≡ is_root self.now.user }

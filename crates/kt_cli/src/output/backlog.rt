@@ -2,14 +2,16 @@ use kt_base::NoMemory;
 use std::alloc::Global;
 use std::marker::Model;
 
-/// Bytes that are to be written. Contracts see those that are left, in order.
+/// A queue of bytes that are still to be written.
+///
+/// In contracts its value is the remaining bytes, in order.
 pub struct Backlog {
     bytes: Vec<u8>,
-    /// The index of the first byte that is left.
+    /// The index of the first remaining byte, at most the length of `bytes`.
     start: usize,
 }
 
-/// Written out, so that a drop is one call.
+/// Written out instead of derived: for the prover, a drop is then one call.
 impl Drop for Backlog {
     fn drop(self) {
         let Backlog { bytes: _, start: _ } = self;
@@ -29,7 +31,7 @@ impl Model for Backlog {
 impl Backlog {
     ghost use Rattle.std.specs.Prelude.{◌≡◌, ◌↔◌, ◌++◌, ◌≤◌, [], IsTrue, OnErr, OnOk, drop, length};
 
-    /// Creates an empty backlog, which allocates nothing.
+    /// Creates an empty backlog. Allocates nothing.
     pub fn new(alloc: Global) -> Backlog
         ensures { result ≡ [] }
     {
@@ -39,21 +41,23 @@ impl Backlog {
         }
     }
 
-    /// Returns the bytes that are left.
+    /// Returns the remaining bytes.
     pub fn as_slice(&self) -> &[u8]
         ensures { result.now ≡ self.now }
     {
         &self.bytes[self.start..]
     }
 
-    /// Checks whether no byte is left.
+    /// Returns `true` if no bytes remain.
     pub fn is_empty(&self) -> bool
         ensures { IsTrue result ↔ (self.now ≡ []) }
     {
         self.as_slice().is_empty()
     }
 
-    /// Appends bytes.
+    /// Appends bytes to the end of the backlog.
+    ///
+    /// Fails if the allocation fails, and then changes nothing.
     pub fn append(&mut self, more: &[u8]) -> Result<(), NoMemory>
         ensures ok { OnOk result (self.new ≡ self.old ++ more.now) }
         ensures err { OnErr result (self.new ≡ self.old) }
@@ -62,7 +66,7 @@ impl Backlog {
         Ok(())
     }
 
-    /// Drops the first bytes, which were written.
+    /// Removes the first `count` bytes, which were written.
     pub fn advance(&mut self, count: usize)
         requires { count ≤ length self.old }
         ensures { self.new ≡ drop count self.old }

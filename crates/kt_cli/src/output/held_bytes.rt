@@ -5,10 +5,12 @@ use kt_base::send;
 use std::io::Write;
 use std::marker::Model;
 
-/// How many bytes are held at the most.
+/// The capacity of the buffer, in bytes.
 pub const ROOM: usize = 65_536;
 
-/// Bytes in a buffer of their own on the stack. Contracts see them in order.
+/// A buffer of fixed size on the stack.
+///
+/// In contracts its value is the buffered bytes, in order.
 #[derive(Drop)]
 pub struct HeldBytes {
     room: [u8; ROOM],
@@ -26,7 +28,7 @@ impl Model for HeldBytes {
 }
 
 impl HeldBytes {
-    /// An empty buffer.
+    /// Creates an empty buffer. Allocates nothing.
     pub fn new() -> HeldBytes
         ensures { result ≡ [] }
     {
@@ -36,7 +38,7 @@ impl HeldBytes {
         }
     }
 
-    /// How many bytes there are.
+    /// Returns the number of buffered bytes.
     pub fn len(&self) -> usize
         ensures value { result ≡ length self.now }
         ensures bound { result ≤ 65536 }
@@ -44,7 +46,7 @@ impl HeldBytes {
         self.count
     }
 
-    /// Appends bytes that fit.
+    /// Appends bytes, which must fit into the buffer.
     pub fn append(&mut self, more: &[u8])
         requires { length self.old + length more.now ≤ 65536 }
         ensures { self.new ≡ self.old ++ more.now }
@@ -54,7 +56,9 @@ impl HeldBytes {
         self.count = count + more.len();
     }
 
-    /// Hands the bytes to a writer, and returns whether a write failed. The bytes that weren't written stay, moved to the front.
+    /// Writes the buffered bytes, and returns `true` if a write failed.
+    ///
+    /// Bytes that were not written stay, moved to the start of the buffer.
     pub fn hand_on<W: Write>(&mut self, out: &mut W) -> bool
         ensures bytes { Keeps (append_known (W.contents out.old) self.old)
             (append_known (W.contents out.new) self.new) }

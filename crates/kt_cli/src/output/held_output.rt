@@ -5,23 +5,26 @@ use std::alloc::Global;
 use std::io;
 use std::io::{ErrorKind, Write};
 
-/// How often bytes are offered in one step, at most.
+/// The maximum number of offers in one step.
 const OFFERS: usize = 16;
 
-/// A writer that doesn't wait for its reader, from the first step on. Bytes that aren't taken now are kept in memory, in order,
-/// and offered again with each later write and step. A flush writes all of them, and waits; so does a write for which there is
-/// no memory. After a failed write every call fails, and nothing more is written.
+/// A writer that, from the first `step` on, does not wait for its reader.
+///
+/// Bytes that the reader does not take yet are held in memory, in order. Each later write and step
+/// offers them again. A flush writes all of them, and waits for the reader. So does a write whose
+/// bytes can't be held because the allocation fails. After a failed write every call fails, and
+/// nothing more is written.
 #[derive(Drop)]
 pub struct HeldOutput<W> {
     out: W,
     held: Backlog,
-    /// Whether there was a step.
+    /// Whether `step` was called.
     patient: bool,
-    /// Whether a write failed.
+    /// Whether a write has failed.
     failed: bool,
 }
 
-/// The error of a call after one that failed.
+/// Creates the error of each call after a failed write.
 fn broken() -> io::Error {
     io::Error::from(ErrorKind::BrokenPipe)
 }
@@ -30,7 +33,7 @@ impl<W: Outlet> HeldOutput<W> {
     ghost use Rattle.std.specs.Prelude.{◌≡◌, ◌≤◌, ◌+◌, [], false, length};
     ghost use Rattle.kt_cli.specs.Common.{Keeps, WriteAppends, WritesAtMost, given_to, has_stopped, held_back};
 
-    /// Creates a writer that holds nothing.
+    /// Creates a writer that holds no bytes. Allocates nothing.
     pub fn new(alloc: Global, out: W) -> HeldOutput<W>
         ensures bytes { Keeps (W.contents out) (given_to W.contents result) }
         ensures held { held_back result ≡ [] }
@@ -44,7 +47,7 @@ impl<W: Outlet> HeldOutput<W> {
         }
     }
 
-    /// Offers what is held once, and returns whether bytes were taken.
+    /// Offers the held bytes to the writer once, and returns `true` if it took any.
     fn offer_held(&mut self) -> bool
         ensures bytes { Keeps (given_to W.contents self.old) (given_to W.contents self.new) }
         ensures few { length (held_back self.new) ≤ length (held_back self.old) }
@@ -61,7 +64,7 @@ impl<W: Outlet> HeldOutput<W> {
         }
     }
 
-    /// Offers what is held, in order, as long as it is taken.
+    /// Offers the held bytes, in order, at most 16 times and as long as the writer takes some.
     fn offer_all(&mut self)
         ensures bytes { Keeps (given_to W.contents self.old) (given_to W.contents self.new) }
         ensures few { length (held_back self.new) ≤ length (held_back self.old) }
@@ -73,7 +76,9 @@ impl<W: Outlet> HeldOutput<W> {
         }
     }
 
-    /// Writes what is taken now of the bytes that are held. From the first step on, bytes that aren't taken are held.
+    /// Writes the held bytes that the reader takes now, without waiting.
+    ///
+    /// After the first step, writes hold the bytes that the reader does not take yet.
     pub fn step(&mut self)
         ensures bytes { Keeps (given_to W.contents self.old) (given_to W.contents self.new) }
         ensures few { length (held_back self.new) ≤ length (held_back self.old) }
@@ -82,7 +87,7 @@ impl<W: Outlet> HeldOutput<W> {
         self.offer_all();
     }
 
-    /// Writes all that is held, and returns whether a write failed.
+    /// Writes all held bytes, waits for the reader, and returns `true` if a write failed.
     fn write_held(&mut self) -> bool
         ensures bytes { Keeps (given_to W.contents self.old) (given_to W.contents self.new) }
         ensures all { result ≡ false → held_back self.new ≡ [] }
@@ -94,7 +99,7 @@ impl<W: Outlet> HeldOutput<W> {
         failed
     }
 
-    /// Writes bytes while none are held.
+    /// Writes bytes to the inner writer directly, while no bytes are held.
     fn write_through(&mut self, buf: &[u8]) -> io::Result<usize>
         requires { held_back self.old ≡ [] }
         ensures bound { WritesAtMost result buf.now }
@@ -107,7 +112,9 @@ impl<W: Outlet> HeldOutput<W> {
         answer
     }
 
-    /// Holds bytes. Without memory for them, all that is held is written, and then some of them.
+    /// Holds bytes in memory.
+    ///
+    /// If the allocation fails, this writes all held bytes, and then some of `buf`.
     fn hold(&mut self, buf: &[u8]) -> io::Result<usize>
         ensures bound { WritesAtMost result buf.now }
         ensures bytes { WriteAppends (given_to W.contents self.old)
@@ -124,7 +131,8 @@ impl<W: Outlet> HeldOutput<W> {
         self.write_through(buf)
     }
 
-    /// Offers bytes while none are held. Those that aren't taken are held.
+    /// Offers bytes to the writer, while no bytes are held. If it takes none of them, they are
+    /// held.
     fn offer_or_hold(&mut self, buf: &[u8]) -> io::Result<usize>
         requires { held_back self.old ≡ [] }
         ensures bound { WritesAtMost result buf.now }
@@ -150,7 +158,7 @@ impl<W: Outlet> Write for HeldOutput<W> {
 
     ghost contents = { given_to W.contents };
 
-    // It may hold the bytes that it returns as written, in order, and no others.
+    // Bytes that a write counts as written may still be held, in order.
     fn write(&mut self, buf: &[u8]) -> io::Result<usize>
         ensures bound { WritesAtMost result buf.now }
         ensures bytes { WriteAppends (given_to W.contents self.old)
@@ -172,7 +180,7 @@ impl<W: Outlet> Write for HeldOutput<W> {
         }
     }
 
-    // After a flush that succeeds, all bytes that it was given are written.
+    // After a successful flush, no bytes are held.
     fn flush(&mut self) -> io::Result<()>
         ensures bytes { Keeps (given_to W.contents self.old) (given_to W.contents self.new) }
         ensures all { OnOk result (held_back self.new ≡ []) }

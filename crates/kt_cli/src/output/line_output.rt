@@ -7,23 +7,25 @@ use crate::output::held_bytes::{HeldBytes, ROOM};
 use std::io;
 use std::io::{ErrorKind, Write};
 
-/// A buffered writer: it flushes when its buffer of 64 KiB is full and, if it is to, when a line is
-/// complete. An interrupted write is a failed one, and so is one that takes no byte. After a failed
-/// write every call fails, and nothing more is written, not even on drop. It takes no memory.
+/// A buffered writer, which writes when its buffer of 64 KiB is full.
+///
+/// If `by_line` is set, it also writes when a line is complete. An interrupted write counts as
+/// failed, and so does a write that takes no byte. After a failed write every call fails, and
+/// nothing more is written, not even on drop. The writer allocates nothing.
 #[derive(Drop)]
 pub struct LineOutput<W> {
     out: W,
     held: HeldBytes,
     by_line: bool,
-    /// Whether a write failed.
+    /// Whether a write has failed.
     failed: bool,
-    /// Why the writer's own flush failed, if it did.
+    /// The fault of the inner writer's flush, if it failed.
     unflushed: Option<FlushFault>,
     ghost caused: { failed ≡ true → 0 < length held },
     ghost spare: { failed ≡ false → length held < 65536 },
 }
 
-/// The error of a call after one that failed.
+/// Creates the error of each call after a failed call.
 fn broken() -> io::Error {
     io::Error::from(ErrorKind::BrokenPipe)
 }
@@ -32,8 +34,9 @@ impl<W: Write> LineOutput<W> {
     ghost use Rattle.std.specs.Prelude.{◌≡◌, [], false};
     ghost use Rattle.kt_cli.specs.Common.{Keeps, given_bytes, is_broken, unwritten, line_state, Flushed};
 
-    /// A writer before this one, which holds nothing yet. If `by_line` is set, each line is written
-    /// when it is complete.
+    /// Creates a writer with an empty buffer. Allocates nothing.
+    ///
+    /// If `by_line` is set, each line is written when it is complete.
     pub fn new(out: W, by_line: bool) -> LineOutput<W>
         ensures bytes { Keeps (W.contents out) (given_bytes W.contents result) }
         ensures held { unwritten result ≡ [] }
@@ -55,14 +58,14 @@ impl<W: Write> LineOutput<W> {
         self.by_line = by_line;
     }
 
-    /// Whether a call has failed.
+    /// Returns `true` if a write or a flush has failed.
     fn is_broken(&self) -> bool
         ensures { result ≡ is_broken self.now }
     {
         self.failed || self.unflushed.is_some()
     }
 
-    /// The exit of a command that wrote here: what is still held is written, and if that fails the exit is 2.
+    /// Flushes the output of a command, and returns its exit status, or 2 if the flush fails.
     pub fn finish(&mut self, exit: Exit) -> Exit
         ensures { Flushed (given_bytes W.contents self.old) (line_state W.contents self.new)
             exit.status result.status }
@@ -80,7 +83,7 @@ impl<W: Write> Write for LineOutput<W> {
 
     ghost contents = { given_bytes W.contents };
 
-    // It fails only after another call that failed, and else takes a byte if there is one.
+    // A write fails only after a failed call. Otherwise it takes a byte if there is one.
     fn write(&mut self, buf: &[u8]) -> io::Result<usize>
         ensures bound { WritesAtMost result buf.now }
         ensures bytes { WriteAppends (given_bytes W.contents self.old)

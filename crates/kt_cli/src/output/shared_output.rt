@@ -4,20 +4,22 @@ use std::cell::RefCell;
 use std::io;
 use std::io::{ErrorKind, Write};
 
-/// A held output that the commands write to, and that the host offers its bytes while children run.
+/// A handle of a `HeldOutput` that commands and the host share.
+///
+/// Commands write to it, and the host offers its bytes to the reader while children run.
 #[derive(Drop)]
 pub struct SharedOutput<'a, W> {
     held: &'a RefCell<HeldOutput<W>>,
 }
 
 impl<'a, W> SharedOutput<'a, W> {
-    /// One of the two sides of an output.
+    /// Creates a handle of an output. Allocates nothing.
     pub fn new(held: &'a RefCell<HeldOutput<W>>) -> SharedOutput<'a, W> {
         SharedOutput { held }
     }
 }
 
-/// The error of a call within another call, which there is none.
+/// Creates the error of a call while another call is in progress, which does not happen.
 fn in_use() -> io::Error {
     io::Error::from(ErrorKind::Other)
 }

@@ -7,19 +7,21 @@ use std::io::{ErrorKind, Print, Write};
 use std::os::fd::AsRawFd;
 use std::rt::Files;
 
-/// How many bytes a pipe takes at least if it takes any (limits.h, `PIPE_BUF`).
+/// The number of bytes that a writable pipe takes at least (limits.h, `PIPE_BUF`).
 const PIPE_BUF: usize = 4_096;
 
-/// The standard output of the process.
+/// A handle of the standard output of the process.
 #[derive(Drop)]
 pub struct StandardOutput<'a, R> {
     rt: &'a R,
-    /// The terminal, opened once more, so that its writes don't wait while those of the inherited descriptor do. A terminal may
-    /// be ready for one byte alone.
+    /// The terminal, if standard output is one, opened a second time.
+    ///
+    /// Writes to this descriptor don't wait, while writes to the inherited descriptor do. Polling
+    /// does not help here, because a terminal may be ready for one byte only.
     terminal: Option<File>,
 }
 
-/// Checks whether a write to standard output returns at once.
+/// Returns `true` if a write to standard output returns at once, or if the poll fails.
 fn is_ready() -> bool {
     let mut asked = [pollfd {
         fd: libc::STDOUT_FILENO,
@@ -29,7 +31,7 @@ fn is_ready() -> bool {
     poll(&mut asked, 0) != 0
 }
 
-/// Opens the terminal of standard output once more, if it is one.
+/// Opens the terminal of standard output a second time, in non-blocking mode, if there is one.
 fn open_terminal<R: Files<File = File>>(rt: &R) -> Option<File> {
     if libc::isatty(libc::STDOUT_FILENO) != 1 {
         return None;
@@ -44,7 +46,8 @@ fn open_terminal<R: Files<File = File>>(rt: &R) -> Option<File> {
 }
 
 impl<'a, R: Files<File = File>> StandardOutput<'a, R> {
-    /// Opens the standard output.
+    /// Creates a handle of standard output. If it is a terminal, this opens the terminal a second
+    /// time.
     pub fn new(rt: &'a R) -> StandardOutput<'a, R> {
         StandardOutput {
             rt,

@@ -5,6 +5,7 @@ use kt_base::{Entry, NoMemory, Output, Text, Variables, Verdict};
 use kt_store::{CaseOutputs, no_output};
 use std::alloc::Global;
 
+/// Copies a verdict, with its reason as text.
 fn copy_of_verdict(alloc: Global, verdict: &Verdict) -> Result<Verdict, NoMemory>
     ensures { IfOk result (λ copy. copy ≡ verdict.now) }
 {
@@ -13,6 +14,7 @@ fn copy_of_verdict(alloc: Global, verdict: &Verdict) -> Result<Verdict, NoMemory
     Ok(Verdict::of(verdict.kind(), reason))
 }
 
+/// Copies the output of a body or a cleanup.
 fn copy_of_output(output: &Output) -> Result<Output, NoMemory>
     ensures { IfOk result (λ copy. copy ≡ output.now) }
 {
@@ -22,7 +24,7 @@ fn copy_of_output(output: &Output) -> Result<Output, NoMemory>
     })
 }
 
-/// Equal outputs with memory of their own.
+/// Copies the outputs of an entry's body and cleanup.
 pub fn copy_of_outputs(entry: &Entry) -> Result<CaseOutputs, NoMemory>
     ensures { IfOk result (λ copy. copy ≡ outputs_of entry.now) }
 {
@@ -32,7 +34,7 @@ pub fn copy_of_outputs(entry: &Entry) -> Result<CaseOutputs, NoMemory>
     })
 }
 
-/// A copy of an entry without its pairs and its outputs. Its reason is kept as its text.
+/// Copies an entry without its properties and outputs. The reason is copied as text.
 fn outlined(alloc: Global, entry: &Entry) -> Result<Entry, NoMemory>
     ensures { IfOk result (λ copy. copy ≡ outlined entry.now) }
 {
@@ -49,7 +51,7 @@ fn outlined(alloc: Global, entry: &Entry) -> Result<Entry, NoMemory>
     })
 }
 
-/// An equal entry with memory of its own.
+/// Copies an entry with its properties and outputs.
 pub fn copy_of_entry(alloc: Global, entry: &Entry) -> Result<Entry, NoMemory>
     ensures { IfOk result (λ copy. copy ≡ entry.now) }
 {
@@ -60,7 +62,7 @@ pub fn copy_of_entry(alloc: Global, entry: &Entry) -> Result<Entry, NoMemory>
     Ok(copy)
 }
 
-/// Copies of entries without their pairs and their outputs.
+/// Copies entries without their properties and outputs, in order.
 pub fn outlined_all(alloc: Global, entries: &[Entry]) -> Result<Vec<Entry>, NoMemory>
     ensures { IfOk result (λ copies. copies.items ≡ map outlined entries.now) }
 {

@@ -5,11 +5,14 @@ use std::alloc::Global;
 use std::marker::Model;
 use std::mem;
 
-/// The most runs that are recorded.
+/// The maximum number of recorded runs.
 const RUN_LIMIT: usize = 1_000_000;
 
-/// Recorded runs in memory, as rows use them; `list` and `debug` are lent none, and so call nothing of them. Contracts
-/// see their list; a run's number is its place in it, counted from 1.
+/// A store of recorded runs in memory.
+///
+/// The examples of kt_rows use it. `list` and `debug` are given an empty one, and never call it. In
+/// contracts its value is the list of runs. The number of a run is its position in the list,
+/// counted from 1.
 #[derive(Drop)]
 pub struct MemRuns {
     runs: Vec<Run>,
@@ -29,7 +32,7 @@ impl MemRuns {
     ghost use Rattle.std.specs.Prelude.{◌≡◌, [], IfErr};
     ghost use Rattle.kt_cli.specs.Common.{IsStoreFault, Began, Put, Finished, Heads, Outline, Pairs, Outputs, seen_as, FindsPlace, ServesInMemory};
 
-    /// No runs. Allocates nothing.
+    /// Creates a store without runs. Allocates nothing.
     pub fn new(alloc: Global) -> MemRuns
         ensures { result ≡ [] }
     {
@@ -39,6 +42,10 @@ impl MemRuns {
         }
     }
 
+    /// Appends a run without entries, and returns its number.
+    ///
+    /// Fails with `StoreFull` if there are 1,000,000 runs, and with `NoMemory` if the allocation
+    /// fails.
     fn add_run(&mut self, total: u32, moment: u64) -> Result<u64, StoreFault>
         ensures { ServesInMemory self.old (Began total moment result) self.new }
     {
@@ -60,7 +67,9 @@ impl MemRuns {
         }
     }
 
-    /// The place of a run in the list.
+    /// Returns the index of run `number` in the list.
+    ///
+    /// Fails with `NoRun` if there is no such run.
     fn place(&self, number: u64) -> Result<usize, StoreFault>
         ensures { FindsPlace self.now number result }
     {
@@ -70,6 +79,7 @@ impl MemRuns {
         Ok((number - 1) as usize)
     }
 
+    /// Inserts a copy of an entry into run `number`, in the order of positions.
     fn put_entry(&mut self, number: u64, entry: &Entry) -> Result<(), StoreFault>
         ensures { ServesInMemory self.old (Put number entry.now result) self.new }
     {
@@ -85,6 +95,7 @@ impl MemRuns {
         Ok(())
     }
 
+    /// Marks run `number` as finished.
     fn end_run(&mut self, number: u64) -> Result<(), StoreFault>
         ensures { ServesInMemory self.old (Finished number result) self.new }
     {
@@ -97,6 +108,7 @@ impl MemRuns {
         Ok(())
     }
 
+    /// Returns the entries of run `number`, without their properties and outputs.
     fn outline_of(&self, number: u64) -> Result<Vec<Entry>, StoreFault>
         ensures { ServesInMemory self.now
             (Outline number (seen_as (λ found. found.items) result)) self.now }
@@ -108,6 +120,8 @@ impl MemRuns {
         }
     }
 
+    /// Returns the properties of the entry at `position` of run `number`, or none without this
+    /// entry.
     fn pairs_at(&self, number: u64, position: u32) -> Result<Variables, StoreFault>
         ensures { ServesInMemory self.now (Pairs number position result) self.now }
     {
@@ -123,6 +137,9 @@ impl MemRuns {
         }
     }
 
+    /// Returns the outputs of the entry at `position` of run `number`.
+    ///
+    /// Fails with `NoRun` if there is no such run or no such entry.
     fn outputs_at(&self, number: u64, position: u32) -> Result<CaseOutputs, StoreFault>
         ensures { ServesInMemory self.now (Outputs number position result) self.now }
     {
@@ -136,6 +153,7 @@ impl MemRuns {
         }
     }
 
+    /// Returns the heads of all runs, in order.
     fn heads(&self) -> Result<Vec<RunHead>, StoreFault>
         ensures served { ServesInMemory self.now
             (Heads (seen_as (λ heads. heads.items) result)) self.now }
@@ -152,14 +170,14 @@ impl Keeping for MemRuns {
     ghost use Rattle.std.specs.Prelude.{◌≡◌, ⊤};
     ghost use Rattle.kt_cli.specs.Common.{AreNumbered, AreOrdered};
 
-    // Nothing: what a call returns is said by its own clause.
+    // Each call has its own contract, so this relation is trivial.
     ghost answers = { λ _ _ _. Unit {0} };
 
     ghost stands = { λ m runs. (m ≡ runs) × AreNumbered 1 runs × AreOrdered runs };
 
     ghost sound = { λ m. ⊤ };
 
-    // A crash leaves nothing of them, so it leaves no others.
+    // A crash leaves no runs at all, so it can't leave wrong runs.
     ghost leaves = { λ m may. ⊤ };
 
     ghost numbered = { λ m runs h. h.1 };
@@ -201,13 +219,14 @@ ghost use Rattle.std.specs.Prelude.{◌≡◌, ◌≤◌, ◌==◌, length, map,
 ghost use Rattle.kt_cli.specs.Common.{find, option_copied, IsStoreFault, head_of, has_position, insert_at, entry_refusal, closing_refusal, place_among};
 ghost use Rattle.kt_base.specs.declared.entry.Entry.{Entry as Recorded};
 
-/// Memory ran out.
+/// Converts a failed allocation to a fault of the store.
 fn short(refusal: NoMemory) -> StoreFault
     ensures { IsStoreFault result }
 {
     StoreFault::from(refusal)
 }
 
+/// Returns the head of a run: all but its entries.
 fn head(run: &Run) -> RunHead
     ensures { result ≡ head_of run.now }
 {
@@ -219,6 +238,7 @@ fn head(run: &Run) -> RunHead
     }
 }
 
+/// Returns the heads of runs, in order.
 fn heads(alloc: Global, runs: &[Run]) -> Result<Vec<RunHead>, NoMemory>
     ensures { IfOk result (λ heads. heads.items ≡ map head_of runs.now) }
 {
@@ -229,7 +249,9 @@ fn heads(alloc: Global, runs: &[Run]) -> Result<Vec<RunHead>, NoMemory>
     Ok(heads)
 }
 
-/// How many entries stand before one at this position.
+/// Returns the index at which an entry with this position is inserted.
+///
+/// It is the number of entries before the first one with a greater position.
 fn place_among(entries: &[Entry], position: u32) -> usize
     ensures { result ≡ place_among position entries.now }
 {
@@ -243,7 +265,7 @@ fn place_among(entries: &[Entry], position: u32) -> usize
     place
 }
 
-/// Adds an entry at its position.
+/// Inserts an entry, in the order of positions.
 fn insert_entry(alloc: Global, entries: &mut Items<Entry>, entry: Entry) -> Result<(), NoMemory>
     ensures ok { OnOk result (entries.new ≡ insert_at entry entries.old) }
     ensures err { OnErr result (entries.new ≡ entries.old) }
@@ -256,7 +278,7 @@ fn insert_entry(alloc: Global, entries: &mut Items<Entry>, entry: Entry) -> Resu
     Ok(())
 }
 
-/// Adds a copy of an entry at its position.
+/// Inserts a copy of an entry, in the order of positions.
 fn add_copy(alloc: Global, entries: &mut Items<Entry>, entry: &Entry) -> Result<(), NoMemory>
     ensures ok { OnOk result (entries.new ≡ insert_at entry.now entries.old) }
     ensures err { OnErr result (entries.new ≡ entries.old) }
@@ -266,20 +288,21 @@ fn add_copy(alloc: Global, entries: &mut Items<Entry>, entry: &Entry) -> Result<
     Ok(())
 }
 
-/// The first entry at this position.
+/// Returns the first entry at this position, if there is any.
 fn entry_at(entries: &[Entry], position: u32) -> Option<&Entry>
     ensures { option_copied result ≡ find (λ (e : Recorded). e.position == position) entries.now }
 {
     entries.iter().find(|x| x.position == position)
 }
 
+/// Returns `true` if an entry has this position.
 fn has_position(entries: &[Entry], position: u32) -> bool
     ensures { result ≡ has_position position entries.now }
 {
     entries.iter().any(|x| x.position == position)
 }
 
-/// Why an entry at this position may not be put into a run.
+/// Returns the fault of putting an entry at this position into a run, if that is not allowed.
 fn refused_entry(run: &Run, position: u32) -> Option<StoreFault>
     ensures { result ≡ entry_refusal run.now position }
 {
@@ -295,7 +318,7 @@ fn refused_entry(run: &Run, position: u32) -> Option<StoreFault>
     None
 }
 
-/// Why a run may not be finished.
+/// Returns the fault of finishing a run, if that is not allowed.
 fn refused_end(run: &Run) -> Option<StoreFault>
     ensures { result ≡ closing_refusal run.now }
 {

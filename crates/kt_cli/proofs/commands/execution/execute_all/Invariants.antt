@@ -3,7 +3,7 @@ use Rattle.kt_cli.proofs.Common.{vec_len, vec_capacity, IsIdle, scene, world_of}
 use Rattle.kt_cli.proofs.Sequencing.{GoesOn}
 use Rattle.kt_cli.proofs.commands.execution.execute_all.Given as goal
 
--- what is done goes on with what is left, and there is room for each answer
+-- executing the rest completes the execution, and the list has capacity for each exit status
 abbrev pub invariant-loop-command : goal.invariant-loop-command
 invariant-loop-command g l = record {
   goes : GoesOn (world_of g.W.Tree g.W.Launcher g.W.World) g.R.Keeping l.commands (drop l.command-index l.commands) (scene l.fn.world l.fn.results (g.O.Write.contents l.fn.out)) (scene l.world l.results (g.O.Write.contents l.out)) l.exits.items;

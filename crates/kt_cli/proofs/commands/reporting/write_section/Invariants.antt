@@ -4,7 +4,7 @@ use Rattle.kt_report.proofs.LineSteps.{if_of}
 use Rattle.kt_cli.proofs.TextSteps.{single}
 use Rattle.kt_cli.proofs.commands.reporting.write_section.Given as goal
 
--- the entries of the kind so far were written
+-- the entries of the kind so far are written
 abbrev pub invariant-loop-entry : goal.invariant-loop-entry
 invariant-loop-entry g l =
     WritesEntries g.R.Keeping l.fn.results l.results (g.O.Write.contents l.fn.out) (g.O.Write.contents l.out) l.fn.run.number l.fn.before

@@ -4,7 +4,7 @@ use denote.Shadow.{shadow}
 use Rattle.kt_cli.proofs.Common.{Searched, directories}
 use Rattle.kt_cli.proofs.host.program_search.is_among.Given as goal
 
--- what the search in the rest comes to, the whole search comes to
+-- the result of searching the rest is the result of the whole search
 abbrev pub invariant-loop-directory : goal.invariant-loop-directory
 invariant-loop-directory g l =
     ((answer : Bool) (new : g.row.M.Denot) → Searched g.M.Machine.answers l.name (directories l.rest) answer l.machine new
