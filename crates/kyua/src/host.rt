@@ -1,4 +1,4 @@
-//! The host as a platform.
+//! The implementation of `Platform` for the host.
 
 use kt_base::Text;
 use kt_child::DriverFault;
@@ -6,7 +6,7 @@ use kt_cli::{Platform, Surroundings};
 use kt_store::{Access, RunsFile, StoreFault, Supposed};
 use sqlite::{FileFrom, FileStore, Unknown};
 
-/// An interface to the path and the first contents of the results file, for contracts alone.
+/// Specification of the path and the initial contents of the results file.
 pub(crate) trait Past: Supposed {
     ghost use Rattle.std.specs.Prelude.{ℕ, List};
 
@@ -19,11 +19,14 @@ impl Past for Unknown {
     ghost path = { [] };
 }
 
-/// The host. Its results are an SQLite file, whose first contents `S` represents in contracts.
+/// A `Platform` of the host, whose results file is an SQLite database.
+///
+/// Only contracts use `S`: it represents the initial contents of the results file.
 #[derive(Drop)]
 pub(crate) struct Host<'a, S> {
+    /// The runtime, through which files and the environment are read.
     pub(crate) rt: &'a HostRuntime,
-    /// The one value of `S`, which the open of the results uses up.
+    /// The only value of `S`, which the first open of a results file consumes.
     pub(crate) start: Option<S>,
 }
 

@@ -1,4 +1,4 @@
-//! The program `kyua`: it hands the host's objects on to kt_cli.
+//! The program `kyua`: executes its arguments on the host, with the commands of kt_cli.
 #![tactic(auto)]
 
 mod host;
@@ -15,7 +15,9 @@ use std::cell::RefCell;
 use std::env;
 use std::process::ExitCode;
 
-/// Executes the arguments of the process on the host, and holds what standard output doesn't accept.
+/// Executes the command in the arguments of the process, and returns the exit status.
+///
+/// Bytes that the reader of standard output does not take yet are held in memory.
 fn execute<P: Platform>(rt: &HostRuntime, host: &mut P) -> ExitCode {
     let held = RefCell::new(HeldOutput::new(rt.alloc(), StandardOutput::new(rt)));
     let outside = Outside {
@@ -23,7 +25,7 @@ fn execute<P: Platform>(rt: &HostRuntime, host: &mut P) -> ExitCode {
         machine: HostMachine { rt },
         os: HostOs::new(rt, SharedOutput::new(&held)),
     };
-    // Line by line for `test`: `carry_out_words` sets that.
+    // `carry_out_words` sets `by_line` for `test`.
     let mut out = LineOutput::new(SharedOutput::new(&held), false);
     let (status, _outside) = carry_out_words(
         outside,
@@ -35,7 +37,9 @@ fn execute<P: Platform>(rt: &HostRuntime, host: &mut P) -> ExitCode {
     ExitCode::from(status)
 }
 
-/// Executes the arguments of the process. `start` represents what the results file holds, in contracts alone.
+/// Executes the command in the arguments of the process, on the host.
+///
+/// Only contracts use `start`: it represents the initial contents of the results file.
 fn run<S: Past>(rt: &HostRuntime, start: S) -> ExitCode {
     let mut host = Host {
         rt,
@@ -44,11 +48,13 @@ fn run<S: Past>(rt: &HostRuntime, start: S) -> ExitCode {
     execute(rt, &mut host)
 }
 
-/// In bytes. The C library lets blocks of at most twice this size count.
+/// The size of the block that is freed, in bytes. glibc's threshold is at most twice this size.
 const LARGE_BLOCK: usize = 16_777_216;
 
-/// Has the C library keep the memory of large outputs, which it would give back to the system and take again for each:
-/// once a large block was freed, those that are smaller come from its heap (mallopt(3), M_MMAP_THRESHOLD).
+/// Makes glibc serve large outputs from its heap, instead of mapping and unmapping each of them.
+///
+/// Freeing one mapped block raises glibc's threshold for mapping to the size of the block. Smaller
+/// blocks then come from the heap (mallopt(3), M_MMAP_THRESHOLD).
 fn keep_large_blocks(alloc: Global) {
     let _ = Vec::<u8>::with_capacity(alloc, LARGE_BLOCK);
 }
