@@ -1,7 +1,6 @@
 pub mod Common
 pub mod Chains
 pub mod Characters
-pub mod Digits
 pub mod Fronts
 pub mod Joining
 pub mod LastValueLaws

@@ -1,5 +1,5 @@
 -- Exports the definitions that the clauses of this crate cite. Declares nothing.
-pub use Rattle.std.specs.Fmt.{decimal, digits_onto}
+pub use Rattle.std.specs.Fmt.{decimal}
 pub use Rattle.std.specs.Io.KnownBytes.{Appends}
 pub use Rattle.std.specs.IoError.{error_kind}
 pub use Rattle.std.specs.List.{list_any, prefix_len}
