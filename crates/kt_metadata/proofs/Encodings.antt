@@ -1,8 +1,8 @@
--- A text's characters and its bytes tell it apart from other texts alike.
+-- A text has characters if and only if it has bytes.
 use Rattle.std.proofs.Common.{◌≡◌, ℕ, List, [], ◌∷◌, length, Some, None, ap, sym, refl, arith, encode_utf8_all}
 use Rattle.kt_metadata.proofs.Common.{chars, IsUtf8, chars-nil, encodes-chars, filled}
 
--- a text with bytes has characters
+-- A text without bytes has no characters.
 pub filled-empty : (bs : List ℕ) → length bs ≡ 0 → filled (chars bs) ≡ None
 filled-empty [] e = ap filled chars-nil
 filled-empty (b ∷ bs) e = absurd (omega (arith, e))
@@ -11,5 +11,6 @@ filled-some_next : (cs bs : List ℕ) → encode_utf8_all cs ≡ bs → (length 
 filled-some_next [] bs e full = absurd (full (ap length (sym e)))
 filled-some_next (c ∷ cs) bs e full = refl
 
+-- A text with bytes has characters.
 pub filled-some : (bs : List ℕ) → IsUtf8 bs → (length bs ≡ 0 → ⊥) → filled (chars bs) ≡ Some (chars bs)
 filled-some bs u full = filled-some_next (chars bs) bs (encodes-chars bs u) full

@@ -1,4 +1,4 @@
--- What is found in a layer, and one entry more in it.
+-- Lookups and insertions in a layer.
 use Rattle.std.proofs.Common.{◌≡◌, ℕ, Bool, true, false, List, [], ◌∷◌, ◌++◌, refl, sym, ap, ◌∙◌, subst, Option, Some, None, append_assoc, option_and_then}
 use Rattle.kt_metadata.proofs.Common.{chars, option_map, option_or, IsUtf8, string_bytes, string_eq, String, IsUtf8-string_bytes, Variable, value_of, last_values, overlaid, value_is, same, value_of-append, put, first_value, first-settled, put-settled, settled-put, twice, Given, pair_in, pairs_in, IsRead, AreRead, AreSound, a_pair, value_named}
 use Rattle.std.specs.Str.{bytes_eq}
@@ -7,7 +7,7 @@ use Rattle.indexmap.specs.IndexMap.{insert_entry}
 use Rattle.kt_base.proofs.Texts.{key-chars}
 
 module _ {Z : Type 0} where
-  -- an entry that is inserted
+  -- Inserting an entry puts its pair, and all values are still those of their texts.
   inserted-next : (k : String Z) (v : Given) (e : String Z × Given) (es : List (String Z × Given)) → IsRead (chars (string_bytes k)) v → AreRead (e ∷ es)
       → (pairs_in (insert_entry string_eq es k v) ≡ put (pairs_in es) (pair_in (k, v))) × AreRead (insert_entry string_eq es k v)
       → (b : Bool) → string_eq k e.0 ≡ b → bytes_eq (chars (string_bytes k)) (chars (string_bytes e.0)) ≡ b
@@ -31,7 +31,7 @@ module _ {Z : Type 0} where
       → pairs_in new ≡ last_values (pairs_in es ++ pair_in (k, v) ∷ [])
   inserted-last k v es new is s e = ap pairs_in e ∙ put-settled (pairs_in es) (pairs_in (insert_entry string_eq es k v)) (pair_in (k, v)) s.settled (inserted k v es is s.read).0
 
-  -- an entry that is looked up
+  -- The entry that is found has the first value of its name.
   found-next : (q : List ℕ) (e : String Z × Given) (es : List (String Z × Given)) → AreRead (e ∷ es)
       → (option_map (λ it. it.text) (lookup (λ k. bytes_eq q (string_bytes k)) es) ≡ first_value (chars q) (pairs_in es))
       × (option_map (λ it. it.value) (lookup (λ k. bytes_eq q (string_bytes k)) es) ≡ option_and_then (value_named (chars q)) (first_value (chars q) (pairs_in es)))
@@ -56,16 +56,16 @@ module _ {Z : Type 0} where
       → option_map (λ it. it.value) (lookup (λ k. bytes_eq q (string_bytes k)) es) ≡ option_and_then (value_named (chars q)) (value_of (chars q) (pairs_in es))
   value-found q u es s = (found q u es s.read).1 ∙ ap (option_and_then (value_named (chars q))) (first-settled (chars q) (pairs_in es) s.settled)
 
--- only the last values of what lies under count
+-- Only the last values below another layer count.
 pub overlaid-under : (under over : List Variable) → last_values (last_values under ++ over) ≡ last_values (under ++ over)
 overlaid-under under over =
     sym (overlaid (last_values under) over) ∙ ap (λ (vs : List Variable). last_values (vs ++ last_values over)) (twice under) ∙ overlaid under over
 
--- and of what lies over it
+-- Only the last values of the upper layer count.
 pub overlaid-over : (under over : List Variable) → last_values (under ++ last_values over) ≡ last_values (under ++ over)
 overlaid-over under over = sym (overlaid-under under (last_values over)) ∙ overlaid under over
 
--- a name's last text, which is given over or beneath
+-- The text of a name is its text in the upper layer, or else in the lower layer.
 layered : (name : List ℕ) (under own all : List Variable) → last_values (under ++ own) ≡ all → value_of name all ≡ option_or (value_of name own) (value_of name under)
 layered name under own all e = ap (value_of name) (sym e) ∙ value_is name (under ++ own) ∙ value_of-append name under own
 
@@ -75,7 +75,7 @@ given-over name under own all text e f = sym f ∙ sym (layered name under own a
 pub given-beneath : (name : List ℕ) (under own all : List Variable) → last_values (under ++ own) ≡ all → None ≡ value_of name own → value_of name under ≡ value_of name all
 given-beneath name under own all e f = sym (layered name under own all e ∙ ap (λ (o : Option (List ℕ)). option_or o (value_of name under)) (sym f))
 
--- the first of some entries is taken over, and then the others
+-- Setting the first of the remaining entries leaves the final values unchanged.
 pub next-entry : {Z : Type 0} (old new : List Variable) (bytes : List ℕ) (copy : Given) (key : String Z) (it : Given) (rest after : List (String Z × Given)) {all : List Variable}
     → bytes ≡ string_bytes key → copy ≡ it → new ≡ last_values (old ++ a_pair (chars bytes) copy.text ∷ []) → rest ≡ (key, it) ∷ after
     → last_values (old ++ pairs_in rest) ≡ all → last_values (new ++ pairs_in after) ≡ all
@@ -86,7 +86,7 @@ next-entry {Z} old new bytes copy key it rest after k v n parts so_far =
     ∙ overlaid-under (old ++ pair_in (key, it) ∷ []) (pairs_in after) ∙ ap last_values (append_assoc old (pair_in (key, it) ∷ []) (pairs_in after))
     ∙ ap (λ (es : List (String Z × Given)). last_values (old ++ pairs_in es)) (sym parts) ∙ so_far
 
--- one definition more, over what lies beneath
+-- A definition in the upper layer is the last definition of all.
 pub set-last : (under own new all definitions : List Variable) (given due : Variable) → given ≡ due → new ≡ last_values (own ++ given ∷ []) → last_values (under ++ own) ≡ all → all ≡ last_values definitions
     → last_values (under ++ new) ≡ last_values (definitions ++ due ∷ [])
 set-last under own new all definitions given due same n view last =
@@ -94,24 +94,24 @@ set-last under own new all definitions given due same n view last =
     ∙ ap last_values (sym (append_assoc under own (due ∷ []))) ∙ sym (overlaid-under (under ++ own) (due ∷ []))
     ∙ ap (λ (vs : List Variable). last_values (vs ++ due ∷ [])) (view ∙ last) ∙ overlaid-under definitions (due ∷ [])
 
--- each name has one value
+-- Each name has one value.
 pub once : (under own all : List Variable) → last_values (under ++ own) ≡ all → all ≡ last_values all
 once under own all e = sym e ∙ sym (twice (under ++ own)) ∙ ap last_values e
 
--- all properties, over what a layer was given before
+-- Setting a program's properties and then a case's is setting all properties.
 pub laid-over : (old program own mid new all : List Variable) → last_values (program ++ own) ≡ all → mid ≡ last_values (old ++ program) → new ≡ last_values (mid ++ own) → new ≡ last_values (old ++ all)
 laid-over old program own mid new all view m n =
     n ∙ ap (λ (vs : List Variable). last_values (vs ++ own)) m ∙ overlaid-under (old ++ program) own ∙ ap last_values (append_assoc old program own) ∙ sym (overlaid-over old (program ++ own))
     ∙ ap (λ (vs : List Variable). last_values (old ++ vs)) view
 
--- a case's properties over those of its program
+-- A case's properties over the upper layer of its program are over all properties of the program.
 pub case-over : (beneath own first second program case : List Variable) → last_values (beneath ++ own) ≡ program → first ≡ last_values own → second ≡ last_values (first ++ case)
     → last_values (beneath ++ second) ≡ last_values (program ++ case)
 case-over beneath own first second program case view f s =
     ap (λ (vs : List Variable). last_values (beneath ++ vs)) s ∙ overlaid-over beneath (first ++ case) ∙ ap last_values (sym (append_assoc beneath first case)) ∙ sym (overlaid-under (beneath ++ first) case)
     ∙ ap (λ (ps : List Variable). last_values (ps ++ case)) (ap (λ (vs : List Variable). last_values (beneath ++ vs)) f ∙ overlaid-over beneath own ∙ view)
 
--- and their definitions
+-- Properties over properties are the last values of both lists of definitions.
 pub definitions-over : (program case under over : List Variable) → program ≡ last_values under → case ≡ last_values over → last_values (program ++ case) ≡ last_values (under ++ over)
 definitions-over program case under over u o =
     ap (λ (ps : List Variable). last_values (ps ++ case)) u ∙ ap (λ (cs : List Variable). last_values (last_values under ++ cs)) o ∙ overlaid under over

@@ -1,14 +1,14 @@
--- The words of a reason.
+-- The text of a reason.
 use Rattle.std.proofs.Common.{◌≡◌, ℕ, Bool, false, List, ◌++◌, sym, ap, ◌∙◌, Option, Some, codes}
 use Rattle.kt_metadata.proofs.Common.{around, is_allowed, listed_row}
 use Rattle.kt_base.specs.declared.verdict.Reason.{Reason}
 use Rattle.kt_base.specs.Reasons.{reason_text}
 
--- a word that is found stands in the reason
+-- The element that is found is in the reason.
 pub around_found : (front back word text : List ℕ) (found : Option (List ℕ)) → found ≡ Some word → text ≡ front ++ (word ++ back) → Some text ≡ around front back found
 around_found front back word text found e f = ap (λ (t : List ℕ). Some t) f ∙ sym (ap (around front back) e)
 
--- a word that isn't listed stands in the reason
+-- The element that isn't listed is in the reason.
 pub unlisted_told : (front word : List ℕ) (reason : Reason) (listed : List (List ℕ)) (found : Bool) → found ≡ is_allowed listed word → found ≡ false
     → reason_text reason ≡ front ++ (word ++ codes "' not supported") → Some (reason_text reason) ≡ listed_row front listed word
 unlisted_told front word reason listed found f off t =

@@ -1,4 +1,4 @@
--- The timeout of a case lies between the least and the longest.
+-- The timeout of a case is 1 to 1,000,000 seconds.
 use Rattle.std.proofs.Common.{◌≡◌, ℕ, Bool, true, false, List, [], ◌∷◌, ◌≤◌, arith, refl, Option, Some, None, codes, nat_le, if◌then◌else◌, ◌==◌}
 use Rattle.kt_metadata.proofs.Common.{option_map, utf8, given, timeout_in}
 use Rattle.std.proofs.lemmas.Bool.Decides.{nat_tests}

@@ -1,27 +1,27 @@
--- How words end.
+-- The ends of elements.
 use Rattle.std.proofs.Common.{◌≡◌, ℕ, true, false, List, [], ◌∷◌, ◌++◌, refl, sym, ◌∙◌}
 use Rattle.kt_metadata.proofs.Common.{is_space, ended, words_from}
 use Rattle.kt_base.specs.Texts.{is_empty}
 
--- an empty word doesn't count
+-- An empty element isn't appended.
 pub nothing : (word : List ℕ) → is_empty word ≡ true → ended word [] ≡ []
 nothing [] e = refl
 nothing (c ∷ cs) e = absurd (cc)
 
--- another one does
+-- An element with a character is appended.
 pub something : (word : List ℕ) → is_empty word ≡ false → ended word [] ≡ word ∷ []
 something [] e = absurd (cc)
 something (c ∷ cs) e = refl
 
--- what follows an ended word
+-- The elements after an ended element are appended to it.
 ended-then : (word : List ℕ) (more : List (List ℕ)) → ended word more ≡ ended word [] ++ more
 ended-then [] more = refl
 ended-then (c ∷ cs) more = refl
 
--- at white space the word is over
+-- White space ends the element.
 pub at-space : (word rest : List ℕ) (c : ℕ) → is_space c ≡ true → ended word [] ++ words_from [] rest ≡ words_from word (c ∷ rest)
 at-space word rest c space = sym (ended-then word (words_from [] rest)) ∙ sym (rw space refl)
 
--- elsewhere it goes on
+-- Any other character is appended to the element.
 pub in-word : (word rest : List ℕ) (c : ℕ) → is_space c ≡ false → words_from (word ++ c ∷ []) rest ≡ words_from word (c ∷ rest)
 in-word word rest c other = sym (rw other refl)

@@ -9,43 +9,44 @@ use Rattle.kt_metadata.specs.declared.value.Value.TheVariants.{Words, Truth, Siz
 use Rattle.kt_metadata.specs.declared.meta.Meta.{Meta}
 use Rattle.kt_metadata.specs.Properties.{value_named}
 
--- the text of a name by its last definition
+-- `texts_of definitions name`: the text of the last definition of `name`.
 abbrev pub texts_of : List Variable → List ℕ → Option (List ℕ)
 texts_of definitions name = value_of name definitions
 
--- the value of a name whose texts are these
+-- `given texts name`: the value of the property `name` by its text in `texts`.
 abbrev pub given : (List ℕ → Option (List ℕ)) → List ℕ → Option Value
 given texts name = option_and_then (value_named name) (texts name)
 
--- no words by default
+-- `words_in value`: the elements of `value`, or none.
 abbrev pub words_in : Option Value → List (List ℕ)
 words_in (Some (Words found)) = found
 words_in other = []
 
--- false by default
+-- `truth_in value`: the truth value of `value`, or false.
 abbrev pub truth_in : Option Value → Bool
 truth_in (Some (Truth b)) = b
 truth_in other = false
 
--- 0 by default
+-- `size_in value`: the size of `value` in bytes, or 0.
 abbrev pub size_in : Option Value → ℕ
 size_in (Some (Size bytes)) = bytes
 size_in other = 0
 
--- any user by default
+-- `user_in value`: the required user of `value`, or any user.
 abbrev pub user_in : Option Value → User
 user_in (Some (OfUser user)) = user
 user_in other = Any
 
--- the timeout of a case that declares none, in seconds
+-- `default_timeout`: the timeout of a case without a `timeout` property, in seconds.
 abbrev pub default_timeout : ℕ
 default_timeout = 300
 
+-- `timeout_in value`: the timeout of `value` in seconds, or the default.
 abbrev pub timeout_in : Option Value → ℕ
 timeout_in (Some (Timeout seconds)) = seconds
 timeout_in other = default_timeout
 
--- each property by the value of its name, else by its default
+-- `meta_of texts`: each property by its value in `texts`, or else by its default.
 abbrev pub meta_of : (List ℕ → Option (List ℕ)) → Meta
 meta_of texts = record {
   allowed_architectures = words_in (given texts (codes "allowed_architectures"));
@@ -62,6 +63,6 @@ meta_of texts = record {
   timeout = timeout_in (given texts (codes "timeout"));
 }
 
--- each property by its last definition, else by its default
+-- `effective definitions`: each property by its last definition, or else by its default.
 abbrev pub effective : List Variable → Meta
 effective definitions = meta_of (texts_of definitions)

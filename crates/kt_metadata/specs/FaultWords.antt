@@ -1,9 +1,9 @@
--- The words of a fault.
+-- The messages of the errors.
 use Rattle.std.specs.Prelude.{ℕ, List, codes}
 use Rattle.kt_metadata.specs.declared.fault.PropFault.{PropFault}
 use Rattle.kt_metadata.specs.declared.fault.PropFault.TheVariants.{NoMemory, UnknownProperty, BadValue}
 
--- why a property was refused
+-- `prop_words fault`: the message of `fault`.
 abbrev pub prop_words : PropFault → List ℕ
 prop_words (NoMemory refusal) = codes "out of memory"
 prop_words UnknownProperty = codes "unknown property"

@@ -4,15 +4,16 @@ use Rattle.std.specs.List.{find}
 use Rattle.std.specs.Option.{option_map, option_or}
 use Rattle.kt_metadata.specs.Properties.{Row, table, own_part}
 
--- a key stands for the property of this name: by the table, or as `X-NAME` for `custom.NAME`
+-- `StandsFor key name`: `key` represents the property `name`, by the table or as `X-NAME` for
+-- `custom.NAME`.
 pub data StandsFor : List ℕ → List ℕ → Type 0 where
   listed : (place : ℕ) (r : Row) → slice_get table place ≡ Some r → StandsFor r.key r.name
   custom : (c : ℕ) (cs : List ℕ) → StandsFor (codes "X-" ++ (c ∷ cs)) (codes "custom." ++ (c ∷ cs))
 
--- a row has this key
+-- `has_key key r`: the row `r` has the key `key`.
 abbrev pub has_key : List ℕ → Row → Bool
 has_key key r = bytes_eq key r.key
 
--- the name of the property that a key stands for
+-- `name_of_key key`: the name of the property that `key` represents, if there is one.
 abbrev pub name_of_key : List ℕ → Option (List ℕ)
 name_of_key key = option_or (option_map (λ r. r.name) (find (has_key key) table)) (option_map (λ part. codes "custom." ++ part) (own_part (codes "X-") key))

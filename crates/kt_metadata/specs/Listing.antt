@@ -14,28 +14,28 @@ use Rattle.kt_metadata.specs.declared.value.Value.TheVariants as value
 use Rattle.kt_metadata.specs.Properties.{Row, table, is_custom}
 use Rattle.kt_metadata.specs.Effective.{texts_of, given, default_timeout}
 
--- words, each after a space
+-- `spaced words`: the elements `words`, each after a space.
 abbrev pub spaced : List (List ℕ) → List ℕ
 spaced [] = []
 spaced (word ∷ words) = 32 ∷ (word ++ spaced words)
 
--- words, joined by one space
+-- `joined words`: the elements `words`, joined by one space.
 abbrev pub joined : List (List ℕ) → List ℕ
 joined [] = []
 joined (word ∷ words) = word ++ spaced words
 
--- a truth value
+-- `truth_text value`: the text of a truth value in a listing.
 abbrev pub truth_text : Bool → List ℕ
 truth_text true = codes "true"
 truth_text false = codes "false"
 
--- the user that a case asks for
+-- `user_text user`: the text of a required user in a listing.
 abbrev pub user_text : User → List ℕ
 user_text Any = []
 user_text Root = codes "root"
 user_text Unprivileged = codes "unprivileged"
 
--- a value, which was given as this text
+-- `shown value text`: the text of `value` in a listing, if the value was parsed from `text`.
 abbrev pub shown : Value → List ℕ → List ℕ
 shown (value.Words words) text = joined words
 shown value.Text text = text
@@ -44,7 +44,7 @@ shown (value.Size bytes) text = decimal bytes
 shown (value.User user) text = user_text user
 shown (value.Timeout seconds) text = decimal seconds
 
--- the value of a property that isn't given
+-- `default_value form`: the value of a property with this form that isn't set.
 abbrev pub default_value : Form → Value
 default_value form.Words = value.Words []
 default_value form.Files = value.Words []
@@ -55,30 +55,33 @@ default_value form.Size = value.Size 0
 default_value form.User = value.User Any
 default_value form.Timeout = value.Timeout default_timeout
 
--- the value of a property, which is given or its default
+-- `shown_text texts r`: the text of the property of row `r` in a listing: its value in `texts`, or
+-- else its default.
 abbrev pub shown_text : (List ℕ → Option (List ℕ)) → Row → List ℕ
 shown_text texts r = shown (unwrap_or (given texts r.name) (default_value r.form)) (unwrap_or (texts r.name) [])
 
--- a property with its value
+-- `shown_pair texts r`: the property of row `r` with its text in a listing.
 abbrev pub shown_pair : (List ℕ → Option (List ℕ)) → Row → Variable
 shown_pair texts r = record { name = r.name; value = shown_text texts r }
 
--- a pair whose value isn't empty
+-- `is_valued pair`: the value of `pair` isn't empty.
 abbrev pub is_valued : Variable → Bool
 is_valued pair = not (is_empty pair.value)
 
--- a pair of a custom property
+-- `is_custom_pair pair`: `pair` is of a custom property.
 abbrev pub is_custom_pair : Variable → Bool
 is_custom_pair pair = is_custom pair.name
 
--- these properties in their order, without those whose values are empty
+-- `shown_pairs texts rows`: the properties of `rows` with their texts in order, without empty
+-- texts.
 abbrev pub shown_pairs : (List ℕ → Option (List ℕ)) → List Row → List Variable
 shown_pairs texts rows = filter is_valued (map (shown_pair texts) rows)
 
--- the custom ones among these pairs in their order, without those whose values are empty
+-- `custom_pairs pairs`: the custom properties among `pairs` in order, without empty texts.
 abbrev pub custom_pairs : List Variable → List Variable
 custom_pairs pairs = filter is_valued (filter is_custom_pair pairs)
 
--- the effective properties in the order of the table, then the custom ones in the order of their definitions
+-- `listing definitions`: the effective properties in the order of the table, then the custom
+-- properties in the order of their first definitions.
 abbrev pub listing : List Variable → List Variable
 listing definitions = shown_pairs (texts_of definitions) table ++ custom_pairs (last_values definitions)

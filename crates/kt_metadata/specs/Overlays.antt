@@ -1,7 +1,7 @@
--- Definitions over others.
+-- Pairs of names and values.
 use Rattle.std.specs.Prelude.{ℕ, List}
 use Rattle.kt_base.specs.declared.variable.Variable.{Variable}
 
--- a name with a value
+-- `a_pair name value`: the pair of `name` and `value`.
 abbrev pub a_pair : List ℕ → List ℕ → Variable
 a_pair name value = record { name = name; value = value }

@@ -1,4 +1,4 @@
--- The table of properties, and how their values are read.
+-- The table of properties and the values of their texts.
 use Rattle.std.specs.Prelude.{ℕ, Bool, not, ◌==◌, ◌&&◌, bytes_eq, codes, List, [], ◌∷◌, Option, Some, None, is_some, option_and_then, if◌then◌else◌, Result, Ok, Err}
 use Rattle.std.specs.List.{find, list_any}
 use Rattle.std.specs.Option.{option_map}
@@ -11,16 +11,18 @@ use Rattle.kt_metadata.specs.declared.fault.PropFault.TheVariants.{NoMemory, Unk
 use Rattle.kt_metadata.specs.Words.{words}
 use Rattle.kt_metadata.specs.Values.{truth_of, user_of, size_of, timeout_of, is_no_file, is_no_program}
 
--- a property with one name: the name, its key in lists of ATF cases, and the form of its values
+-- `Row`: a property with a fixed name: the name, the key in lists of ATF cases, and the form of the
+-- values.
 pub record Row : Type 0 where
   pub name : List ℕ
   pub key : List ℕ
   pub form : Form
 
+-- `row name key f`: the row of these three values.
 abbrev row : List ℕ → List ℕ → Form → Row
 row name key f = record { name = name; key = key; form = f }
 
--- the properties with one name, in the order in which they are listed
+-- `table`: the properties with fixed names, in the order of a listing.
 abbrev pub table : List Row
 table =
     row (codes "allowed_architectures") (codes "require.arch") form.Words
@@ -36,42 +38,46 @@ table =
     ∷ row (codes "required_user") (codes "require.user") form.User
     ∷ row (codes "timeout") (codes "timeout") form.Timeout ∷ []
 
--- at least one character
+-- `filled text`: `text`, if it has at least one character.
 abbrev pub filled : List ℕ → Option (List ℕ)
 filled [] = None
 filled (c ∷ cs) = Some (c ∷ cs)
 
--- what follows a front in a text that begins with it
+-- `after_front front text`: the rest of `text` after the prefix `front`, if `text` begins with
+-- `front`.
 abbrev pub after_front : List ℕ → List ℕ → Option (List ℕ)
 after_front [] text = Some text
 after_front (c ∷ front) [] = None
 after_front (c ∷ front) (d ∷ text) = if c == d then after_front front text else None
 
--- the same in a text that goes on after the front
+-- `own_part front text`: the rest of `text` after the prefix `front`, if `text` begins with `front`
+-- and goes on.
 abbrev pub own_part : List ℕ → List ℕ → Option (List ℕ)
 own_part front text = option_and_then filled (after_front front text)
 
--- a name is that of a custom property
+-- `is_custom name`: `name` is the name of a custom property.
 abbrev pub is_custom : List ℕ → Bool
 is_custom name = is_some (own_part (codes "custom.") name)
 
--- a row has this name
+-- `has_name name r`: the row `r` has the name `name`.
 abbrev pub has_name : List ℕ → Row → Bool
 has_name name r = bytes_eq name r.name
 
--- the form of a name's values: any text for a custom property, else that of the table
+-- `form_named name`: the form of the values of the property `name`: any text for a custom property,
+-- else the form in the table.
 abbrev pub form_named : List ℕ → Option Form
 form_named name = if is_custom name then Some form.Text else option_map (λ r. r.form) (find (has_name name) table)
 
--- a Kyuafile may set this property: each but `has_cleanup`, which belongs to a list of ATF cases
+-- `is_kyuafile_property name`: a Kyuafile may set the property `name`: each but `has_cleanup`,
+-- which belongs to a list of ATF cases.
 abbrev pub is_kyuafile_property : List ℕ → Bool
 is_kyuafile_property name = not (bytes_eq name (codes "has_cleanup")) && is_some (form_named name)
 
--- words among which none is of the wrong kind
+-- `words_but is_wrong found`: the value of the elements `found`, if none of them is wrong.
 abbrev pub words_but : (List ℕ → Bool) → List (List ℕ) → Option Value
 words_but is_wrong found = if list_any is_wrong found then None else Some (value.Words found)
 
--- a text as a value of a form
+-- `value_in form text`: the value of `form` that `text` represents, if there is one.
 abbrev pub value_in : Form → List ℕ → Option Value
 value_in form.Words text = Some (value.Words (words text))
 value_in form.Files text = words_but is_no_file (words text)
@@ -82,20 +88,23 @@ value_in form.Size text = option_map (λ n. value.Size n) (size_of text)
 value_in form.User text = option_map (λ u. value.User u) (user_of text)
 value_in form.Timeout text = option_map (λ n. value.Timeout n) (timeout_of text)
 
--- a text as a value of the property of a name
+-- `value_named name text`: the value of the property `name` that `text` represents, if there is
+-- one.
 abbrev pub value_named : List ℕ → List ℕ → Option Value
 value_named name text = option_and_then (λ f. value_in f text) (form_named name)
 
--- why a value of this form is refused
+-- `value_fault form text`: the error if a property with values of `form` is set to `text`. Without
+-- a form, the property is unknown.
 abbrev pub value_fault : Option Form → List ℕ → Option PropFault
 value_fault None text = Some UnknownProperty
 value_fault (Some f) text = if is_some (value_in f text) then None else Some BadValue
 
--- why a definition is refused: an unknown name before a bad value
+-- `definition_fault name text`: the error if the property `name` is set to `text`: an unknown name
+-- comes before a bad value.
 abbrev pub definition_fault : List ℕ → List ℕ → Option PropFault
 definition_fault name text = value_fault (form_named name) text
 
--- what holds of a refusal for another reason than memory
+-- `IfFault result P`: if `result` is an error other than `NoMemory`, `P` holds of the error.
 abbrev pub IfFault : {T : Type 0} → Result T PropFault → (PropFault → Type 0) → Type 0
 IfFault (Ok x) P = Unit {0}
 IfFault (Err (NoMemory refusal)) P = Unit {0}

@@ -1,4 +1,4 @@
--- Truth values, users, sizes, timeouts and paths, as they are written.
+-- The texts of truth values, users, sizes, timeouts and paths.
 use Rattle.std.specs.Prelude.{ℕ, ◌*◌, ◌^◌, ◌==◌, ◌||◌, Bool, true, false, not, nat_le, codes, List, [], ◌∷◌, take, drop, Option, Some, None, if◌then◌else◌}
 use Rattle.std.specs.List.{list_any, prefix_len}
 use Rattle.kt_base.specs.Characters.{is_slash, is_absolute}
@@ -9,79 +9,82 @@ use Rattle.kt_base.specs.Utf8.{utf8}
 use Rattle.kt_metadata.specs.declared.value.User.{User}
 use Rattle.kt_metadata.specs.declared.value.User.TheVariants.{Any, Root, Unprivileged}
 
--- the words of truth values
+-- `truths`: the texts of truth values.
 abbrev pub truths : List (List ℕ × Bool)
 truths = (codes "true", true) ∷ (codes "yes", true) ∷ (codes "false", false) ∷ (codes "no", false) ∷ []
 
--- a truth value
+-- `truth_of text`: the truth value that `text` represents, if there is one.
 abbrev pub truth_of : List ℕ → Option Bool
 truth_of text = named truths text
 
--- the users that a case may ask for
+-- `users`: the texts of required users.
 abbrev pub users : List (List ℕ × User)
 users = ([], Any) ∷ (codes "root", Root) ∷ (codes "unprivileged", Unprivileged) ∷ []
 
--- the user that a case asks for
+-- `user_of text`: the required user that `text` represents, if there is one.
 abbrev pub user_of : List ℕ → Option User
 user_of text = named users text
 
--- the number of one or more digits
+-- `number_of digits`: the number of one or more digits, if it is below 2^64.
 abbrev pub number_of : List ℕ → Option ℕ
 number_of [] = None
 number_of (c ∷ cs) = fits (decimal_from 0 (c ∷ cs))
 
--- the digits at the front of a text
+-- `digits_of text`: the digits at the beginning of `text`.
 abbrev pub digits_of : List ℕ → List ℕ
 digits_of text = take (prefix_len is_digit text) text
 
--- what follows them
+-- `after_digits text`: the rest of `text` after the digits at its beginning.
 abbrev pub after_digits : List ℕ → List ℕ
 after_digits text = drop (prefix_len is_digit text) text
 
--- the factor of K, M, G and T, in either case
+-- `unit_of c`: the factor of the unit `c`: K, M, G or T, in either case.
 abbrev pub unit_of : ℕ → Option ℕ
 unit_of c =
     if c == 75 || c == 107 then Some 1024 else if c == 77 || c == 109 then Some (1024 ^ 2)
     else if c == 71 || c == 103 then Some (1024 ^ 3) else if c == 84 || c == 116 then Some (1024 ^ 4) else None
 
--- the factor after the digits of a size: 1, or that of a single letter
+-- `factor_of rest`: the factor after the digits of a size: 1 if `rest` is empty, or the factor of a
+-- single unit.
 abbrev pub factor_of : List ℕ → Option ℕ
 factor_of [] = Some 1
 factor_of (c ∷ []) = unit_of c
 factor_of (c ∷ d ∷ cs) = None
 
--- a number times a factor
+-- `scaled number factor`: the product, if it is below 2^64.
 abbrev pub scaled : Option ℕ → Option ℕ → Option ℕ
 scaled None factor = None
 scaled (Some v) None = None
 scaled (Some v) (Some factor) = fits (v * factor)
 
--- the size in bytes that digits and a unit give
+-- `size_in bytes`: the size in bytes that digits and a unit represent, if there is one.
 abbrev pub size_in : List ℕ → Option ℕ
 size_in bytes = scaled (number_of (digits_of bytes)) (factor_of (after_digits bytes))
 
--- the size that a text gives
+-- `size_of text`: the size in bytes that `text` represents, if there is one.
 abbrev pub size_of : List ℕ → Option ℕ
 size_of text = size_in (utf8 text)
 
--- a number with nothing after it as a timeout in seconds; 0 stands for the longest
+-- `limited number rest`: the timeout of `number` in seconds, if `rest` is empty; 0 is the longest
+-- timeout.
 abbrev pub limited : Option ℕ → List ℕ → Option ℕ
 limited (Some v) [] = if v == 0 then Some longest_timeout else if nat_le v longest_timeout then Some v else None
 limited (Some v) (c ∷ cs) = None
 limited None rest = None
 
--- the timeout in seconds that digits give
+-- `timeout_in bytes`: the timeout in seconds that digits represent, if there is one.
 abbrev pub timeout_in : List ℕ → Option ℕ
 timeout_in bytes = limited (number_of (digits_of bytes)) (after_digits bytes)
 
--- the timeout that a text gives
+-- `timeout_of text`: the timeout in seconds that `text` represents, if there is one.
 abbrev pub timeout_of : List ℕ → Option ℕ
 timeout_of text = timeout_in (utf8 text)
 
--- a word that can't name a required file: it isn't absolute
+-- `is_no_file word`: `word` isn't absolute, so it can't name a required file.
 abbrev pub is_no_file : List ℕ → Bool
 is_no_file word = not (is_absolute word)
 
--- a word that can't name a required program: a relative path with a slash
+-- `is_no_program word`: `word` is a relative path with a slash, so it can't name a required
+-- program.
 abbrev pub is_no_program : List ℕ → Bool
 is_no_program word = if is_absolute word then false else list_any is_slash word

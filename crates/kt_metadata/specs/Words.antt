@@ -1,19 +1,20 @@
--- The words of a value.
+-- The elements of a value, which are separated by white space.
 use Rattle.std.specs.Prelude.{◌≡◌, ℕ, Bool, true, false, not, List, [], ◌∷◌, ◌++◌, if◌then◌else◌}
 use Rattle.std.specs.List.{list_any}
 use Rattle.kt_base.specs.Characters.{is_space}
 
--- a word has at least one character, and none of them is white space
+-- `is_word word`: `word` has at least one character, and none is white space.
 abbrev pub is_word : List ℕ → Bool
 is_word [] = false
 is_word (c ∷ cs) = not (list_any is_space (c ∷ cs))
 
--- a text is over, or goes on with white space
+-- `IsBreak text`: `text` is empty or begins with white space.
 abbrev pub IsBreak : List ℕ → Type 0
 IsBreak [] = Unit {0}
 IsBreak (c ∷ cs) = is_space c ≡ true
 
--- the words of a text, in its order: each ends before white space or at the end of the text
+-- `AreWords text found`: `found` has the elements of `text` in order. Each element ends at white
+-- space or at the end of `text`.
 pub data AreWords : List ℕ → List (List ℕ) → Type 0 where
   over : AreWords [] []
   blank : (c : ℕ) (text : List ℕ) (found : List (List ℕ)) → is_space c ≡ true → AreWords text found
@@ -21,16 +22,16 @@ pub data AreWords : List ℕ → List (List ℕ) → Type 0 where
   one : (first text : List ℕ) (found : List (List ℕ)) → is_word first ≡ true → IsBreak text → AreWords text found
       → AreWords (first ++ text) (first ∷ found)
 
--- the words, with the word that is over, if it has a character
+-- `ended word found`: `word` followed by `found`, or only `found` if `word` is empty.
 abbrev pub ended : List ℕ → List (List ℕ) → List (List ℕ)
 ended [] found = found
 ended (c ∷ cs) found = (c ∷ cs) ∷ found
 
--- the words of a text whose first word has begun with these characters
+-- `words_from word text`: the elements of the text `word ++ text`, where `word` has no white space.
 abbrev pub words_from : List ℕ → List ℕ → List (List ℕ)
 words_from word [] = ended word []
 words_from word (c ∷ cs) = if is_space c then ended word (words_from [] cs) else words_from (word ++ c ∷ []) cs
 
--- the words of a text
+-- `words text`: the elements of `text`.
 abbrev pub words : List ℕ → List (List ℕ)
 words text = words_from [] text

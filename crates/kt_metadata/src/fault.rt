@@ -4,10 +4,11 @@ ghost use Rattle.kt_metadata.specs.declared.fault.PropFault.TheVariants as prop;
 use kt_base::{NoMemory, OUT_OF_MEMORY};
 use thiserror::Error;
 
-/// Why a property was refused.
+/// Errors returned by [`Props::set`](crate::Props::set).
 #[derive(Clone, Copy, Debug, Error)]
 #[error("{}", self.words())]
 pub enum PropFault {
+    /// An allocation failed.
     NoMemory(NoMemory),
     /// No property has this name.
     UnknownProperty,
@@ -18,7 +19,7 @@ pub enum PropFault {
 impl PropFault {
     ghost use Rattle.kt_metadata.specs.FaultWords.{prop_words};
 
-    /// The words of the fault, which `Display` prints.
+    /// Returns the message of the error, which `Display` prints.
     pub fn words(&self) -> &'static str
         ensures { result.now ≡ prop_words self.now }
     {

@@ -8,24 +8,31 @@ use crate::values::{has_no_file, has_no_program, size, timeout, truth, user, wor
 use kt_base::{Items, NoMemory, Text};
 use std::alloc::Global;
 
-/// How the values of a property are written.
+/// A form of property values, which decides how a text is parsed.
 #[derive(Clone, Copy)]
 pub enum Form {
+    /// Elements that are separated by white space.
     Words,
-    /// Words that are absolute paths.
+    /// Elements that are absolute paths.
     Files,
-    /// Words that are absolute paths, or names that are looked up in `PATH`.
+    /// Elements that are absolute paths, or names without a slash that are looked up in `PATH`.
     Programs,
+    /// Any text.
     Text,
+    /// A truth value: `true`, `yes`, `false` or `no`.
     Truth,
+    /// A size in bytes: digits, and at most one of the units K, M, G and T.
     Size,
+    /// A required user: an empty text, `root` or `unprivileged`.
     User,
+    /// A timeout: 0 to 1,000,000 seconds.
     Timeout,
 }
 
-/// The timeout of a case that declares none, in seconds.
+/// The timeout of a case without a `timeout` property, in seconds.
 pub const DEFAULT_TIMEOUT: u32 = 300;
 
+/// Returns the value of `words`, or `None` if `wrong` is `true`.
 fn unless(wrong: bool, words: Items<Text>) -> Option<Value>
     ensures { result ≡ (if wrong then None else Some (Value.Words words)) }
 {
@@ -37,7 +44,7 @@ fn unless(wrong: bool, words: Items<Text>) -> Option<Value>
 }
 
 impl Form {
-    /// A text as a value of this form, if it is one.
+    /// Parses `text` as a value of this form, or returns `None` if `text` isn't such a value.
     pub fn read(self, alloc: Global, text: &Text) -> Result<Option<Value>, NoMemory>
         ensures { IfOk result (λ value. value ≡ value_in self text.now) }
     {
@@ -59,7 +66,9 @@ impl Form {
         }
     }
 
-    /// The value of a property that isn't given. It takes no memory.
+    /// Returns the value of a property that isn't set.
+    ///
+    /// Allocates nothing.
     pub fn default_value(self, alloc: Global) -> Value
         ensures { result ≡ default_value self }
     {

@@ -5,7 +5,7 @@ use kt_base::{NoMemory, Text};
 use std::alloc::Global;
 use std::collections::BTreeSet;
 
-/// What a case may need to find on the host.
+/// A kind of requirement that is looked up on the host.
 #[derive(Clone, Copy)]
 pub enum Need {
     /// A required file, by its absolute path.
@@ -14,17 +14,18 @@ pub enum Need {
     Program,
 }
 
+/// The kinds of needs, in the order of the lookups.
 const NEEDS: [Need; 2] = [Need::File, Need::Program];
 
 impl Need {
-    /// All needs, in the order in which they are asked for.
+    /// Returns all kinds of needs, in the order of the lookups.
     pub fn all() -> &'static [Need]
         ensures { result.now ≡ all_needs }
     {
         &NEEDS
     }
 
-    /// The beginning of the reason of a need that isn't met (this profile).
+    /// Returns the beginning of the reason for an unmet need (this profile).
     pub(crate) fn text(self) -> &'static str
         ensures { chars result.now ≡ need_text self }
     {
@@ -35,18 +36,21 @@ impl Need {
     }
 }
 
-/// What is known of the host when a run begins.
+/// A description of the host at the start of a run.
 #[derive(Drop)]
 pub struct Host {
-    /// Whether the runner is root.
+    /// `true` if the runner is root.
     pub root: bool,
-    /// The required files that were found, by their absolute paths.
+    /// The required files that were found, as absolute paths.
     files: BTreeSet<String>,
-    /// The required programs that were found, by their absolute paths or in a directory of `PATH`.
+    /// The required programs that were found, as absolute paths or as names in a directory of
+    /// `PATH`.
     programs: BTreeSet<String>,
-    /// Physical memory in bytes; `None` if it isn't known, which is enough.
+    /// The physical memory in bytes, or `None` if it is unknown. An unknown amount meets each
+    /// requirement.
     pub memory: Option<u64>,
-    /// Free disk space in bytes; `None` if it isn't known, which is enough.
+    /// The free disk space in bytes, or `None` if it is unknown. An unknown amount meets each
+    /// requirement.
     pub disk: Option<u64>,
 }
 
@@ -54,7 +58,9 @@ impl Host {
     ghost use Rattle.std.specs.Prelude.{◌≡◌, List, ℕ, OnOk, false};
     ghost use Rattle.kt_metadata.specs.Common.{is_found, IsNoted, Need};
 
-    /// A host on which nothing was found yet.
+    /// Creates a host on which no required file or program was found yet.
+    ///
+    /// Allocates nothing.
     pub fn new(alloc: Global, root: bool, memory: Option<u64>, disk: Option<u64>) -> Host
         ensures root { result.root ≡ root }
         ensures memory { result.memory ≡ memory }
@@ -70,7 +76,11 @@ impl Host {
         }
     }
 
-    /// Notes a required file or program that was found.
+    /// Records that the required file or program `word` was found.
+    ///
+    /// # Errors
+    ///
+    /// - `NoMemory`: an allocation fails.
     pub fn note(&mut self, need: Need, word: &Text) -> Result<(), NoMemory>
         ensures { OnOk result (IsNoted need word.now self.old self.new) }
     {
@@ -87,7 +97,7 @@ impl Host {
         }
     }
 
-    /// Whether a required file or program was found.
+    /// Returns `true` if the required file or program `word` was found.
     pub(crate) fn has(&self, need: Need, word: &Text) -> bool
         ensures { result ≡ is_found need self.now word.now }
     {

@@ -8,8 +8,9 @@ use kt_base::{NoMemory, Text, Variable, Variables};
 use std::alloc::Global;
 use std::marker::Model;
 
-/// What was given to names, in the order of the first definitions. Contracts see the pairs of the
-/// names with their texts, in which each name occurs once.
+/// A map from names to definitions, in the order of the first definitions.
+///
+/// In contracts, it is the list of its names with their texts. Each name occurs once.
 #[derive(Drop)]
 pub struct Layer {
     given: IndexMap<String, Given>,
@@ -28,7 +29,9 @@ impl Model for Layer {
 }
 
 impl Layer {
-    /// An empty layer. Allocates nothing.
+    /// Creates an empty layer.
+    ///
+    /// Allocates nothing.
     pub fn new(alloc: Global) -> Layer
         ensures { result ≡ [] }
     {
@@ -37,7 +40,7 @@ impl Layer {
         }
     }
 
-    /// The allocator that the layer takes its memory from.
+    /// Returns the allocator of the layer.
     pub fn allocator(&self) -> Global
         // Each name occurs once.
         ensures { self.now ≡ last_values self.now }
@@ -45,14 +48,14 @@ impl Layer {
         *self.given.allocator()
     }
 
-    /// Whether nothing was given.
+    /// Returns `true` if the layer has no definition.
     pub fn is_empty(&self) -> bool
         ensures { IsTrue result ↔ (self.now ≡ []) }
     {
         self.given.is_empty()
     }
 
-    /// What was given to a name. It takes constant time.
+    /// Returns the definition of `name`, if the layer has one, in constant time.
     pub fn get(&self, name: &str) -> Option<&Given>
         ensures text { option_map (λ it. it.text) (option_copied result)
             ≡ value_of (chars name.now) self.now }
@@ -62,7 +65,9 @@ impl Layer {
         self.given.get(name)
     }
 
-    /// Gives a name what was read for it, in the place of an earlier one or else at the end.
+    /// Inserts the definition of `name`: in place of an earlier definition, or else at the end.
+    ///
+    /// On failure, the layer is unchanged.
     pub fn put(&mut self, name: &str, given: Given) -> Result<(), NoMemory>
         requires { IsRead (chars name.now) given }
         ensures ok { OnOk result (self.new
@@ -74,7 +79,7 @@ impl Layer {
         Ok(())
     }
 
-    /// Sets every name that another layer sets, to its value.
+    /// Inserts each definition of `more`, in place of an earlier definition of the same name.
     pub fn put_all(&mut self, more: &Layer) -> Result<(), NoMemory>
         ensures { OnOk result (self.new ≡ last_values (self.old ++ more.now)) }
     {
@@ -85,7 +90,7 @@ impl Layer {
         Ok(())
     }
 
-    /// Appends the custom properties that have a value.
+    /// Appends the custom properties with texts that aren't empty to `pairs`.
     pub fn add_custom(&self, pairs: &mut Variables) -> Result<(), NoMemory>
         ensures { OnOk result (pairs.new ≡ pairs.old ++ custom_pairs self.now) }
     {
@@ -97,7 +102,7 @@ impl Layer {
     }
 }
 
-/// Appends a pair, unless its value is empty.
+/// Appends a pair to `pairs`, unless `value` is empty.
 pub fn add(pairs: &mut Variables, name: Text, value: Text) -> Result<(), NoMemory>
     ensures { OnOk result (pairs.new ≡ pairs.old ++ filter is_valued (a_pair name value ∷ [])) }
 {
@@ -107,7 +112,7 @@ pub fn add(pairs: &mut Variables, name: Text, value: Text) -> Result<(), NoMemor
     pairs.push(Variable { name, value })
 }
 
-/// Appends the pair of a custom property, unless its value is empty.
+/// Appends a pair to `pairs` if `name` is the name of a custom property and `value` isn't empty.
 fn add_if_custom(
     alloc: Global,
     pairs: &mut Variables,

@@ -5,6 +5,7 @@ use crate::table::{TABLE, own_part, row_keyed};
 use kt_base::{NoMemory, Text};
 use std::alloc::Global;
 
+/// Returns the name of the custom property `part`: `custom.` and `part`.
 fn custom_name(alloc: Global, part: &str) -> Result<Text, NoMemory>
     ensures { IfOk result (λ name. name ≡ codes "custom." ++ chars part.now) }
 {
@@ -13,6 +14,8 @@ fn custom_name(alloc: Global, part: &str) -> Result<Text, NoMemory>
     Ok(name)
 }
 
+/// Returns the name of the custom property that `key` represents, or `None` if `key` isn't
+/// `X-NAME`.
 fn name_of_custom_key(alloc: Global, key: &Text) -> Result<Option<Text>, NoMemory>
     ensures { IfOk result (λ found. found
         ≡ option_map (λ part. codes "custom." ++ part) (own_part (codes "X-") key.now)) }
@@ -26,6 +29,7 @@ fn name_of_custom_key(alloc: Global, key: &Text) -> Result<Option<Text>, NoMemor
     }
 }
 
+/// Returns the name of the property that `key` represents, or `None` if no property has this key.
 fn name_of_key(alloc: Global, key: &Text) -> Result<Option<Text>, NoMemory>
     ensures { IfOk result (λ found. found ≡ name_of_key key.now) }
 {
@@ -35,14 +39,20 @@ fn name_of_key(alloc: Global, key: &Text) -> Result<Option<Text>, NoMemory>
     }
 }
 
-/// The name of the property that a key in a list of ATF cases stands for, as `Props::set` takes it:
-/// `require.arch` stands for `allowed_architectures`, and `X-NAME` for `custom.NAME`.
+/// Returns the name of the property that `key` represents in a list of ATF cases (this profile).
+///
+/// The key `require.arch` represents `allowed_architectures`, and `X-NAME` represents
+/// `custom.NAME`. The result is `None` if no property has this key.
+///
+/// # Errors
+///
+/// - `NoMemory`: an allocation fails.
 pub fn property_of_key(alloc: Global, key: &Text) -> Result<Option<Text>, NoMemory>
     ensures stands { IfOk result (λ found. IfSome found (λ name. StandsFor key.now name)) }
     ensures only { (name : List ℕ) → StandsFor key.now name
         → IfOk result (λ found. found ≡ Some name) }
 
-    // No name is unknown to `set`.
+    // For a returned name, `Props::set` never fails with `UnknownProperty`.
     ensures known { IfOk result (λ found. IfSome found (λ name. IsSome (form_named name))) }
     ensures value { IfOk result (λ found. found ≡ name_of_key key.now) }
 {

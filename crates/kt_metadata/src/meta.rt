@@ -3,28 +3,35 @@ use crate::value::{Value, copy_of_words};
 use crate::{Need, Props, User};
 use kt_base::{Items, NoMemory, Text};
 
-/// The properties of a case as kyuafile(5) names them, each by its value or its default.
+/// The effective properties of a case (kyuafile(5)): each by its value, or else by its default.
 pub struct Meta {
+    /// The allowed architectures, or none if each is allowed.
     pub allowed_architectures: Items<Text>,
+    /// The allowed platforms, or none if each is allowed.
     pub allowed_platforms: Items<Text>,
+    /// A description for people.
     pub description: Text,
+    /// `true` if the case has a cleanup routine (atf-test-case(4)).
     pub has_cleanup: bool,
+    /// `true` if no other case may run at the same time.
     pub is_exclusive: bool,
+    /// Names of variables that the configuration must define for the test suite.
     pub required_configs: Items<Text>,
-    /// In bytes.
+    /// The required free disk space in bytes.
     pub required_disk_space: u64,
-    /// Absolute paths.
+    /// Absolute paths of required files.
     pub required_files: Items<Text>,
-    /// In bytes.
+    /// The required physical memory in bytes.
     pub required_memory: u64,
-    /// Absolute paths, or names that are looked up in `PATH`.
+    /// Required programs: absolute paths, or names that are looked up in `PATH`.
     pub required_programs: Items<Text>,
+    /// The user that must run the case.
     pub required_user: User,
-    /// In seconds, 1 to 1,000,000.
+    /// The timeout in seconds, 1 to 1,000,000.
     pub timeout: u32,
 }
 
-/// Written out, so that a drop is one call.
+/// Implemented manually, so that the prover takes a drop as one call.
 impl Drop for Meta {
     fn drop(self) {
         let Meta {
@@ -48,7 +55,7 @@ impl Meta {
     ghost use Rattle.std.specs.Prelude.{◌≡◌};
     ghost use Rattle.kt_metadata.specs.Common.{needed};
 
-    /// The words that must be found on the host.
+    /// Returns the required files or programs, which must be found on the host.
     pub fn needed(&self, need: Need) -> &[Text]
         ensures { result.now ≡ needed need self.now }
     {
@@ -63,6 +70,7 @@ impl Props {
     ghost use Rattle.std.specs.Prelude.{◌≡◌, ◌≤◌, [], List, IfOk, chars, unwrap_or};
     ghost use Rattle.kt_metadata.specs.Common.{Variable, last_values, longest_timeout, texts_of, given, words_in, truth_in, size_in, user_in, timeout_in, effective, needed};
 
+    /// Returns the elements of the property `name`, or none if the property isn't set.
     fn listed(&self, name: &str) -> &[Text]
         ensures { result.now ≡ words_in (given (texts_of self.now) (chars name.now)) }
     {
@@ -72,6 +80,7 @@ impl Props {
         }
     }
 
+    /// Copies the elements of the property `name`, which are none if the property isn't set.
     fn words(&self, name: &str) -> Result<Items<Text>, NoMemory>
         ensures { IfOk result (λ found. found
             ≡ words_in (given (texts_of self.now) (chars name.now))) }
@@ -79,6 +88,7 @@ impl Props {
         copy_of_words(self.allocator(), self.listed(name))
     }
 
+    /// Copies the text of the property `name`, which is empty if the property isn't set.
     fn description(&self, name: &str) -> Result<Text, NoMemory>
         ensures { IfOk result (λ text. text ≡ unwrap_or (texts_of self.now (chars name.now)) []) }
     {
@@ -88,6 +98,7 @@ impl Props {
         }
     }
 
+    /// Returns the truth value of the property `name`, or `false` if the property isn't set.
     fn truth(&self, name: &str) -> bool
         ensures { result ≡ truth_in (given (texts_of self.now) (chars name.now)) }
     {
@@ -97,6 +108,7 @@ impl Props {
         }
     }
 
+    /// Returns the size of the property `name` in bytes, or 0 if the property isn't set.
     fn size(&self, name: &str) -> u64
         ensures { result ≡ size_in (given (texts_of self.now) (chars name.now)) }
     {
@@ -106,6 +118,7 @@ impl Props {
         }
     }
 
+    /// Returns the required user of the property `name`, or any user if the property isn't set.
     fn user(&self, name: &str) -> User
         ensures { result ≡ user_in (given (texts_of self.now) (chars name.now)) }
     {
@@ -115,6 +128,8 @@ impl Props {
         }
     }
 
+    /// Returns the timeout of the property `name` in seconds, or the default if the property isn't
+    /// set.
     fn timeout(&self, name: &str) -> u32
         ensures { result ≡ timeout_in (given (texts_of self.now) (chars name.now)) }
     {
@@ -124,7 +139,9 @@ impl Props {
         }
     }
 
-    /// The words that must be found on the host. It takes no memory.
+    /// Returns the required files or programs, which must be found on the host.
+    ///
+    /// Allocates nothing.
     pub fn needed(&self, need: Need) -> &[Text]
         ensures { result.now ≡ needed need (effective self.now) }
     {
@@ -134,7 +151,14 @@ impl Props {
         }
     }
 
-    /// Each property by its value, else by its default. The timeout 0 is the longest.
+    /// Returns the effective properties: each by its last value, or else by its default
+    /// (kyuafile(5)).
+    ///
+    /// The timeout 0 represents the longest timeout, 1,000,000 seconds.
+    ///
+    /// # Errors
+    ///
+    /// - `NoMemory`: an allocation fails.
     pub fn effective(&self) -> Result<Meta, NoMemory>
         ensures value { IfOk result (λ meta. meta ≡ effective self.now) }
         ensures defined { (definitions : List Variable) → self.now ≡ last_values definitions

@@ -11,14 +11,17 @@ use std::alloc::Global;
 use std::marker::Model;
 use std::rc::Rc;
 
-/// Properties with their values as texts. Contracts see the last values of the accepted definitions,
-/// in the order of the first ones. The properties of a case share the memory of its program's.
+/// A set of properties with their values, of a program or a case.
+///
+/// In contracts, it is the list of the last values of the accepted definitions, in the order of the
+/// first ones. An overlay over [`Props::shared`] shares the memory of the program's properties.
 pub struct Props {
     program: Option<Rc<SharedLayer>>,
     own: Layer,
 }
 
-/// Written out so that a drop is one call: what properties own is taken apart here alone.
+/// Implemented manually, so that the prover takes a drop as one call and the fields apart only
+/// here.
 impl Drop for Props {
     fn drop(self) {
         let Props { program, own } = self;
@@ -38,7 +41,7 @@ impl Model for Props {
     ghost view = { λ p. last_values (beneath p.program ++ p.own) };
 }
 
-/// The same layer, if there is one.
+/// Returns another reference to the layer of `program`, if `program` has a layer.
 fn beneath(program: &Option<Rc<SharedLayer>>) -> Result<Option<Rc<SharedLayer>>, NoMemory>
     ensures { IfOk result (λ layer. beneath layer ≡ beneath program.now) }
 {
@@ -49,7 +52,9 @@ fn beneath(program: &Option<Rc<SharedLayer>>) -> Result<Option<Rc<SharedLayer>>,
 }
 
 impl Props {
-    /// No properties, which take no memory.
+    /// Creates an empty set of properties.
+    ///
+    /// Allocates nothing.
     pub fn new(alloc: Global) -> Props
         ensures { result ≡ [] }
     {
@@ -59,7 +64,7 @@ impl Props {
         }
     }
 
-    /// The allocator that the properties take their memory from.
+    /// Returns the allocator of the properties.
     pub(crate) fn allocator(&self) -> Global
         // Each name has one value.
         ensures { self.now ≡ last_values self.now }
@@ -67,7 +72,7 @@ impl Props {
         self.own.allocator()
     }
 
-    /// What was given to a name last, to the case or else to its program.
+    /// Returns the last definition of `name`: the definition of the case, or else of its program.
     pub(crate) fn find(&self, name: &str) -> Option<&Given>
         ensures text { option_map (λ it. it.text) (option_copied result)
             ≡ texts_of self.now (chars name.now) }
@@ -83,7 +88,9 @@ impl Props {
         }
     }
 
-    /// The last value that was given to a name. It takes no memory.
+    /// Returns the last accepted text of the property `key`, or `None` if the property isn't set.
+    ///
+    /// Allocates nothing.
     pub fn get(&self, key: &Text) -> Option<&Text>
         ensures value { (definitions : List Variable) → self.now ≡ last_values definitions
             → option_copied result ≡ value_of key.now definitions }
@@ -91,6 +98,7 @@ impl Props {
         // Each name has one value.
         ensures once { self.now ≡ last_values self.now }
     {
+        // No effect: the prover needs this use to see the fields of `self`.
         let _ = &self.own;
         match self.find(key.as_str()) {
             Some(given) => Some(&given.text),
@@ -98,7 +106,7 @@ impl Props {
         }
     }
 
-    /// The value that was given to a name, as it was read when it was set.
+    /// Returns the parsed value of the property `name`, or `None` if the property isn't set.
     pub(crate) fn value(&self, name: &str) -> Option<&Value>
         ensures { option_copied result ≡ given (texts_of self.now) (chars name.now) }
     {
@@ -108,7 +116,16 @@ impl Props {
         }
     }
 
-    /// Gives a property a value, in the place of an earlier one. A refused call changes nothing.
+    /// Sets the property `key` to `text`, in place of an earlier value.
+    ///
+    /// On failure, the properties are unchanged.
+    ///
+    /// # Errors
+    ///
+    /// - `UnknownProperty`: no property has the name `key`.
+    /// - `BadValue`: a property has the name `key`, but `text` isn't a value of the property
+    ///   (kyuafile(5)).
+    /// - `NoMemory`: an allocation fails.
     pub fn set(&mut self, key: &Text, text: &Text) -> Result<(), PropFault>
         ensures ok { (definitions : List Variable) → self.old ≡ last_values definitions
             → OnOk result (self.new ≡ last_values (definitions ++ a_pair key.now text.now ∷ [])) }
@@ -123,7 +140,7 @@ impl Props {
         Ok(())
     }
 
-    /// Lays all properties over what a layer has.
+    /// Sets each property of `self` in `layer`, in place of earlier values.
     fn lay_over(&self, layer: &mut Layer) -> Result<(), NoMemory>
         ensures { OnOk result (layer.new ≡ last_values (layer.old ++ self.now)) }
     {
@@ -136,7 +153,7 @@ impl Props {
         }
     }
 
-    /// All properties in one layer with memory of its own.
+    /// Copies all properties into one newly allocated layer.
     pub(crate) fn merged(&self) -> Result<Layer, NoMemory>
         ensures { IfOk result (λ layer. layer ≡ self.now) }
     {
@@ -145,7 +162,7 @@ impl Props {
         Ok(layer)
     }
 
-    /// The listing, whose memory each copy shares.
+    /// Returns the listing in memory that copies of it share.
     fn shared_listing(&self) -> Result<Variables, NoMemory>
         ensures { IfOk result (λ pairs. pairs ≡ listing self.now) }
     {
@@ -153,7 +170,7 @@ impl Props {
         pairs.into_shared()
     }
 
-    /// All properties in one layer, with their listing.
+    /// Returns all properties in one layer, with their listing.
     fn shared_layer(&self) -> Result<SharedLayer, NoMemory>
         ensures { IfOk result (λ layer. layer ≡ self.now) }
     {
@@ -162,8 +179,14 @@ impl Props {
         Ok(SharedLayer::new(layer, pairs))
     }
 
-    /// Equal properties, whose memory each `overlay` over them shares, and each listing of what adds
-    /// nothing to them.
+    /// Returns equal properties in memory that overlays over them share.
+    ///
+    /// The listing is computed here. [`Props::listing`] of a case without properties set by the
+    /// case shares its memory.
+    ///
+    /// # Errors
+    ///
+    /// - `NoMemory`: an allocation fails.
     pub fn shared(&self) -> Result<Props, NoMemory>
         ensures { IfOk result (λ props. props ≡ self.now) }
     {
@@ -175,7 +198,13 @@ impl Props {
         })
     }
 
-    /// A program's properties, with a case's own over them.
+    /// Returns the properties of `program`, overlaid with the properties of `case`.
+    ///
+    /// A value of the case takes the place of a value of the program.
+    ///
+    /// # Errors
+    ///
+    /// - `NoMemory`: an allocation fails.
     pub fn overlay(program: &Props, case: &Props) -> Result<Props, NoMemory>
         ensures overlaid { (under : List Variable) → (over : List Variable)
             → program.now ≡ last_values under → case.now ≡ last_values over
@@ -193,6 +222,7 @@ impl Props {
 }
 
 impl Props {
+    /// Returns the text of the property of `row` in a listing: its value, or else its default.
     fn shown(&self, row: &Row) -> Result<Text, NoMemory>
         ensures { IfOk result (λ text. text ≡ shown_text (texts_of self.now) (row_in row.now)) }
     {
@@ -203,6 +233,7 @@ impl Props {
         }
     }
 
+    /// Appends the properties of `rows` with their texts to `pairs`, without empty texts.
     fn add_shown(&self, pairs: &mut Variables, rows: &[Row]) -> Result<(), NoMemory>
         ensures { OnOk result (pairs.new
             ≡ pairs.old ++ shown_pairs (texts_of self.now) (map row_in rows.now)) }
@@ -214,6 +245,7 @@ impl Props {
         Ok(())
     }
 
+    /// Appends the custom properties to `pairs`, without empty texts.
     fn add_custom(&self, pairs: &mut Variables) -> Result<(), NoMemory>
         ensures { OnOk result (pairs.new ≡ pairs.old ++ custom_pairs self.now) }
     {
@@ -221,7 +253,7 @@ impl Props {
         all.add_custom(pairs)
     }
 
-    /// The listing with memory of its own.
+    /// Returns the listing in newly allocated memory.
     fn own_listing(&self) -> Result<Variables, NoMemory>
         ensures { IfOk result (λ pairs. pairs ≡ listing self.now) }
     {
@@ -231,10 +263,16 @@ impl Props {
         Ok(pairs)
     }
 
-    /// The properties as names with texts: the effective ones in the order of the table, then the
-    /// custom ones in the order of their first definitions. Words are joined by one space, numbers
-    /// are decimal, and a property with an empty value is left out. A case that adds nothing to its
-    /// program's properties shares the memory of their listing.
+    /// Returns the properties with their texts: effective values first, then custom properties.
+    ///
+    /// The effective values are in the order of the table of properties, the custom properties in
+    /// the order of their first definitions. Elements are joined by one space, and numbers are
+    /// decimal. A property with an empty text is omitted. If a case sets no property, its listing
+    /// shares the memory of its program's listing.
+    ///
+    /// # Errors
+    ///
+    /// - `NoMemory`: an allocation fails.
     pub fn listing(&self) -> Result<Variables, NoMemory>
         ensures value { IfOk result (λ pairs. pairs ≡ listing self.now) }
         ensures defined { (definitions : List Variable) → self.now ≡ last_values definitions

@@ -6,6 +6,7 @@ use kt_base::{NoMemory, Phrase, Reason, Text};
 use kt_config::Config;
 use std::alloc::Global;
 
+/// Returns `true` if the test suite `suite` has no variable `name` in the configuration.
 fn is_undefined(config: &Config, suite: &Text, name: &Text) -> bool
     ensures { result ≡ is_undefined config.now suite.now name.now }
 {
@@ -15,14 +16,14 @@ fn is_undefined(config: &Config, suite: &Text, name: &Text) -> bool
     }
 }
 
-/// The first word that isn't a variable of a suite.
+/// Returns the first element of `words` that isn't a variable of the test suite `suite`.
 fn first_undefined<'a>(words: &'a [Text], config: &Config, suite: &Text) -> Option<&'a Text>
     ensures { option_copied result ≡ find (is_undefined config.now suite.now) words.now }
 {
     words.iter().find(|word| is_undefined(config, suite, *word))
 }
 
-/// The first word that must be found on the host and wasn't.
+/// Returns the first required file or program that wasn't found on the host.
 fn first_missing<'a>(need: Need, meta: &'a Meta, host: &Host) -> Option<&'a Text>
     ensures { option_copied result
         ≡ find (λ word. not (is_found need host.now word)) (needed need meta.now) }
@@ -31,19 +32,21 @@ fn first_missing<'a>(need: Need, meta: &'a Meta, host: &Host) -> Option<&'a Text
     words.iter().find(|word| !host.has(need, *word))
 }
 
+/// Returns `true` if `words` contains `word`.
 fn is_listed(words: &[Text], word: &str) -> bool
     ensures { result ≡ list_any (λ w. bytes_eq w (chars word.now)) words.now }
 {
     words.iter().any(|listed| listed.is_word(word))
 }
 
-/// Whether nothing is listed, or this word is.
+/// Returns `true` if `words` is empty or contains `word`.
 fn is_allowed(words: &[Text], word: &str) -> bool
     ensures { result ≡ is_allowed words.now (chars word.now) }
 {
     words.is_empty() || is_listed(words, word)
 }
 
+/// Returns the reason with the text `front`, `word`, `back`.
 fn about(alloc: Global, front: &str, word: &str, back: &str) -> Result<Reason, NoMemory>
     ensures { IfOk result (λ reason. reason_text reason
         ≡ chars front.now ++ (chars word.now ++ chars back.now)) }
@@ -54,7 +57,7 @@ fn about(alloc: Global, front: &str, word: &str, back: &str) -> Result<Reason, N
     Ok(Reason::Owned(text))
 }
 
-/// A configuration word that isn't a variable of the suite.
+/// Returns the reason if a required configuration variable isn't a variable of the suite.
 pub fn config_reason(
     alloc: Global,
     meta: &Meta,
@@ -77,7 +80,10 @@ pub fn config_reason(
     }
 }
 
-/// An architecture or a platform that isn't among those that are listed.
+/// Returns the reason if `listed` isn't empty and doesn't contain the architecture or platform
+/// `word`.
+///
+/// The reason begins with `front`.
 pub fn listed_reason(
     alloc: Global,
     front: &str,
@@ -94,7 +100,8 @@ pub fn listed_reason(
     Ok(Some(reason))
 }
 
-/// The reason if a case wants root and the runner isn't, or the other way round.
+/// Returns the reason if the runner isn't the required user; `root` is `true` if the runner is
+/// root.
 pub fn user_reason(user: User, root: bool) -> Option<Reason>
     ensures { text_in result ≡ user_row user root }
 {
@@ -105,7 +112,7 @@ pub fn user_reason(user: User, root: bool) -> Option<Reason>
     }
 }
 
-/// A file or a program that wasn't found.
+/// Returns the reason if a required file or program wasn't found.
 pub fn need_reason(
     alloc: Global,
     need: Need,
@@ -123,7 +130,7 @@ pub fn need_reason(
     }
 }
 
-/// Less memory or disk space than is required.
+/// Returns the reason if `there`, the known memory or disk space, is less than the required `due`.
 pub fn amount_reason(phrase: Phrase, due: u64, there: Option<u64>) -> Option<Reason>
     ensures { text_in result ≡ amount_row phrase due there }
 {

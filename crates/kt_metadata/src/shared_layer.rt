@@ -5,8 +5,9 @@ use crate::layer::Layer;
 use kt_base::{NoMemory, Variables};
 use std::marker::Model;
 
-/// The properties of a program with their listing, which its cases share. Contracts see the pairs of
-/// the names with their texts, in which each name occurs once.
+/// A layer with its listing, which the cases of a program share.
+///
+/// In contracts, it is the list of its names with their texts. Each name occurs once.
 #[derive(Drop)]
 pub struct SharedLayer {
     layer: Layer,
@@ -26,7 +27,7 @@ impl Model for SharedLayer {
 }
 
 impl SharedLayer {
-    /// A layer with its listing.
+    /// Creates a shared layer from `layer` and its listing `pairs`.
     pub fn new(layer: Layer, pairs: Variables) -> SharedLayer
         requires { pairs ≡ listing layer }
         ensures { result ≡ layer }
@@ -34,14 +35,14 @@ impl SharedLayer {
         SharedLayer { layer, pairs }
     }
 
-    /// The layer itself.
+    /// Returns the layer without its listing.
     pub fn layer(&self) -> &Layer
         ensures { result.now ≡ self.now }
     {
         &self.layer
     }
 
-    /// The listing, whose memory is shared.
+    /// Returns a copy of the listing, which shares the memory of the listing.
     pub fn listing(&self) -> Result<Variables, NoMemory>
         ensures { IfOk result (λ pairs. pairs ≡ listing self.now) }
     {

@@ -7,12 +7,13 @@ use crate::value::Value;
 use kt_base::Text;
 use std::alloc::Global;
 
-/// A property with one name: the name, the key, and the form of the values.
+/// A row of [`TABLE`]: the name, the key and the form of the values of a property.
 pub type Row = (&'static str, &'static str, Form);
 
-/// The properties with one name, in the order in which they are listed: the name in a Kyuafile
-/// (kyuafile(5); `has_cleanup` is that of atf-test-case(4)), the key in a list of ATF cases, which is
-/// this profile's, and the form of the values.
+/// The properties with fixed names, in the order of a listing.
+///
+/// A row has the name (kyuafile(5); `has_cleanup`: atf-test-case(4)), the key in a list of ATF
+/// cases (this profile), and the form of the values.
 pub const TABLE: [Row; 12] = [
     ("allowed_architectures", "require.arch", Form::Words),
     ("allowed_platforms", "require.machine", Form::Words),
@@ -28,13 +29,14 @@ pub const TABLE: [Row; 12] = [
     ("timeout", "timeout", Form::Timeout),
 ];
 
-/// Whether a name is that of a custom property.
+/// Returns `true` if `name` is the name of a custom property: `custom.` and at least one character.
 pub fn is_custom(name: &str) -> bool
     ensures { result ≡ is_custom (chars name.now) }
 {
     own_part(name, "custom.").is_some()
 }
 
+/// Returns the first row with the property name `name`.
 fn row_named<'a>(name: &Text, rows: &'a [Row]) -> Option<&'a Row>
     ensures { option_map row_in (option_copied result)
         ≡ find (has_name name.now) (map row_in rows.now) }
@@ -47,7 +49,7 @@ fn row_named<'a>(name: &Text, rows: &'a [Row]) -> Option<&'a Row>
     None
 }
 
-/// The row of a key in a list of ATF cases.
+/// Returns the first row with the key `key`, which a list of ATF cases may contain.
 pub fn row_keyed<'a>(key: &Text, rows: &'a [Row]) -> Option<&'a Row>
     ensures { option_map row_in (option_copied result)
         ≡ find (has_key key.now) (map row_in rows.now) }
@@ -60,7 +62,7 @@ pub fn row_keyed<'a>(key: &Text, rows: &'a [Row]) -> Option<&'a Row>
     None
 }
 
-/// The form of the values of a name, if it is that of a property.
+/// Returns the form of the values of the property `name`, or `None` if no property has this name.
 fn form_named(name: &Text) -> Option<Form>
     ensures { result ≡ form_named name.now }
 {
@@ -73,14 +75,22 @@ fn form_named(name: &Text) -> Option<Form>
     }
 }
 
-/// Whether a Kyuafile may set the property of this name. A list of ATF cases alone sets `has_cleanup`.
+/// Returns `true` if a Kyuafile may set the property `name` (kyuafile(5)).
+///
+/// Only a list of ATF cases may set `has_cleanup` (atf-test-case(4)).
 pub fn is_kyuafile_property(name: &Text) -> bool
     ensures { result ≡ is_kyuafile_property name.now }
 {
     !name.is_word("has_cleanup") && form_named(name).is_some()
 }
 
-/// The value that a definition gives, or why it is refused: an unknown name before a bad value.
+/// Parses `text` as a value of the property `name`.
+///
+/// # Errors
+///
+/// - `UnknownProperty`: no property has this name.
+/// - `BadValue`: a property has this name, but `text` isn't a value of the property.
+/// - `NoMemory`: an allocation fails.
 pub fn read_definition(alloc: Global, name: &Text, text: &Text) -> Result<Value, PropFault>
     ensures value { IfOk result (λ value. value_named name.now text.now ≡ Some value) }
     ensures refused { IfFault result (λ fault. definition_fault name.now text.now ≡ Some fault) }
@@ -94,6 +104,7 @@ pub fn read_definition(alloc: Global, name: &Text, text: &Text) -> Result<Value,
     }
 }
 
+/// Returns `text`, or `None` if it is empty.
 fn filled(text: &str) -> Option<&str>
     ensures { option_map (λ part. chars part.now) result ≡ filled (chars text.now) }
 {
@@ -103,7 +114,8 @@ fn filled(text: &str) -> Option<&str>
     Some(text)
 }
 
-/// What follows a prefix, if anything does.
+/// Returns the rest of `text` after the prefix `front`, or `None` if the prefix is missing or the
+/// rest is empty.
 pub fn own_part<'a>(text: &'a str, front: &str) -> Option<&'a str>
     ensures { option_map (λ part. chars part.now) result
         ≡ own_part (chars front.now) (chars text.now) }

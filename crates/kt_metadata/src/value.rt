@@ -4,30 +4,35 @@ ghost use Rattle.kt_metadata.specs.Listing.{joined, spaced, truth_text, user_tex
 use kt_base::{Items, NoMemory, Text};
 use std::alloc::Global;
 
-/// The user that a case asks for.
+/// A requirement on the user that runs a case.
 #[derive(Clone, Copy)]
 pub enum User {
+    /// Any user.
     Any,
+    /// The user root.
     Root,
     /// Any user but root.
     Unprivileged,
 }
 
-/// The value of a property, as its form reads it.
+/// A value of a property, parsed by the property's [`Form`](crate::form::Form).
 #[derive(Drop)]
 pub enum Value {
+    /// Elements in the order of the text.
     Words(Items<Text>),
-    /// The text itself.
+    /// The text of the property as it was written.
     Text,
+    /// A truth value.
     Truth(bool),
-    /// In bytes.
+    /// A size in bytes.
     Size(u64),
+    /// A required user.
     User(User),
-    /// In seconds, 1 to 1,000,000.
+    /// A timeout in seconds, 1 to 1,000,000.
     Timeout(u32),
 }
 
-/// Equal words with memory of their own.
+/// Copies `words` into newly allocated memory.
 pub fn copy_of_words(alloc: Global, words: &[Text]) -> Result<Items<Text>, NoMemory>
     ensures { IfOk result (λ copy. copy ≡ words.now) }
 {
@@ -38,6 +43,7 @@ pub fn copy_of_words(alloc: Global, words: &[Text]) -> Result<Items<Text>, NoMem
     Ok(copy)
 }
 
+/// Joins `words` by one space.
 fn join(alloc: Global, words: &[Text]) -> Result<Text, NoMemory>
     ensures { IfOk result (λ text. text ≡ joined words.now) }
 {
@@ -47,6 +53,7 @@ fn join(alloc: Global, words: &[Text]) -> Result<Text, NoMemory>
     }
 }
 
+/// Appends `words` to `front`, each after a space.
 fn join_after(front: Text, words: &[Text]) -> Result<Text, NoMemory>
     ensures { IfOk result (λ text. text ≡ front ++ spaced words.now) }
 {
@@ -58,12 +65,14 @@ fn join_after(front: Text, words: &[Text]) -> Result<Text, NoMemory>
     Ok(text)
 }
 
+/// Returns the text that represents `value` in a listing.
 fn truth_word(value: bool) -> &'static str
     ensures { chars result.now ≡ truth_text value }
 {
     if value { "true" } else { "false" }
 }
 
+/// Returns the text that represents `user` in a listing.
 fn user_word(user: User) -> &'static str
     ensures { chars result.now ≡ user_text user }
 {
@@ -75,7 +84,7 @@ fn user_word(user: User) -> &'static str
 }
 
 impl Value {
-    /// An equal value with memory of its own.
+    /// Copies the value into newly allocated memory.
     pub fn copy(&self, alloc: Global) -> Result<Value, NoMemory>
         ensures { IfOk result (λ value. value ≡ self.now) }
     {
@@ -89,7 +98,9 @@ impl Value {
         }
     }
 
-    /// The value as a listing has it, where it was given as this text.
+    /// Returns the text that represents the value in a listing.
+    ///
+    /// `text` is the text from which the value was parsed.
     pub fn shown(&self, alloc: Global, text: &str) -> Result<Text, NoMemory>
         ensures { IfOk result (λ listed. listed ≡ shown self.now (chars text.now)) }
     {
@@ -104,17 +115,19 @@ impl Value {
     }
 }
 
-/// What was given to a name: the text, as it was written, and the value that it was read as.
+/// A definition: a text as it was written, and the value parsed from it.
 #[derive(Drop)]
 pub struct Given {
+    /// The text as it was written.
     pub text: Text,
+    /// The value parsed from the text.
     pub value: Value,
 }
 
 impl Given {
     ghost use Rattle.std.specs.Prelude.{◌≡◌, IfOk};
 
-    /// The same with memory of its own.
+    /// Copies the text and the value into newly allocated memory.
     pub fn copy(&self, alloc: Global) -> Result<Given, NoMemory>
         ensures { IfOk result (λ given. given ≡ self.now) }
     {

@@ -6,12 +6,14 @@ use crate::User;
 use kt_base::{Items, NoMemory, Text, decimal_up_to, digits_length, has_slash, is_absolute, named};
 use std::alloc::Global;
 
+/// Returns `true` if `c` is white space: a space, or a character from 9 to 13.
 fn is_space(c: char) -> bool
     ensures { result ≡ is_space c }
 {
     c == ' ' || ('\t' <= c && c <= '\r')
 }
 
+/// Appends `word` to `words`, unless `word` is empty.
 fn end_word(words: &mut Items<Text>, word: Text) -> Result<(), NoMemory>
     ensures { OnOk result (words.new ≡ words.old ++ ended word []) }
 {
@@ -21,7 +23,10 @@ fn end_word(words: &mut Items<Text>, word: Text) -> Result<(), NoMemory>
     words.push(word)
 }
 
-/// The word that has begun after one character more; white space ends it.
+/// Appends the next character `c` to the element `word` and returns the element.
+///
+/// White space ends the element instead: it is appended to `words`, and an empty element is
+/// returned.
 fn next_word(alloc: Global, words: &mut Items<Text>, word: Text, c: char) -> Result<Text, NoMemory>
     ensures { IfOk result (λ next. (rest : List ℕ) → words.new ++ words_from next rest
         ≡ words.old ++ words_from word (c ∷ rest)) }
@@ -35,7 +40,7 @@ fn next_word(alloc: Global, words: &mut Items<Text>, word: Text, c: char) -> Res
     Ok(word)
 }
 
-/// The words of a text, which white space separates.
+/// Returns the elements of `text`, which are separated by white space (this profile).
 pub fn words(alloc: Global, text: &Text) -> Result<Items<Text>, NoMemory>
     ensures { IfOk result (λ found. found ≡ words text.now) }
 {
@@ -49,14 +54,14 @@ pub fn words(alloc: Global, text: &Text) -> Result<Items<Text>, NoMemory>
     Ok(found)
 }
 
-/// The law of words, for whoever reads a value of words by its rule. It does nothing.
+/// Theorem: `words text` is the only list of elements that `AreWords` relates to `text`.
 pub fn words_laws()
     ensures words { (text : List ℕ) → AreWords text (words text) }
     ensures only { (text : List ℕ) → (found : List (List ℕ)) → AreWords text found
         → found ≡ words text }
 {}
 
-/// The words of truth values.
+/// The texts of truth values.
 const TRUTHS: [(&str, bool); 4] = [
     ("true", true),
     ("yes", true),
@@ -64,7 +69,7 @@ const TRUTHS: [(&str, bool); 4] = [
     ("no", false),
 ];
 
-/// A truth value.
+/// Parses `text` as a truth value: `true`, `yes`, `false` or `no`.
 #[tactic(auto, unfolding(crate::proofs::Common::chars))]
 pub fn truth(text: &Text) -> Option<bool>
     ensures { result ≡ truth_of text.now }
@@ -72,14 +77,14 @@ pub fn truth(text: &Text) -> Option<bool>
     named(text, &TRUTHS)
 }
 
-/// The users that a case may ask for.
+/// The texts of required users.
 const USERS: [(&str, User); 3] = [
     ("", User::Any),
     ("root", User::Root),
     ("unprivileged", User::Unprivileged),
 ];
 
-/// The user that a case asks for.
+/// Parses `text` as a required user: an empty text, `root` or `unprivileged`.
 #[tactic(auto, unfolding(crate::proofs::Common::chars))]
 pub fn user(text: &Text) -> Option<User>
     ensures { result ≡ user_of text.now }
@@ -90,7 +95,7 @@ pub fn user(text: &Text) -> Option<User>
 /// The longest timeout, in seconds.
 const LONGEST_TIMEOUT: u32 = 1_000_000;
 
-/// The value of one or more digits, if it is below 2^64.
+/// Parses one or more digits, or returns `None` if there are none or the number isn't below 2^64.
 fn number(digits: &[u8]) -> Option<u64>
     ensures { result ≡ number_of digits.now }
 {
@@ -100,6 +105,7 @@ fn number(digits: &[u8]) -> Option<u64>
     decimal_up_to(u64::MAX, digits)
 }
 
+/// Returns the factor of a unit: 1024 for K, 1024^2 for M, 1024^3 for G and 1024^4 for T.
 fn unit(c: u8) -> Option<u64>
     ensures { result ≡ unit_of c }
 {
@@ -112,6 +118,7 @@ fn unit(c: u8) -> Option<u64>
     }
 }
 
+/// Returns the factor after the digits of a size: 1 if `rest` is empty, or the factor of one unit.
 fn factor(rest: &[u8]) -> Option<u64>
     ensures { result ≡ factor_of rest.now }
 {
@@ -122,13 +129,16 @@ fn factor(rest: &[u8]) -> Option<u64>
     }
 }
 
+/// Returns the product of `number` and `factor`, or `None` if it isn't below 2^64.
 fn scaled(number: Option<u64>, factor: Option<u64>) -> Option<u64>
     ensures { result ≡ scaled number factor }
 {
     number?.checked_mul(factor?)
 }
 
-/// A size in bytes: digits, and at most one of K, M, G and T.
+/// Parses `text` as a size in bytes: digits, and at most one of the units K, M, G and T.
+///
+/// A unit may be a lower-case letter. A size is below 2^64.
 pub fn size(text: &[u8]) -> Option<u64>
     ensures { result ≡ size_in text.now }
 {
@@ -136,6 +146,9 @@ pub fn size(text: &[u8]) -> Option<u64>
     scaled(number(&text[..length]), factor(&text[length..]))
 }
 
+/// Returns the timeout that `number` represents, or `None` if it is too long or `rest` isn't empty.
+///
+/// The number 0 represents the longest timeout, 1,000,000 seconds.
 fn limited(number: Option<u64>, rest: &[u8]) -> Option<u32>
     ensures { result ≡ limited number rest.now }
 {
@@ -152,7 +165,9 @@ fn limited(number: Option<u64>, rest: &[u8]) -> Option<u32>
     }
 }
 
-/// A timeout in seconds, in which 0 stands for the longest.
+/// Parses `text` as a timeout in seconds, 0 to 1,000,000.
+///
+/// The text 0 represents the longest timeout, 1,000,000 seconds.
 pub fn timeout(text: &[u8]) -> Option<u32>
     ensures { result ≡ timeout_in text.now }
 {
@@ -160,26 +175,29 @@ pub fn timeout(text: &[u8]) -> Option<u32>
     limited(number(&text[..length]), &text[length..])
 }
 
+/// Returns `true` if `word` isn't an absolute path.
 fn is_no_file(word: &Text) -> bool
     ensures { result ≡ is_no_file word.now }
 {
     !is_absolute(word.as_str())
 }
 
+/// Returns `true` if `word` is a relative path with a slash.
 fn is_no_program(word: &Text) -> bool
     ensures { result ≡ is_no_program word.now }
 {
     !is_absolute(word.as_str()) && has_slash(word.as_str())
 }
 
-/// Whether a word can't name a required file, since it isn't absolute.
+/// Returns `true` if an element isn't an absolute path, so that it can't name a required file.
 pub fn has_no_file(words: &[Text]) -> bool
     ensures { result ≡ list_any is_no_file words.now }
 {
     words.iter().any(|word| is_no_file(word))
 }
 
-/// Whether a word can't name a required program: a relative path with a slash.
+/// Returns `true` if an element is a relative path with a slash, which can't name a required
+/// program.
 pub fn has_no_program(words: &[Text]) -> bool
     ensures { result ≡ list_any is_no_program words.now }
 {

@@ -10,7 +10,7 @@ or_last true false = refl
 or_last false true = refl
 or_last false false = refl
 
--- a file is there
+-- A file is recorded as found.
 noted_file : (name : List ℕ) (old : Host) (files : BTreeSet (String Global)) → ((bytes : List ℕ) → contains_text files bytes ≡ (contains_text old.files bytes || bytes_eq (utf8 name) bytes))
     → IsNoted File name old (record { root = old.root; files = files; programs = old.programs; memory = old.memory; disk = old.disk })
 noted_file name old files h = record { found = by; root = refl; memory = refl; disk = refl }
@@ -19,7 +19,7 @@ noted_file name old files h = record { found = by; root = refl; memory = refl; d
     by File word = h (utf8 word)
     by Program word = sym (or-false (contains_text old.programs (utf8 word)))
 
--- a program is there
+-- A program is recorded as found.
 noted_program : (name : List ℕ) (old : Host) (programs : BTreeSet (String Global)) → ((bytes : List ℕ) → contains_text programs bytes ≡ (contains_text old.programs bytes || bytes_eq (utf8 name) bytes))
     → IsNoted Program name old (record { root = old.root; files = old.files; programs = programs; memory = old.memory; disk = old.disk })
 noted_program name old programs h = record { found = by; root = refl; memory = refl; disk = refl }

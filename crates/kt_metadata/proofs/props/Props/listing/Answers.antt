@@ -5,7 +5,7 @@ use Rattle.kt_metadata.specs.Listing.{listing}
 use Rattle.kt_metadata.proofs.props.Props.listing.Goals as goal
 use Rattle.kt_metadata.proofs.props.Props.listing.Goals.{After-listing}
 
--- what the program lists, where the case adds nothing
+-- If the case sets no property, the listing is the listing of the program.
 alone : (c : After-listing) → listing c.deref.result.now ≡ listing c.args.self.now
 alone c =
     let none : c.self.inside.own ≡ [] = c.is_empty.ensures.0 c.if-is_empty.true in
