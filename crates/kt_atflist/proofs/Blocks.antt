@@ -1,4 +1,4 @@
--- Properties that a block gives once, and names that a list gives once.
+-- Properties that a block sets once, and names that a list has once.
 use Rattle.std.proofs.Common.{◌≡◌, ℕ, Bool, true, false, List, [], ◌∷◌, ◌++◌, Option, Some, None, Result, Ok, Err, OnOk, OnErr, is_some, refl, ap, sym, map, ◌∙◌, bytes_eq, Bor, option_copied}
 use Rattle.kt_atflist.proofs.Common.{list_any, Variable, name_of, names_of, is_listed, is_given, with_property, CaseDef}
 use Rattle.kt_base.specs.LastValues.{is_named, value_of, last_values}
@@ -17,7 +17,7 @@ given-next name x xs true (Some value) e f h = rw (e, f) refl
 given-next name x xs false None e f h = rw (e, f) h
 given-next name x xs false (Some value) e f h = rw (e, f) h
 
--- a name has a value exactly where a pair has it
+-- A name has a value if and only if a pair has the name.
 pub given : (name : List ℕ) (xs : List Variable) → is_some (value_of name xs) ≡ is_given xs name
 given name [] = refl
 given name (x ∷ xs) = given-next name x xs (is_named name x) (value_of name xs) refl refl (given name xs)
@@ -26,17 +26,17 @@ none-of : (o : Option (List ℕ)) → is_some o ≡ false → o ≡ None
 none-of None e = refl
 none-of (Some value) e = absurd (cc)
 
--- what was set is settled
+-- Setting a property preserves that each name has one value.
 pub settled-after : {U E : Type 0} (r : Result U E) (old new : List Variable) (pair : Variable) → old ≡ last_values old
     → OnOk r (new ≡ last_values (old ++ pair ∷ [])) → OnErr r (new ≡ old) → new ≡ last_values new
 settled-after (Ok u) old new pair s set kept = set ∙ sym (twice (old ++ pair ∷ [])) ∙ ap last_values (sym set)
 settled-after (Err e) old new pair s set kept = kept ∙ s ∙ ap last_values (sym kept)
 
--- a block as a case
+-- `as_case name props`: the case of a block.
 abbrev as_case : List ℕ → List Variable → CaseDef
 as_case name props = record { name = name; props = props; fault = None }
 
--- a property that was not there goes last
+-- A property that the block has not set yet is appended.
 pub property-after : {U E : Type 0} (r : Result U E) (called : List ℕ) (old new : List Variable) (now : CaseDef) (pair : Variable) → as_case called old ≡ now
     → old ≡ last_values old → is_given now.props pair.name ≡ false → OnOk r (new ≡ last_values (old ++ pair ∷ [])) → OnOk r (as_case called new ≡ with_property now pair.name pair.value)
 property-after (Ok u) called old new now pair v s g set =
@@ -47,7 +47,7 @@ property-after (Err e) called old new now pair v s g set = record {}
 
 -- ---- names
 
--- a name among those of the cases
+-- A name is among the names of the cases if and only if a case has it.
 pub listed : (name : List ℕ) (cases : List CaseDef) → list_any (bytes_eq name) (map name_of cases) ≡ is_listed cases name
 listed name [] = refl
 listed name (case ∷ cases) = rw (listed name cases) refl

@@ -1,4 +1,4 @@
--- The keys of a set of names, seen as characters.
+-- The characters of the keys of a set of names.
 use Rattle.std.proofs.Common.{◌≡◌, ℕ, false, List, [], ◌∷◌, ◌++◌, refl, ap, map, ◌∙◌, bytes_eq}
 use Rattle.kt_atflist.proofs.Common.{chars, list_any, IsUtf8, IsUtf8-string_bytes, characters}
 use Rattle.std.specs.String.{string_bytes, string_eq}
@@ -9,7 +9,7 @@ use Rattle.kt_base.proofs.Texts.{bytes_eq-chars}
 same : {Z : Type 0} (q : List ℕ) → IsUtf8 q → (k : String Z) → bytes_eq q (string_bytes k) ≡ bytes_eq (chars q) (characters k)
 same q u k = bytes_eq-chars q (string_bytes k) u (IsUtf8-string_bytes k)
 
--- a key that is looked up by its bytes is among the names
+-- A key is found by its bytes if and only if its characters are among the names.
 pub among : {Z : Type 0} (q : List ℕ) → IsUtf8 q → (ks : List (String Z)) → list_any (λ k. bytes_eq q (string_bytes k)) ks ≡ list_any (bytes_eq (chars q)) (map characters ks)
 among q u [] = refl
 among q u (k ∷ ks) = rw (same q u k, among q u ks) refl
@@ -18,7 +18,7 @@ appended : {Z : Type 0} (ks : List (String Z)) (k : String Z) → map characters
 appended [] k = refl
 appended (j ∷ ks) k = ap (λ (ns : List (List ℕ)). characters j ∷ ns) (appended ks k)
 
--- a key that is not there goes last
+-- A key that the set doesn't contain is appended.
 pub inserted : {Z : Type 0} (ks : List (String Z)) (k : String Z) → list_any (bytes_eq (characters k)) (map characters ks) ≡ false
     → map characters (insert_key string_eq ks k) ≡ map characters ks ++ characters k ∷ []
 inserted ks k e =

@@ -1,19 +1,19 @@
--- A line leads on, or it has a fault.
+-- A line has a next state or a fault.
 use Rattle.std.proofs.Common.{codes, bytes_eq, ◌≡◌, ℕ, Bool, true, false, List, [], ◌∷◌, ◌++◌, Option, Some, None, refl, ap, sym, subst, ◌∙◌}
 use Rattle.kt_atflist.proofs.Common.{find, is_empty, ident_in, is_name, key_in, value_in, is_listed, is_given, named, with_property, is_good, begin_with, name_from, set_property, go_on, go_on_with, step_from, Goes, begins, gives, ends, fits_first, fits_further, first_rows, further_rows, Fails, first, further, BadLine, NoIdent, RepeatedKey, RepeatedIdent, UnknownKey, BadValue, CaseDef, Read, Step, To, Wrong}
 use Rattle.kt_base.specs.Lossy.{lossy}
 use Rattle.kt_metadata.specs.ListKeys.{name_of_key}
 
--- where a line leads, or its fault
+-- `Led cases line block step`: `step` has the specified state after `line`, or its fault.
 abbrev pub Led : List CaseDef → List ℕ → Option CaseDef → Step → Type 0
 Led cases line block (To next) = Goes cases line block next
 Led cases line block (Wrong cause) = Fails cases line block cause
 
--- a step that a line takes, known by an equation
+-- Equal steps have equal results.
 leads : (cases : List CaseDef) (line : List ℕ) (block : Option CaseDef) (s t : Step) → s ≡ t → Led cases line block t → Led cases line block s
 leads cases line block s t e h = subst (Led cases line block) (sym e) h
 
--- ---- first lines
+-- ---- first lines of blocks
 
 first_named : (cases : List CaseDef) (line name : List ℕ) (t u : Bool) → ident_in line ≡ Some name → is_name name ≡ t → is_listed cases (lossy name) ≡ u
     → Led cases line None (begin_with cases (name_from (ident_in line)))
@@ -34,9 +34,10 @@ first_led cases line None e =
     leads cases line None _ _ (ap (λ (o : Option (List ℕ)). begin_with cases (name_from o)) e) (first NoIdent (ap (λ (o : Option (List ℕ)). find (fits_first cases o) first_rows) e))
 first_led cases line (Some name) e = first_named cases line name (is_name name) (is_listed cases (lossy name)) e refl refl
 
--- ---- further lines
+-- ---- lines after the first of a block
 
--- the key, the value and the property that a line gives
+-- `Gives line value o`: `line` has the value `value`, and a key that represents the property `o`,
+-- if there is one.
 record Gives (line value : List ℕ) (o : Option (List ℕ)) : Type 0 where
   some : is_empty line ≡ false
   value_is : value_in line ≡ Some value
@@ -44,7 +45,7 @@ record Gives (line value : List ℕ) (o : Option (List ℕ)) : Type 0 where
   plain : bytes_eq (lossy (key_in line)) (codes "ident") ≡ false
   property : name_of_key (lossy (key_in line)) ≡ o
 
--- where it leads
+-- The line sets the property that its key represents.
 stepped : (cases : List CaseDef) (block : CaseDef) (line value : List ℕ) (o : Option (List ℕ)) → Gives line value o → go_on cases block line ≡ go_on_with cases (set_property block o (lossy value))
 stepped cases block line value o g = rw (g.some, g.value_is, g.key, g.plain, g.property) refl
 
@@ -107,14 +108,14 @@ further_led cases block line false None e v =
 further_led cases block line false (Some value) e v =
     value_led cases block line value (is_empty (key_in line)) (bytes_eq (lossy (key_in line)) (codes "ident")) e v refl refl
 
--- each line leads on or has a fault
+-- Each line has a next state or a fault.
 pub led_by : (cases : List CaseDef) (block : Option CaseDef) (line : List ℕ) → Led cases line block (step_from cases block line)
 led_by cases None line = first_led cases line (ident_in line) refl
 led_by cases (Some block) line = further_led cases block line (is_empty line) (value_in line) refl refl
 
--- ---- nothing else
+-- ---- the specified next state is unique
 
--- a line that leads on takes that step
+-- The step of a line is to its specified next state.
 pub step_goes : (cases : List CaseDef) (block : Option CaseDef) (line : List ℕ) (next : Read) → Goes cases line block next → step_from cases block line ≡ To next
 step_goes cases None line next (begins name e f g) = ap (λ (o : Option (List ℕ)). begin_with cases (name_from o)) e ∙ rw (f, g) refl
 step_goes cases (Some block) line next (gives _ value property e v k w p g h) =

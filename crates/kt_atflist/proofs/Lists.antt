@@ -1,13 +1,14 @@
--- The reading line by line gives what a text spells, or the fault that is due.
+-- Reading line by line gives the cases of a text, or its first fault.
 use Rattle.std.proofs.Common.{Ok, Err, bytes_eq, ◌≡◌, ◌⊎◌, ℕ, ◌+◌, Bool, true, false, List, [], ◌∷◌, Option, Some, None, refl, ap, sym, subst, ◌∙◌, inl, inr}
 use Rattle.kt_atflist.proofs.Common.{find, IsUtf8, is_utf8, false≢true, IsUtf8-from_is_utf8, is_utf8-from_IsUtf8, lines, header, Outcome, fault_at, Goes, begins, gives, ends, Spelled, no_block, last_block, line, fits_first, fits_further, first_rows, further_rows, Fails, first, further, Faulty, here, later, IsList, list, IsFault, no_first, other_first, no_second, other_second, no_third, in_blocks, IsAnswer, IsOutOfMemory, IsUnlessMemory, is_empty, ident_in, key_in, value_in, led, closed, step_from, read_from, nothing_read, read_blocks, read_second, read_lines, read_list, BadHeader, ListFault, CaseDef, Read, Step, To, Wrong}
 use Rattle.kt_atflist.specs.declared.list_fault.ListCause.{ListCause}
 use Rattle.kt_atflist.proofs.LineCases.{Led, led_by, step_goes}
 use Rattle.kt_atflist.proofs.Utf8.{read_utf8, read_other}
 
--- ---- what is read is so
+-- ---- the code's result is the specified result
 
--- what lines give
+-- `Reads n r ls o`: `o` is the specified result of the lines `ls` from line `n` on, in the state
+-- `r`.
 abbrev Reads : ℕ → Read → List (List ℕ) → Outcome → Type 0
 Reads n r ls (Ok all) = Spelled r.cases r.block ls all
 Reads n r ls (Err fault) = Faulty n r.cases r.block ls fault
@@ -29,7 +30,7 @@ reads : (n : ℕ) (r : Read) (ls : List (List ℕ)) → Reads n r ls (read_from 
 reads n r [] = ended n r r.block
 reads n r (one ∷ rest) = one_read n r one rest (step_from r.cases r.block one) (led_by r.cases r.block one) (λ next. reads (n + 1) next rest)
 
--- what whole lines give
+-- `Gives ls o`: `o` is the specified result of all lines `ls`.
 abbrev Gives : List (List ℕ) → Outcome → Type 0
 Gives ls (Ok cases) = IsList ls cases
 Gives ls (Err fault) = IsFault ls fault
@@ -81,7 +82,7 @@ answers_at text false e =
 pub answers : (text : List ℕ) → IsAnswer text (read_list text)
 answers text = answers_at text (is_utf8 text) refl
 
--- ---- nothing else is so
+-- ---- the specified result is unique
 
 cause_in : Option ListCause → ListCause → ListCause
 cause_in None d = d
@@ -149,14 +150,14 @@ only_answer text (Ok cases) h = read_utf8 text h.0 ∙ list_reads (lines text) c
 only_answer text (Err fault) (inl h) = read_other text h.0 ∙ ap (λ (f : ListFault). Err f) (sym h.1)
 only_answer text (Err fault) (inr h) = read_utf8 text h.0 ∙ fault_reads (lines text) fault h.1
 
--- a text has one answer
+-- A text has at most one result.
 pub one_answer : (text : List ℕ) (a b : Outcome) → IsAnswer text a → IsAnswer text b → a ≡ b
 one_answer text a b p q = sym (only_answer text a p) ∙ only_answer text b q
 
 pub answered : (text : List ℕ) (result : Outcome) → result ≡ read_list text → IsAnswer text result
 answered text result e = subst (IsAnswer text) (sym e) (answers text)
 
--- the answer of the lines is that of the text
+-- The result of the lines is the specified result of the text.
 pub lines_answered : (text : List ℕ) (result : Outcome) → IsUtf8 text → IsUnlessMemory result (read_lines (lines text)) → IsOutOfMemory result ⊎ IsAnswer text result
 lines_answered text result u (inl memory) = inl memory
 lines_answered text result u (inr e) = inr (answered text result (e ∙ sym (read_utf8 text u)))

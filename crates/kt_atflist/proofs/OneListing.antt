@@ -1,10 +1,10 @@
--- A listing comes to one thing, and a program has one list of cases.
+-- A listing has at most one result, and a program at most one list of cases.
 use Rattle.std.proofs.Common.{Result, Ok, Err, ◌≡◌, ℕ, List, [], ◌∷◌, Option, Some, None, map, refl, ap, sym, ◌∙◌}
 use Rattle.kt_atflist.proofs.Common.{Interface, NoMemory, Phrase, Reason, Counted, Variable, over_program, list_case, AreCases, tap, plain, listed, unlisted, fault_phrase, ended_reason, IsRead, no_list, Lists, unstarted, unreadable, too_long, read, Outcome, CaseDef, ListFault, Listing}
 use Rattle.kt_atflist.specs.Listings.{listed as read_list, unlisted as unread}
 use Rattle.kt_atflist.proofs.Lists.{one_answer}
 
--- what a listing comes to
+-- `Found`: the result of a listing.
 abbrev Found : Type 0
 Found = Result (List CaseDef) Reason
 

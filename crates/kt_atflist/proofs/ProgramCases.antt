@@ -1,4 +1,4 @@
--- The test cases of a program, by its interface and by what its listing came to.
+-- The test cases of a program, by its interface and the result of its listing.
 use Rattle.std.proofs.Common.{Result, Ok, Err, ◌≡◌, ◌⊎◌, inl, inr, List, [], ◌∷◌, Option, Some, map, sym, subst}
 use Rattle.kt_atflist.proofs.Common.{Interface, Reason, Variable, over_program, main_case, list_case, AreCases, tap, plain, listed, unlisted, Lists, CaseDef, Listing}
 use Rattle.kt_base.specs.declared.child.Interface.TheVariants.{Atf, Tap, Plain}

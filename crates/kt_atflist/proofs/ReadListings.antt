@@ -1,4 +1,4 @@
--- What the bytes of a listing give.
+-- Results of the bytes of a listing.
 use Rattle.std.proofs.Common.{Result, Ok, Err, ◌≡◌, ◌⊎◌, ℕ, List, Some, None, ap, sym, subst, ◌∙◌, inl, inr}
 use Rattle.kt_atflist.proofs.Common.{Phrase, Reason, Fixed, Counted, ended_reason, fault_phrase, IsRead, no_list, Lists, unstarted, unreadable, too_long, read, Outcome, IsOutOfMemory, fault_at, IsAnswer, Listing, NoMemory, ListFault, CaseDef}
 use Rattle.kt_base.specs.declared.child.Outcome.{Outcome as Ending}
@@ -11,7 +11,7 @@ use Rattle.kt_atflist.specs.declared.listing.ListBytes.TheVariants as bytes
 use Rattle.kt_atflist.specs.declared.listing.Listing.TheVariants as listing
 use Rattle.kt_atflist.specs.declared.list_fault.ListCause.TheVariants as cause
 
--- cases are no refusal of memory
+-- Cases that were read are not an error of an allocation.
 pub cases_read : (slice text : List ℕ) (cases : List CaseDef) → slice ≡ text → IsOutOfMemory (Ok cases) ⊎ IsAnswer slice (Ok cases) → IsRead text (Ok cases)
 cases_read slice text cases e (inl (refusal, n)) = absurd (cc)
 cases_read slice text cases e (inr a) = listed cases (subst (λ (t : List ℕ). IsAnswer t (Ok cases)) e a)

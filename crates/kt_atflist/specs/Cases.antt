@@ -10,19 +10,21 @@ use Rattle.kt_atflist.specs.Blocks.{named}
 use Rattle.kt_atflist.specs.declared.listing.CaseDef.{CaseDef}
 use Rattle.kt_atflist.specs.declared.listing.Listing.{Listing}
 
--- a case with its own properties over its program's
+-- `over_program props case`: `case` with its own properties over `props`, the properties of its
+-- program.
 abbrev pub over_program : List Variable → CaseDef → CaseDef
 over_program props case = record { name = case.name; props = last_values (props ++ case.props); fault = case.fault }
 
--- the case that stands for a program without a list
+-- `main_case`: the case of a TAP or plain program.
 abbrev pub main_case : CaseDef
 main_case = named (codes "main")
 
--- the case that stands for a list that can't be used
+-- `list_case reason`: the case that represents a list that can't be used for `reason`.
 abbrev pub list_case : Reason → CaseDef
 list_case reason = record { name = codes "__test_cases_list__"; props = []; fault = Some reason }
 
--- a program of this interface with these properties has these cases
+-- `AreCases props interface listing cases`: a program with the interface `interface`, the
+-- properties `props` and the listing `listing` has the test cases `cases`.
 pub data AreCases (props : List Variable) : Interface → Option Listing → List CaseDef → Type 0 where
   tap : (listing : Option Listing) → AreCases props Tap listing (over_program props main_case ∷ [])
   plain : (listing : Option Listing) → AreCases props Plain listing (over_program props main_case ∷ [])

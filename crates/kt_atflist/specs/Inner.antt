@@ -1,3 +1,4 @@
--- What private functions compute: how the code reads a list line by line. No public clause cites it.
+-- Definitions for private functions: the code's reading of a list line by line. No public clause
+-- cites them.
 pub mod Keys
 pub mod Reading

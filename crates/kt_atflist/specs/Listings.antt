@@ -1,4 +1,4 @@
--- What a listing gives: cases, or the reason why it can't be used.
+-- Results of listings: cases, or the reason why a listing can't be used.
 use Rattle.std.specs.Prelude.{◌≡◌, ℕ, ◌==◌, if◌then◌else◌, List, Option, Some, None, Result, Ok, Err}
 use Rattle.kt_base.specs.declared.no_memory.NoMemory.{NoMemory}
 use Rattle.kt_base.specs.declared.child.Outcome.{Outcome}
@@ -20,14 +20,15 @@ use Rattle.kt_atflist.specs.declared.listing.Listing.{Listing}
 use Rattle.kt_atflist.specs.declared.listing.Listing.TheVariants as listing
 use Rattle.kt_atflist.specs.Spelling.{Spells, IsDue}
 
--- why a program that ended so did not list its cases
+-- `ended_reason outcome`: the reason why a program with this outcome did not list its cases; no
+-- reason if it exited with 0.
 abbrev pub ended_reason : Outcome → Option Reason
 ended_reason TimedOut = Some (Fixed ListTimedOut)
 ended_reason WaitFailed = Some (Fixed ListNotWaitedFor)
 ended_reason (Exited code) = if code == 0 then None else Some (Ended NoList (Exited code))
 ended_reason (Signaled signal core) = Some (Ended NoList (Signaled signal core))
 
--- the words for a fault; out of memory has none
+-- `fault_phrase cause`: the phrase of `cause`; `NoMemory` has no phrase.
 abbrev pub fault_phrase : ListCause → Result Phrase NoMemory
 fault_phrase (cause.NoMemory refusal) = Err refusal
 fault_phrase BadHeader = Ok ListBadHeader
@@ -40,12 +41,14 @@ fault_phrase BadValue = Ok ListBadValue
 fault_phrase EmptyList = Ok ListEmpty
 fault_phrase NotUtf8 = Ok ListNotUtf8
 
--- what the bytes of a list give
+-- `IsRead text found`: `found` is the cases of the list `text`, or the reason why `text` isn't a
+-- list.
 pub data IsRead (text : List ℕ) : Result (List CaseDef) Reason → Type 0 where
   no_list : (fault : ListFault) (phrase : Phrase) → IsDue text fault → fault_phrase fault.cause ≡ Ok phrase → IsRead text (Err (Counted phrase fault.line 0))
   listed : (cases : List CaseDef) → Spells text cases → IsRead text (Ok cases)
 
--- what a listing gives
+-- `Lists listing found`: `found` is the cases of `listing`, or the reason why `listing` can't be
+-- used.
 pub data Lists : Listing → Result (List CaseDef) Reason → Type 0 where
   unstarted : (refused : Refused) → Lists (listing.Refused refused) (Err (refused_reason refused))
   unlisted : (outcome : Outcome) (bytes : ListBytes) (reason : Reason) → ended_reason outcome ≡ Some reason → Lists (listing.Ended outcome bytes) (Err reason)

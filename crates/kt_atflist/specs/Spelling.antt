@@ -1,4 +1,4 @@
--- The cases that a list of test cases spells, and the fault of a text that is not a list.
+-- The cases of a list of test cases, and the fault of a text that isn't a list.
 use Rattle.std.specs.Prelude.{◌≡◌, ◌⊎◌, ℕ, ◌+◌, Bool, true, false, not, ◌||◌, List, [], ◌∷◌, ◌++◌, codes, bytes_eq, Option, Some, None, Result, Ok, Err, is_some}
 use Rattle.std.specs.List.{find}
 use Rattle.std.specs.Str.{IsUtf8}
@@ -17,21 +17,21 @@ use Rattle.kt_atflist.specs.declared.list_fault.ListFault.{ListFault}
 use Rattle.kt_atflist.specs.declared.listing.CaseDef.{CaseDef}
 use Rattle.kt_atflist.specs.Read.{Read}
 
--- the cases of a list, or its fault
+-- `Outcome`: the cases of a list, or its fault.
 abbrev pub Outcome : Type 0
 Outcome = Result (List CaseDef) ListFault
 
--- the line that each list begins with
+-- `header`: the first line of each list.
 abbrev pub header : List ℕ
 header = codes "Content-Type: application/X-atf-tp; version=\"1\""
 
--- the fault of a line
+-- `fault_at cause line`: the fault with the cause `cause` in line `line`.
 abbrev pub fault_at : ListCause → ℕ → ListFault
 fault_at cause line = record { cause = cause; line = line }
 
--- ---- lines that fit
+-- ---- valid lines
 
--- after these cases, with this block begun or none, a line leads to these cases and this block
+-- `Goes cases line block next`: reading `line` after `cases`, in `block` (if any), gives `next`.
 pub data Goes (cases : List CaseDef) (line : List ℕ) : Option CaseDef → Read → Type 0 where
   begins : (name : List ℕ) → ident_in line ≡ Some name → is_name name ≡ true → is_listed cases (lossy name) ≡ false
       → Goes cases line None (record { cases = cases; block = Some (named (lossy name)) })
@@ -41,33 +41,36 @@ pub data Goes (cases : List CaseDef) (line : List ℕ) : Option CaseDef → Read
       → Goes cases line (Some block) (record { cases = cases; block = Some (with_property block property (lossy value)) })
   ends : (block : CaseDef) → is_empty line ≡ true → Goes cases line (Some block) (record { cases = cases ++ block ∷ []; block = None })
 
--- after these cases, with this block begun or none, the lines spell these cases in all
+-- `Spelled cases block lines all`: reading `lines` after `cases`, in `block` (if any), gives the
+-- cases `all` in the end.
 pub data Spelled : List CaseDef → Option CaseDef → List (List ℕ) → List CaseDef → Type 0 where
   no_block : (cases : List CaseDef) → Spelled cases None [] cases
   last_block : (cases : List CaseDef) (block : CaseDef) → Spelled cases (Some block) [] (cases ++ block ∷ [])
   line : (cases : List CaseDef) (block : Option CaseDef) (first : List ℕ) (rest : List (List ℕ)) (next : Read) (all : List CaseDef)
       → Goes cases first block next → Spelled next.cases next.block rest all → Spelled cases block (first ∷ rest) all
 
--- ---- lines that don't
+-- ---- faulty lines
 
--- a property was given before
+-- `gives_again pairs name`: one of `pairs` has the name `name`, which may be missing.
 abbrev pub gives_again : List Variable → Option (List ℕ) → Bool
 gives_again pairs None = false
 gives_again pairs (Some property) = is_given pairs property
 
--- a property may not have this value
+-- `is_bad name value`: the property `name` may not have the value `value`.
 abbrev pub is_bad : Option (List ℕ) → List ℕ → Bool
 is_bad None value = false
 is_bad (Some property) value = not (is_good property value)
 
--- whether a fault fits the first line of a block, which has this ident
+-- `fits_first cases ident cause`: `cause` fits the first line of a block after `cases`, with the
+-- name `ident` if the line has one.
 abbrev pub fits_first : List CaseDef → Option (List ℕ) → ListCause → Bool
 fits_first cases None NoIdent = true
 fits_first cases (Some name) BadValue = not (is_name name)
 fits_first cases (Some name) RepeatedIdent = is_listed cases (lossy name)
 fits_first cases ident _ = false
 
--- whether a fault fits a further line of a block, which has this key and this value
+-- `fits_further block key value cause`: `cause` fits a line of `block` with the key `key` and the
+-- value `value` (if any); it isn't the first line.
 abbrev pub fits_further : CaseDef → List ℕ → Option (List ℕ) → ListCause → Bool
 fits_further block key None BadLine = true
 fits_further block key (Some value) BadLine = is_empty key
@@ -76,21 +79,24 @@ fits_further block key (Some value) UnknownKey = not (is_some (name_of_key (loss
 fits_further block key (Some value) BadValue = is_bad (name_of_key (lossy key)) (lossy value)
 fits_further block key value _ = false
 
--- the faults of a first line; the first that fits is due
+-- `first_rows`: the causes for a first line; the first that fits is reported.
 abbrev pub first_rows : List ListCause
 first_rows = NoIdent ∷ BadValue ∷ RepeatedIdent ∷ []
 
--- the faults of a further line; the first that fits is due
+-- `further_rows`: the causes for a line after the first of its block; the first that fits is
+-- reported.
 abbrev pub further_rows : List ListCause
 further_rows = BadLine ∷ RepeatedKey ∷ UnknownKey ∷ BadValue ∷ []
 
--- after these cases, with this block begun or none, this is the first fault that fits a line; an empty line ends its block
+-- `Fails cases line block cause`: `cause` is the first that fits `line` after `cases`, in `block`
+-- (if any). An empty line ends its block.
 pub data Fails (cases : List CaseDef) (line : List ℕ) : Option CaseDef → ListCause → Type 0 where
   first : (cause : ListCause) → find (fits_first cases (ident_in line)) first_rows ≡ Some cause → Fails cases line None cause
   further : (block : CaseDef) (cause : ListCause) → is_empty line ≡ false → find (fits_further block (key_in line) (value_in line)) further_rows ≡ Some cause
       → Fails cases line (Some block) cause
 
--- the fault of the first of these lines that has one, counted from the n-th
+-- `Faulty n cases block lines fault`: `fault` is in the first faulty line of `lines`, counted from
+-- `n`, after `cases`, in `block` (if any).
 pub data Faulty : ℕ → List CaseDef → Option CaseDef → List (List ℕ) → ListFault → Type 0 where
   here : (n : ℕ) (cases : List CaseDef) (block : Option CaseDef) (first : List ℕ) (rest : List (List ℕ)) (cause : ListCause)
       → Fails cases first block cause → Faulty n cases block (first ∷ rest) (fault_at cause n)
@@ -99,12 +105,13 @@ pub data Faulty : ℕ → List CaseDef → Option CaseDef → List (List ℕ) �
 
 -- ---- whole texts
 
--- the header, an empty line, and one block or more
+-- `IsList lines cases`: `lines` are the header, an empty line, and one block or more, with the
+-- cases `cases`.
 pub data IsList : List (List ℕ) → List CaseDef → Type 0 where
   list : (first second third : List ℕ) (rest : List (List ℕ)) (cases : List CaseDef) → bytes_eq first header ≡ true → is_empty second ≡ true
       → Spelled [] None (third ∷ rest) cases → IsList (first ∷ second ∷ third ∷ rest) cases
 
--- the fault of the first faulty line
+-- `IsFault lines fault`: `fault` is the fault of the first faulty line of `lines`.
 pub data IsFault : List (List ℕ) → ListFault → Type 0 where
   no_first : IsFault [] (fault_at BadHeader 1)
   other_first : (first : List ℕ) (rest : List (List ℕ)) → bytes_eq first header ≡ false → IsFault (first ∷ rest) (fault_at BadHeader 1)
@@ -115,23 +122,24 @@ pub data IsFault : List (List ℕ) → ListFault → Type 0 where
   in_blocks : (first second third : List ℕ) (rest : List (List ℕ)) (fault : ListFault) → bytes_eq first header ≡ true → is_empty second ≡ true
       → Faulty 3 [] None (third ∷ rest) fault → IsFault (first ∷ second ∷ third ∷ rest) fault
 
--- the text is a list of these cases
+-- `Spells text cases`: `text` is a list of `cases`.
 abbrev pub Spells : List ℕ → List CaseDef → Type 0
 Spells text cases = IsUtf8 text × IsList (lines text) cases
 
--- the text is not a list, and this is why: it isn't UTF-8, or else by its first faulty line
+-- `IsDue text fault`: `text` isn't a list because of `fault`: it isn't UTF-8, or else its first
+-- faulty line has this fault.
 abbrev pub IsDue : List ℕ → ListFault → Type 0
 IsDue text fault = (¬ (IsUtf8 text) × (fault ≡ fault_at NotUtf8 0)) ⊎ (IsUtf8 text × IsFault (lines text) fault)
 
--- the answer to a text: its cases, or the fault that is due
+-- `IsAnswer text result`: `result` is the cases of `text`, or its first fault.
 abbrev pub IsAnswer : List ℕ → Result (List CaseDef) ListFault → Type 0
 IsAnswer text (Ok cases) = Spells text cases
 IsAnswer text (Err fault) = IsDue text fault
 
--- memory ran out
+-- `IsOutOfMemory result`: an allocation failed.
 abbrev pub IsOutOfMemory : Outcome → Type 0
 IsOutOfMemory result = (refusal : NoMemory) × (result ≡ Err (fault_at (cause.NoMemory refusal) 0))
 
--- the answer is this one, unless memory ran out
+-- `IsUnlessMemory result answer`: `result` is `answer`, or an allocation failed.
 abbrev pub IsUnlessMemory : Outcome → Outcome → Type 0
 IsUnlessMemory result answer = IsOutOfMemory result ⊎ (result ≡ answer)

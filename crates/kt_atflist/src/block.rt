@@ -8,7 +8,9 @@ use kt_metadata::{PropFault, Props};
 use std::alloc::Global;
 use std::marker::Model;
 
-/// The case of the block that is being read. Contracts see the case.
+/// A block in progress: a test case with the properties that were read so far.
+///
+/// In contracts, it is the case.
 #[derive(Drop)]
 pub struct Block {
     name: Text,
@@ -24,12 +26,14 @@ impl Model for Block {
 
     ghost view = { λ b. record { name = b.name; props = b.props; fault = None } };
 
-    // Each property was given once.
+    // Each property is set once.
     ghost invariant = { λ b. b.props ≡ last_values b.props };
 }
 
 impl Block {
-    /// A block that has given no property.
+    /// Creates a block for the case `name`, without properties.
+    ///
+    /// Allocates nothing.
     pub fn new(alloc: Global, name: Text) -> Block
         ensures { result ≡ named name }
     {
@@ -39,14 +43,16 @@ impl Block {
         }
     }
 
-    /// Whether the block has given the property of this name.
+    /// Returns `true` if the block has set the property `name`.
     pub fn has(&self, name: &Text) -> bool
         ensures { result ≡ is_given self.now.props name.now }
     {
         self.props.get(name).is_some()
     }
 
-    /// Adds a property that the block doesn't have yet.
+    /// Sets the property `name`, which the block has not set yet.
+    ///
+    /// On failure, the block is unchanged.
     pub fn set(&mut self, name: &Text, value: &Text) -> Result<(), PropFault>
         requires { is_given self.old.props name.now ≡ false }
         ensures ok { OnOk result (self.new ≡ with_property self.old name.now value.now) }
@@ -58,7 +64,7 @@ impl Block {
         self.props.set(name, value)
     }
 
-    /// The case, at the end of its block.
+    /// Returns the case of the finished block.
     pub fn into_case(self) -> CaseDef
         ensures { result ≡ self }
     {

@@ -1,4 +1,4 @@
-//! The test cases of a program, and the list that an ATF program gives of them.
+//! The test cases of a program, and the list of test cases that an ATF program prints.
 #![tactic(auto)]
 
 mod block;

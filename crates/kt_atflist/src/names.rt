@@ -6,7 +6,9 @@ use kt_base::{NoMemory, Text};
 use std::alloc::Global;
 use std::marker::Model;
 
-/// Names, each looked up in constant time. Contracts see them in the order of their additions.
+/// A set of names, which finds a name in constant time.
+///
+/// In contracts, it is the list of the names in the order of their insertion.
 #[derive(Drop)]
 pub struct Names {
     keys: IndexSet<String>,
@@ -22,6 +24,9 @@ impl Model for Names {
 }
 
 impl Names {
+    /// Creates an empty set of names.
+    ///
+    /// Allocates nothing.
     pub fn new(alloc: Global) -> Names
         ensures { result ≡ [] }
     {
@@ -30,14 +35,16 @@ impl Names {
         }
     }
 
-    /// Whether a name is among these.
+    /// Returns `true` if the set contains `name`.
     pub fn has(&self, name: &Text) -> bool
         ensures { result ≡ list_any (bytes_eq name.now) self.now }
     {
         self.keys.contains(name.as_str())
     }
 
-    /// Adds a name that is not among these.
+    /// Inserts `name`, which the set doesn't contain yet.
+    ///
+    /// On failure, the set is unchanged.
     pub fn push(&mut self, alloc: Global, name: &Text) -> Result<(), NoMemory>
         requires { list_any (bytes_eq name.now) self.old ≡ false }
         ensures ok { OnOk result (self.new ≡ self.old ++ name.now ∷ []) }

@@ -1,4 +1,4 @@
-//! The test cases of a program.
+//! Returns the test cases of a program.
 
 ghost use Rattle.std.specs.Prelude.{◌≡◌, ◌∷◌, ◌++◌, [], List, map, chars, Some, None, IfOk, OnOk, IsSome, ℕ, Option, Result};
 ghost use Rattle.kt_atflist.specs.Common.{Atf, Variable, over_program, main_case, list_case, AreCases, Interface, IsAnswer, CaseDef, ListFault, Listing};
@@ -9,13 +9,13 @@ use kt_base::{Interface, Items, NoMemory, Reason, Text};
 use kt_metadata::Props;
 use std::alloc::Global;
 
-/// The case of a program without a list of cases.
+/// The name of the only case of a TAP or plain program.
 const MAIN: &str = "main";
 
-/// The case that stands for a list that can't be used.
+/// The name of the case that represents a list that can't be used.
 const LIST: &str = "__test_cases_list__";
 
-/// Appends a case, whose properties are laid over the program's.
+/// Appends `case` to `cases`, with its own properties over `props`, the properties of its program.
 fn add(cases: &mut Items<CaseDef>, props: &Props, case: CaseDef) -> Result<(), NoMemory>
     ensures { OnOk result (cases.new ≡ cases.old ++ over_program props.now case ∷ []) }
 {
@@ -28,6 +28,8 @@ fn add(cases: &mut Items<CaseDef>, props: &Props, case: CaseDef) -> Result<(), N
     cases.push(CaseDef { name, props, fault })
 }
 
+/// Returns the cases `found`, each with its own properties over `props`, the properties of its
+/// program.
 fn each_with_program(
     alloc: Global,
     props: &Props,
@@ -42,6 +44,8 @@ fn each_with_program(
     Ok(cases)
 }
 
+/// Returns the cases `found` with their own properties over `props`, in memory that the cases
+/// share.
 fn all_with_program(
     alloc: Global,
     props: &Props,
@@ -53,7 +57,7 @@ fn all_with_program(
     each_with_program(alloc, &shared, found)
 }
 
-/// A program's only case.
+/// Returns the only case of a program, with the program's properties.
 fn one_case(
     alloc: Global,
     name: &str,
@@ -73,6 +77,7 @@ fn one_case(
     Ok(cases)
 }
 
+/// Returns the cases of an ATF program with the listing `listing`.
 fn listed(alloc: Global, props: &Props, listing: &Listing) -> Result<Items<CaseDef>, NoMemory>
     ensures { IfOk result (λ cases. AreCases props.now Atf (Some listing.now) cases) }
 {
@@ -83,9 +88,16 @@ fn listed(alloc: Global, props: &Props, listing: &Listing) -> Result<Items<CaseD
     }
 }
 
-/// The test cases of a program, in order. A TAP or plain program has the one case `main`. An ATF program has the cases
-/// of its listing; if the listing can't be used, it has the one case `__test_cases_list__`, whose fault says why. A
-/// case's own properties take precedence over the program's.
+/// Returns the test cases of a program, in order.
+///
+/// A TAP or plain program has the one case `main`. An ATF program has the cases of its listing. If
+/// the listing can't be used, the program has the one case `__test_cases_list__`, whose `fault` is
+/// the reason. A case's own properties take precedence over its program's. The caller has a listing
+/// for each ATF program.
+///
+/// # Errors
+///
+/// - `NoMemory`: an allocation fails.
 pub fn cases(
     alloc: Global,
     interface: Interface,
@@ -104,7 +116,9 @@ pub fn cases(
     }
 }
 
-/// A text has one answer, a list of cases or a fault. A program has one list of cases.
+/// Theorem: a text has at most one result, and a program has at most one list of cases.
+///
+/// The result of a text is its cases or its first fault.
 pub fn law_of_one_answer()
     ensures text { (text : List ℕ) → (first : Result (List CaseDef) ListFault)
         → (second : Result (List CaseDef) ListFault) → IsAnswer text first → IsAnswer text second

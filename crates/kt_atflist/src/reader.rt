@@ -1,4 +1,4 @@
-//! The reading of a list.
+//! Parses a list of test cases.
 
 ghost use Rattle.std.specs.Prelude.{◌⊎◌, List, Result, ◌≡◌, ◌<◌, ◌∷◌, [], length, MatchOption, IfSome};
 ghost use Rattle.kt_atflist.specs.Common.{IsAnswer, IsOutOfMemory, IsUnlessMemory, ListFault, CaseDef, lines, read_from, nothing_read, read_blocks, read_second, read_lines};
@@ -9,7 +9,7 @@ use crate::{CaseDef, ListCause, ListFault};
 use kt_base::{Items, line_length};
 use std::alloc::Global;
 
-/// The first line of a text, and what follows its newline.
+/// Returns the first line of `text` and the rest after its newline, or `None` if `text` is empty.
 fn first_line(text: &[u8]) -> Option<(&[u8], &[u8])>
     ensures value { MatchOption result (lines text.now ≡ [])
         (λ parts. lines text.now ≡ parts.0.now ∷ lines parts.1.now) }
@@ -25,9 +25,10 @@ fn first_line(text: &[u8]) -> Option<(&[u8], &[u8])>
     }
 }
 
-/// The line that each list begins with.
+/// The first line of each list.
 const HEADER: &[u8] = b"Content-Type: application/X-atf-tp; version=\"1\"";
 
+/// Parses the blocks of a list; `text` is the list without its first two lines.
 fn read_from(alloc: Global, text: &[u8]) -> Result<Items<CaseDef>, ListFault>
     ensures { IsUnlessMemory result (read_from 3 nothing_read (lines text.now)) }
 {
@@ -46,6 +47,8 @@ fn read_from(alloc: Global, text: &[u8]) -> Result<Items<CaseDef>, ListFault>
     Ok(cases)
 }
 
+/// Parses the blocks of a list, which needs a block; `text` is the list without its first two
+/// lines.
 fn read_blocks(alloc: Global, text: &[u8]) -> Result<Items<CaseDef>, ListFault>
     ensures { IsUnlessMemory result (read_blocks (lines text.now)) }
 {
@@ -58,6 +61,7 @@ fn read_blocks(alloc: Global, text: &[u8]) -> Result<Items<CaseDef>, ListFault>
     read_from(alloc, text)
 }
 
+/// Parses the list without its first line; the second line must be empty.
 fn read_second(alloc: Global, text: &[u8]) -> Result<Items<CaseDef>, ListFault>
     ensures { IsUnlessMemory result (read_second (lines text.now)) }
 {
@@ -74,6 +78,7 @@ fn read_second(alloc: Global, text: &[u8]) -> Result<Items<CaseDef>, ListFault>
     read_blocks(alloc, rest)
 }
 
+/// Parses a list in UTF-8, whose first line must be the header.
 fn read_lines(alloc: Global, text: &[u8]) -> Result<Items<CaseDef>, ListFault>
     ensures { IsUnlessMemory result (read_lines (lines text.now)) }
 {
@@ -90,9 +95,18 @@ fn read_lines(alloc: Global, text: &[u8]) -> Result<Items<CaseDef>, ListFault>
     read_second(alloc, rest)
 }
 
-/// The cases of a list, in order, or its first fault.
+/// Parses `text` as the list of an ATF program's test cases, in order (atf-test-program(1)).
+///
+/// # Errors
+///
+/// - `NotUtf8` at line 0: `text` isn't UTF-8.
+/// - `BadHeader` at line 1 or 2: line 1 isn't the header, or line 2 is missing or not empty.
+/// - `EmptyList` at line 3: nothing follows line 2.
+/// - `NoIdent`, `BadLine`, `RepeatedKey`, `RepeatedIdent`, `UnknownKey` or `BadValue` at the first
+///   faulty line: [`ListCause`] has the conditions.
+/// - `NoMemory` at line 0: an allocation fails.
 pub fn parse_list(alloc: Global, text: &[u8]) -> Result<Items<CaseDef>, ListFault>
-    // The cases that the text spells, or the fault that is due, unless memory ran out.
+    // Unless an allocation failed, the result is the cases of the text or its first fault.
     ensures answer { IsOutOfMemory result ⊎ IsAnswer text.now result }
     ensures only { (answer : Result (List CaseDef) ListFault) → IsAnswer text.now answer
         → IsUnlessMemory result answer }

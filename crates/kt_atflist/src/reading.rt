@@ -8,13 +8,16 @@ use kt_base::Items;
 use std::alloc::Global;
 use std::marker::Model;
 
-/// What was read of a list so far. Contracts see the cases of the blocks that have ended, and the
-/// case of the block that is being read.
+/// A state of the reader between two lines of a list.
+///
+/// In contracts, it is the cases of the finished blocks, and the case of the block in progress.
 #[derive(Drop)]
 pub struct Reading {
+    /// The cases of the finished blocks.
     pub cases: Items<CaseDef>,
-    /// The names of all these cases.
+    /// The names of `cases`, and of the case of `block`.
     pub names: Names,
+    /// The block in progress, if there is one.
     pub block: Option<Block>,
 }
 
@@ -31,6 +34,9 @@ impl Model for Reading {
 }
 
 impl Reading {
+    /// Creates the state before the first block.
+    ///
+    /// Allocates nothing.
     pub fn new(alloc: Global) -> Reading
         ensures { result ≡ nothing_read }
     {
@@ -42,9 +48,11 @@ impl Reading {
     }
 }
 
-/// The result of a line.
+/// A result of reading one line of a list.
 #[derive(Drop)]
 pub enum Step {
+    /// The state after the line.
     To(Reading),
+    /// The cause of the fault in the line.
     Wrong(ListCause),
 }

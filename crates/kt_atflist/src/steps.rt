@@ -1,4 +1,4 @@
-//! Where a line of a list leads.
+//! Computes the state of the reader after each line of a list.
 
 ghost use Rattle.std.specs.Prelude.{◌≡◌, true, false, List, ℕ, None, Some, IfOk};
 ghost use Rattle.kt_atflist.specs.Blocks.{is_given, is_good, with_property};
@@ -14,6 +14,7 @@ use kt_base::{Items, NoMemory, Text, lossy};
 use kt_metadata::{PropFault, property_of_key};
 use std::alloc::Global;
 
+/// Begins a block for the case `name`, unless an earlier block has this name.
 fn begin_named(
     alloc: Global,
     cases: Items<CaseDef>,
@@ -34,7 +35,7 @@ fn begin_named(
     }))
 }
 
-/// The name in the first line of a block, or the cause why it has none.
+/// Returns the name in the first line of a block, or the cause of the fault in the line.
 fn name_in(alloc: Global, line: &[u8]) -> Result<Result<Text, ListCause>, NoMemory>
     ensures { IfOk result (λ found. found ≡ name_from (ident_in line.now)) }
 {
@@ -60,7 +61,7 @@ fn begin(alloc: Global, cases: Items<CaseDef>, names: Names, line: &[u8]) -> Res
     }
 }
 
-/// Gives a block a property that it has not given before, and says whether the value is good.
+/// Sets a property that the block has not set yet, and returns `true` if the value is valid.
 fn is_set(block: &mut Block, name: &Text, value: &Text) -> Result<bool, NoMemory>
     requires { is_given block.old.props name.now ≡ false }
     ensures good { IfOk result (λ good. good ≡ is_good name.now value.now) }
@@ -75,7 +76,7 @@ fn is_set(block: &mut Block, name: &Text, value: &Text) -> Result<bool, NoMemory
     }
 }
 
-/// Gives a block a value for the property of this name, or returns the cause why it may not.
+/// Sets the property `name` of a block, or returns the cause of a fault.
 fn set_property(
     block: &mut Block,
     name: &Option<Text>,
@@ -99,6 +100,7 @@ fn set_property(
     }
 }
 
+/// Sets the property that `key` represents, or returns the cause of a fault.
 fn set_key(
     alloc: Global,
     block: &mut Block,
@@ -116,7 +118,7 @@ fn set_key(
     set_property(block, &name, value)
 }
 
-/// Gives a block a value for a key, both as bytes.
+/// Sets the property that the bytes `key` represent, or returns the cause of a fault.
 fn set_bytes(
     alloc: Global,
     block: &mut Block,
@@ -132,7 +134,7 @@ fn set_bytes(
     set_key(alloc, block, &key, &value)
 }
 
-/// Gives a block the value in a line for the key in it, or returns the cause why it may not.
+/// Sets the property of the key in `line` to the value in `line`, or returns the cause of a fault.
 fn set_line(alloc: Global, block: &mut Block, line: &[u8]) -> Result<Option<ListCause>, NoMemory>
     ensures change { IfOk result (λ fault.
         changed block.new fault ≡ set_line block.old (key_in line.now) (value_in line.now)) }
@@ -150,6 +152,7 @@ fn set_line(alloc: Global, block: &mut Block, line: &[u8]) -> Result<Option<List
     }
 }
 
+/// Reads a line of a block that is neither its first line nor empty.
 fn go_on_with(
     alloc: Global,
     cases: Items<CaseDef>,
@@ -171,7 +174,7 @@ fn go_on_with(
     }
 }
 
-/// The cases of the blocks that have ended, with that of one more.
+/// Appends the case of a finished block to the cases of earlier blocks.
 fn with_block(mut cases: Items<CaseDef>, block: Block) -> Result<Items<CaseDef>, NoMemory>
     ensures { IfOk result (λ all. all ≡ closed cases (Some block)) }
 {
@@ -179,7 +182,7 @@ fn with_block(mut cases: Items<CaseDef>, block: Block) -> Result<Items<CaseDef>,
     Ok(cases)
 }
 
-/// Reads a further line of a block.
+/// Reads a line of a block that isn't its first line. An empty line ends the block.
 fn go_on(
     alloc: Global,
     cases: Items<CaseDef>,
@@ -201,7 +204,7 @@ fn go_on(
     }))
 }
 
-/// Reads one more line.
+/// Reads the next line of a list, and returns the state after it or the cause of its fault.
 pub fn step(alloc: Global, reading: Reading, line: &[u8]) -> Result<Step, NoMemory>
     ensures { IfOk result (λ step. step ≡ step_of reading line.now) }
 {
@@ -216,7 +219,7 @@ pub fn step(alloc: Global, reading: Reading, line: &[u8]) -> Result<Step, NoMemo
     }
 }
 
-/// The cases, at the end of the text.
+/// Returns all cases at the end of the list; the end finishes a block in progress.
 pub fn finish(reading: Reading) -> Result<Items<CaseDef>, NoMemory>
     ensures { IfOk result (λ cases. cases ≡ finished reading) }
 {

@@ -1,18 +1,19 @@
--- Names of cases, and the keys of a set of names.
+-- Names of cases, and the keys of sets of names.
 use Rattle.std.specs.Prelude.{ℕ, List, [], ◌∷◌, ◌++◌, Option, Some, None, chars, map}
 use Rattle.std.specs.String.{string_bytes}
 use Rattle.std.specs.declared.string.String.{String}
 use Rattle.kt_atflist.specs.declared.listing.CaseDef.{CaseDef}
 
--- the characters of a key
+-- `characters key`: the characters of `key`.
 abbrev pub characters : {Z : Type 0} → String Z → List ℕ
 characters key = chars (string_bytes key)
 
--- the name of a case
+-- `name_of case`: the name of `case`.
 abbrev pub name_of : CaseDef → List ℕ
 name_of case = case.name
 
--- the names of cases, and of one that may follow
+-- `names_of cases block`: the names of `cases`, followed by the name of `block` if there is a
+-- block.
 abbrev pub names_of : List CaseDef → Option CaseDef → List (List ℕ)
 names_of cases None = map name_of cases
 names_of cases (Some case) = map name_of cases ++ case.name ∷ []

@@ -1,4 +1,4 @@
--- A list of test cases, read line by line.
+-- The code's reading of a list of test cases, line by line.
 use Rattle.std.specs.Prelude.{ℕ, ◌+◌, if◌then◌else◌, List, [], ◌∷◌, ◌++◌, codes, bytes_eq, Option, Some, None, Result, Ok, Err}
 use Rattle.std.specs.Str.{is_utf8}
 use Rattle.kt_base.specs.Lossy.{lossy}
@@ -15,30 +15,31 @@ use Rattle.kt_atflist.specs.Read.{Read}
 use Rattle.kt_atflist.specs.declared.reading.Step.{Step}
 use Rattle.kt_atflist.specs.declared.reading.Step.TheVariants.{To, Wrong}
 
--- a block of this name begins
+-- `begin_named cases name`: the step that begins a block for the case `name` after `cases`.
 abbrev pub begin_named : List CaseDef → List ℕ → Step
 begin_named cases name = if is_listed cases name then Wrong RepeatedIdent else To (record { cases = cases; block = Some (named name) })
 
--- the name that an ident gives a case
+-- `name_from ident`: the name of the case with the bytes `ident`, or the cause of the fault.
 abbrev pub name_from : Option (List ℕ) → Result (List ℕ) ListCause
 name_from None = Err NoIdent
 name_from (Some ident) = if is_name ident then Ok (lossy ident) else Err BadValue
 
--- a block begins, if its first line has a name
+-- `begin_with cases name`: the step that begins a block after `cases`, if there is a name.
 abbrev pub begin_with : List CaseDef → Result (List ℕ) ListCause → Step
 begin_with cases (Err cause) = Wrong cause
 begin_with cases (Ok name) = begin_named cases name
 
--- what becomes of a block
+-- `Change`: a changed block, or the cause of a fault.
 abbrev pub Change : Type 0
 Change = Result CaseDef ListCause
 
--- a block that was changed, or its fault
+-- `changed block cause`: `block`, or `cause` if there is one.
 abbrev pub changed : CaseDef → Option ListCause → Change
 changed block None = Ok block
 changed block (Some cause) = Err cause
 
--- a block is given a value for the property of this name
+-- `set_property block name value`: `block` with the property `name` set to `value`, or the cause of
+-- a fault.
 abbrev pub set_property : CaseDef → Option (List ℕ) → List ℕ → Change
 set_property block None value = Err UnknownKey
 set_property block (Some name) value =
@@ -46,71 +47,76 @@ set_property block (Some name) value =
     else if is_good name value then Ok (with_property block name value)
     else Err BadValue
 
--- a block is given a value for a key
+-- `set_key block key value`: `block` with the property that `key` represents set to `value`, or the
+-- cause of a fault.
 abbrev pub set_key : CaseDef → List ℕ → List ℕ → Change
 set_key block key value = if bytes_eq key (codes "ident") then Err RepeatedKey else set_property block (name_of_key key) value
 
--- a block is given what a line has, if it has a key and a value
+-- `set_line block key value`: `block` with the property that the bytes `key` represent set to the
+-- bytes `value`, or the cause of a fault. A line may lack a value.
 abbrev pub set_line : CaseDef → List ℕ → Option (List ℕ) → Change
 set_line block key None = Err BadLine
 set_line block key (Some value) = if is_empty key then Err BadLine else set_key block (lossy key) (lossy value)
 
--- a changed block goes on
+-- `go_on_with cases change`: the step to a changed block after `cases`.
 abbrev pub go_on_with : List CaseDef → Change → Step
 go_on_with cases (Err cause) = Wrong cause
 go_on_with cases (Ok block) = To (record { cases = cases; block = Some block })
 
--- a block goes on or ends
+-- `go_on cases block line`: the step for a line of `block` that isn't its first line; an empty line
+-- ends the block.
 abbrev pub go_on : List CaseDef → CaseDef → List ℕ → Step
 go_on cases block line = if is_empty line then To (record { cases = cases ++ block ∷ []; block = None }) else go_on_with cases (set_line block (key_in line) (value_in line))
 
--- where a line leads, with a block begun or none
+-- `step_from cases block line`: the step for `line` after `cases`, in `block` if there is a block
+-- in progress.
 abbrev pub step_from : List CaseDef → Option CaseDef → List ℕ → Step
 step_from cases None line = begin_with cases (name_from (ident_in line))
 step_from cases (Some block) line = go_on cases block line
 
--- where a line leads
+-- `step_of r line`: the step for `line` in the state `r`.
 abbrev pub step_of : Read → List ℕ → Step
 step_of r line = step_from r.cases r.block line
 
--- the cases at the end, with a block begun or none
+-- `closed cases block`: `cases`, followed by the case of a block in progress.
 abbrev pub closed : List CaseDef → Option CaseDef → List CaseDef
 closed cases None = cases
 closed cases (Some block) = cases ++ block ∷ []
 
--- the cases at the end
+-- `finished r`: all cases if the list ends in the state `r`.
 abbrev pub finished : Read → List CaseDef
 finished r = closed r.cases r.block
 
--- where a line leads, the rest is read from there
+-- `led n step more`: the result of line `n` with this step; `more` is the result of the rest by the
+-- next state.
 abbrev pub led : ℕ → Step → (Read → Outcome) → Outcome
 led n (Wrong cause) more = Err (fault_at cause n)
 led n (To r) more = more r
 
--- what the lines from the n-th on give
+-- `read_from n r lines`: the result of the lines from line `n` on, in the state `r`.
 abbrev pub read_from : ℕ → Read → List (List ℕ) → Outcome
 read_from n r [] = Ok (finished r)
 read_from n r (line ∷ rest) = led n (step_of r line) (λ next. read_from (n + 1) next rest)
 
--- what is read before the first block
+-- `nothing_read`: the state before the first block.
 abbrev pub nothing_read : Read
 nothing_read = record { cases = []; block = None }
 
--- what the lines from the third on give
+-- `read_blocks lines`: the result of the lines from line 3 on.
 abbrev pub read_blocks : List (List ℕ) → Outcome
 read_blocks [] = Err (fault_at EmptyList 3)
 read_blocks (line ∷ rest) = read_from 3 nothing_read (line ∷ rest)
 
--- what the lines from the second on give
+-- `read_second lines`: the result of the lines from line 2 on.
 abbrev pub read_second : List (List ℕ) → Outcome
 read_second [] = Err (fault_at BadHeader 2)
 read_second (line ∷ rest) = if is_empty line then read_blocks rest else Err (fault_at BadHeader 2)
 
--- what the lines give
+-- `read_lines lines`: the result of all lines.
 abbrev pub read_lines : List (List ℕ) → Outcome
 read_lines [] = Err (fault_at BadHeader 1)
 read_lines (line ∷ rest) = if bytes_eq line header then read_second rest else Err (fault_at BadHeader 1)
 
--- what the bytes give
+-- `read_list text`: the result of the bytes `text`.
 abbrev pub read_list : List ℕ → Outcome
 read_list text = if is_utf8 text then read_lines (lines text) else Err (fault_at NotUtf8 0)
