@@ -1,16 +1,16 @@
--- Two lists of what a tree gives agree as long as the same answers come.
+-- Two lists of a tree's marks are equal up to a call with two results.
 use Rattle.std.proofs.Common.{Option, Some, None, Result, Ok, Err, Bool, ◌≡◌, ℕ, List, [], ◌∷◌, ◌++◌, refl, sym, subst, ap, ◌∙◌}
 use Rattle.kt_suite.proofs.Common.{ScriptFault, Stmt, Spells, IsDue, ReadFault, SuiteCause, NoSyntax, Script, Meaning, Program, Asked, Read, Exists, SameQuestion, fault_at, read_fault, script_line, meaning_of, opening_fault, beside, Site, site_fault, looked_up, Mark, Asks, File, Fault, Part, Says, Includes, said, suite_after, StatementsSay, none, one, FileSays, unread, no_script, no_statement, unopened, opened, Unfolds, end, says, refused, entered, TreeGives}
 use Rattle.kt_suite.specs.declared.statement.Meaning.TheVariants as meaning
 use Rattle.kt_script.proofs.OneAnswer.{two_spelled, two_due, not_both}
 
--- two lists of marks are the same as far as the same answers come
+-- `Agree ms ns`: the marks are equal up to a call with two results.
 pub data Agree : List Mark → List Mark → Type 0 where
   both_end : Agree [] []
   same_mark : (m : Mark) (ms ns : List Mark) → Agree ms ns → Agree (m ∷ ms) (m ∷ ns)
   both_ask : (q r : Asked) (ms ns : List Mark) → SameQuestion q r → (q ≡ r → Agree ms ns) → Agree (Asks q ∷ ms) (Asks r ∷ ns)
 
--- two lists of parts likewise
+-- `AgreeParts ps qs`: the parts are equal up to a call with two results.
 pub data AgreeParts : List Part → List Part → Type 0 where
   no_parts : AgreeParts [] []
   same_part : (p : Part) (ps qs : List Part) → AgreeParts ps qs → AgreeParts (p ∷ ps) (p ∷ qs)
@@ -43,7 +43,8 @@ statements_agree file suite [] _ _ (none _) (none _) = no_parts
 statements_agree file suite (stmt ∷ rest) _ _ (one _ _ _ t ps h) (one _ _ _ u qs k) =
     said_agree (record { file = file; line = stmt.line }) t u (meaning_of suite stmt.action) ps qs (statements_agree file (suite_after suite (meaning_of suite stmt.action)) rest ps qs h k)
 
--- what stands behind the question for a file's bytes
+-- `AfterStatements file stmts parts`: `parts` follow the read of `file` with the statements
+-- `stmts`.
 data AfterStatements (file : List ℕ) : List Stmt → List Part → Type 0 where
   a_none : AfterStatements file [] (Says (Fault (fault_at file 1 NoSyntax)) ∷ [])
   a_wrong : (first : Stmt) (rest : List Stmt) (cause : SuiteCause) → opening_fault first.action ≡ Some cause → AfterStatements file (first ∷ rest) (Says (Fault (fault_at file first.line cause)) ∷ [])

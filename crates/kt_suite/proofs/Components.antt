@@ -2,12 +2,12 @@
 use Rattle.std.proofs.Common.{arith, ◌≡◌, ℕ, Bool, true, false, List, [], ◌∷◌, ◌++◌, refl, ◌∙◌, cond, if◌then◌else◌, append_assoc, filter}
 use Rattle.kt_suite.proofs.Common.{join_with_byte, with_component, counts}
 
--- a path with further components
+-- `with_components path parts`: `path` with `parts` appended, unless they are empty or `.`.
 abbrev pub with_components : List ℕ → List (List ℕ) → List ℕ
 with_components path [] = path
 with_components path (part ∷ parts) = with_components (with_component path part) parts
 
--- a path and components that count
+-- `glued path parts`: `path`, followed by each of `parts` after a slash.
 abbrev glued : List ℕ → List (List ℕ) → List ℕ
 glued path [] = path
 glued path (part ∷ parts) = path ++ 47 ∷ join_with_byte 47 (part ∷ parts)
@@ -31,7 +31,7 @@ first_part [] parts true e h = absurd (cc)
 first_part (c ∷ part) parts true e h = with-glued c part parts ∙ glued-first (c ∷ part) (filter counts parts)
 first_part part parts false e h = h
 
--- a path of all its components
+-- Appending all components to an empty path joins the components that are neither empty nor `.`.
 pub with-join : (parts : List (List ℕ)) → with_components [] parts ≡ join_with_byte 47 (filter counts parts)
 with-join [] = refl
 with-join (part ∷ parts) = first_part part parts (counts part) refl (with-join parts)

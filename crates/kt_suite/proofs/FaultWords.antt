@@ -1,16 +1,16 @@
--- The words of faults as bytes.
+-- The messages of errors as bytes.
 use Rattle.std.proofs.Common.{◌≡◌, ℕ, refl}
 use Rattle.kt_suite.proofs.Common.{encode, utf8, ScriptFault, SuiteCause, fixed_words, cause_words}
 use Rattle.kt_script.specs.FaultWords.{script_words}
 use Rattle.kt_script.specs.declared.fault.ScriptFault.TheVariants as script
 use Rattle.kt_suite.specs.declared.cause.SuiteCause.TheVariants as cause
 
--- a cause without a number has these words
+-- The message of a cause without a number is its fixed message.
 pub fixed-cause : (c : SuiteCause) → ((n : ℕ) → c ≡ cause.WrongSyntax n → ⊥) → fixed_words c ≡ cause_words c
 fixed-cause (cause.WrongSyntax n) d = absurd (d n refl)
 fixed-cause c d = refl
 
--- the words are ASCII
+-- The message of a script's error is ASCII.
 pub utf8-script : (fault : ScriptFault) → utf8 (script_words fault) ≡ script_words fault
 unfolding encode
 utf8-script (script.NoMemory refusal) = refl

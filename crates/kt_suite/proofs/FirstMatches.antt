@@ -18,7 +18,7 @@ match_at : (item : Item) (filters : List Filter) (k : ℕ) (d : Filter) → k < 
     → is_match filters item k ≡ matches_item item (get_or filters k d)
 match_at item filters k d l = ap (λ (o : Option Filter). option_map_or (matches_item item) o false) (slice_get-get_or filters k d l)
 
--- without a first match none matches
+-- Without a first match, no filter matches.
 none_match : (item : Item) (filters : List Filter) → first_match filters item ≡ None
     → (list_any (matches_item item) filters ≡ false) × ((k : ℕ) → is_match filters item k ≡ false)
 none_match item [] e = (refl, λ k. refl)
@@ -30,7 +30,7 @@ none_match item (f ∷ fs) e =
       λ k. elim (cases_lt k (length (f ∷ fs))) [ inl l ↦ match_at item (f ∷ fs) k f l ∙ each k l | inr l ↦ ap (λ (o : Option Filter). option_map_or (matches_item item) o false) (slice_get_past (f ∷ fs) k l) ],
     )
 
--- the first match matches, and nothing before it
+-- The first match matches, and no filter before it matches.
 first_matches : (item : Item) (filters : List Filter) (first : ℕ) → first_match filters item ≡ Some first
     → (is_match filters item first ≡ true) × ((k : ℕ) → k < first → is_match filters item k ≡ false) × (list_any (matches_item item) filters ≡ true)
 first_matches item [] first e = absurd (let z : None ≡ Some first = e in cc)
@@ -45,18 +45,18 @@ selected_without : (filters : List Filter) (item : Item) → list_any (matches_i
 selected_without [] item e = refl
 selected_without (f ∷ fs) item e = (let z : (length (f ∷ fs) == 0) ≡ false = search rules in z) ∙ sym e
 
--- without a first match an item is selected where there is no filter, and all filters stay unmatched
+-- Without a first match, an item is selected only without filters, and all filters stay unmatched.
 pub no_match : (filters : List Filter) (item : Item) (unmatched : List ℕ) → first_match filters item ≡ None
     → ((length filters == 0) ≡ is_selected filters item) × (unmatched ≡ filter (is_miss filters item) unmatched)
 no_match filters item unmatched e =
     let none = none_match item filters e in
     (selected_without filters item none.0, sym (kept_all (is_miss filters item) (λ k. ap not (none.1 k)) unmatched))
 
--- what stands before the first match misses the item
+-- A filter before the first match does not match the item.
 pub misses_before : (filters : List Filter) (item : Item) (first place : ℕ) → place < first → first_match filters item ≡ Some first → true ≡ is_miss filters item place
 misses_before filters item first place b e = sym (ap not ((first_matches item filters first e).1 place b))
 
--- the first match doesn't
+-- The first match is not a miss.
 pub matches_first : (filters : List Filter) (item : Item) (first place : ℕ) → place ≡ first → first_match filters item ≡ Some first
     → not (nat_eq place first) ≡ is_miss filters item place
 matches_first filters item first place p e =
@@ -67,6 +67,6 @@ selected_if : (filters : List Filter) (item : Item) → list_any (matches_item i
 selected_if [] item e = refl
 selected_if (f ∷ fs) item e = e
 
--- with a first match an item is selected
+-- An item with a first match is selected.
 pub selected_with : (filters : List Filter) (item : Item) (first : ℕ) → first_match filters item ≡ Some first → true ≡ is_selected filters item
 selected_with filters item first e = sym (selected_if filters item (first_matches item filters first e).2)

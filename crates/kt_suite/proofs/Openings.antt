@@ -1,4 +1,4 @@
--- A file is asked for and opened.
+-- Reading and opening a file.
 use Rattle.std.proofs.Common.{Some, None, Result, Ok, Err, ◌≡◌, ℕ, List, ◌∷◌, length, sym, subst, ◌⊎◌, inl, inr}
 use Rattle.kt_suite.proofs.Common.{ScriptFault, Stmt, Spells, IsDue, ReadFault, SuiteCause, NoSyntax, Script, SuiteFault, Asked, Read, IsText, fault_at, read_fault, script_line, IsNoMemory, opening_fault, unread, no_script, no_statement, unopened, WellOpened, well, empty, badly, unclear, Opened, opens, declines, lacks}
 use Rattle.kt_script.specs.Faults.{IfFault}

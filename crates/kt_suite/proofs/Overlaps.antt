@@ -1,4 +1,4 @@
--- Filters that share a case.
+-- Filters that match a common case.
 use Rattle.std.proofs.Common.{arith, ◌≡◌, ℕ, true, false, List, [], ◌∷◌, ◌++◌, refl, sym, ap, ◌∙◌, Option, Some, None, ◌⊎◌, inl, inr, ◌||◌, IsTrue, bytes_eq, append-nil}
 use Rattle.kt_suite.proofs.Common.{nat_tests, append_assoc, eq-eqb, eqb-true, and_parts, and_from, Filter, is_within, IsWithin, parts_match, matches, parts_cover, covers, overlap, ShareCase}
 use Rattle.std.proofs.lemmas.Bool.{or_cases}
@@ -9,7 +9,7 @@ use Rattle.kt_base.proofs.Names.{same, same-refl}
 is_eqb : (xs ys : List ℕ) → xs ≡ ys → bytes_eq xs ys ≡ true
 is_eqb xs ys e = (bytes_eq-Decides xs ys).1 e
 
--- the path itself, and what begins with a slash
+-- A path within the empty directory is empty or begins with a slash.
 within_nil : (path : List ℕ) → is_within [] path ≡ true → (path ≡ []) ⊎ ((rest : List ℕ) × (path ≡ 47 ∷ rest))
 within_nil [] e = inl refl
 within_nil (c ∷ path) e = inr (path, ap (λ (x : ℕ). x ∷ path) (eqb-true c 47 e))
@@ -31,7 +31,7 @@ pub is-within : (directory path : List ℕ) → IsWithin directory path → IsTr
 is-within directory path (inl e) = ap (λ (p : List ℕ). is_within directory p) e ∙ within_self directory
 is-within directory path (inr m) = ap (λ (p : List ℕ). is_within directory p) m.1 ∙ within-append directory (47 ∷ m.0)
 
--- what lies within a path within a directory
+-- A path within an inner directory is within the outer directory.
 within_within : (outer inner path : List ℕ) → is_within outer inner ≡ true → is_within inner path ≡ true → is_within outer path ≡ true
 within_within outer inner path e f = is-within outer path (by (within_is outer inner e) (within_is inner path f))
   where
@@ -41,7 +41,7 @@ within_within outer inner path e f = is-within outer path (by (within_is outer i
     by (inr a) (inl b) = inr (a.0, b ∙ a.1)
     by (inr a) (inr b) = inr (a.0 ++ 47 ∷ b.0, b.1 ∙ ap (λ (p : List ℕ). p ++ 47 ∷ b.0) a.1 ∙ append_assoc outer (47 ∷ a.0) (47 ∷ b.0))
 
--- of two directories of a path one lies within the other
+-- If a path is within two directories, one of them is within the other.
 nested : (one other path : List ℕ) → is_within one path ≡ true → is_within other path ≡ true → (is_within one other || is_within other one) ≡ true
 nested [] [] path e f = refl
 nested [] (d ∷ other) [] e f = absurd (cc)
@@ -50,7 +50,7 @@ nested [] (d ∷ other) (c ∷ path) e f = grind (arith, nat_tests, e, f)
 nested (o ∷ one) [] (c ∷ path) e f = grind (arith, nat_tests, e, f)
 nested (o ∷ one) (d ∷ other) (c ∷ path) e f = grind (arith, nat_tests, nested one other path, e, f)
 
--- a case that a filter matches
+-- `own_case case`: a name of a case that a filter with this case matches.
 abbrev own_case : Option (List ℕ) → List ℕ
 own_case None = []
 own_case (Some own) = own
@@ -59,7 +59,7 @@ matches_own : (program : List ℕ) (part : Option (List ℕ)) → parts_match pr
 matches_own program None = within_self program
 matches_own program (Some own) = and_from (bytes_eq program program) (bytes_eq own own) (is_eqb program program refl) (is_eqb own own refl)
 
--- what a covered filter matches
+-- A filter matches each case that a covered filter matches.
 covered : (program : List ℕ) (part : Option (List ℕ)) (other : List ℕ) (other_part : Option (List ℕ)) (path case_name : List ℕ)
     → parts_cover program part (record { program = other; case_name = other_part }) ≡ true → parts_match other other_part path case_name ≡ true → parts_match program part path case_name ≡ true
 covered program None other None path case_name e f = within_within program other path e f
@@ -80,11 +80,11 @@ by_side : (filter other : Filter) → (covers filter other ≡ true) ⊎ (covers
 by_side filter other (inl e) = shared_by filter other e
 by_side filter other (inr e) = swapped other filter (shared_by other filter e)
 
--- filters that overlap share a case
+-- Filters that overlap match a common case.
 pub shares : (filter other : Filter) → IsTrue (overlap filter other) → ShareCase filter other
 shares filter other e = by_side filter other (or_cases (covers filter other) (covers other filter) e)
 
--- and the other way
+-- Filters that match a common case overlap.
 meet : (program : List ℕ) (part : Option (List ℕ)) (other : List ℕ) (other_part : Option (List ℕ)) (path case_name : List ℕ)
     → parts_match program part path case_name ≡ true → parts_match other other_part path case_name ≡ true
     → (parts_cover program part (record { program = other; case_name = other_part }) || parts_cover other other_part (record { program = program; case_name = part })) ≡ true

@@ -1,42 +1,42 @@
--- The filters that match no item are what the items leave of all filters.
+-- The filters that remain unmatched after all items.
 use Rattle.std.proofs.Common.{◌≡◌, ℕ, ◌+◌, suc, Bool, true, false, List, [], ◌∷◌, ◌++◌, refl, sym, ap, ◌∙◌, arith, length, slice_get, Option, ◌||◌, not}
 use Rattle.kt_suite.proofs.Common.{append_assoc, list_any, filter, Filter, Item, all_places, is_match, is_miss, matches_item, option_map_or, places, is_unmatched, unmatched_places}
 
--- the filter at a position matches none of these items
+-- `is_unmatched_at items filters place`: the filter at position `place` matches none of `items`.
 abbrev pub is_unmatched_at : List Item → List Filter → ℕ → Bool
 is_unmatched_at items filters place = not (list_any (λ item. is_match filters item place) items)
 
--- ---- what tests leave
+-- ---- filters by tests
 
--- a test that all pass
+-- A test that each element passes removes no element.
 pub kept_all : {A : Type 0} (test : A → Bool) → ((x : A) → test x ≡ true) → (xs : List A) → filter test xs ≡ xs
 kept_all test h [] = refl
 kept_all test h (x ∷ xs) = rw (h x) (ap (λ (ys : List _). x ∷ ys) (kept_all test h xs))
 
--- one test after the other
+-- Two tests in turn are one test for both.
 pub kept_both : {A : Type 0} (first second : A → Bool) (xs : List A)
     → filter (λ x. not (first x || second x)) xs ≡ filter (λ x. not (second x)) (filter (λ x. not (first x)) xs)
 kept_both first second [] = refl
 kept_both first second (x ∷ xs) = grind (arith, kept_both first second xs)
 
--- ---- places
+-- ---- positions
 
 next_place : (n k : ℕ) → (n + 1) + k ≡ n + suc k
 next_place n k = omega arith
 
--- what was found goes on with a place that passes
+-- Appending a position that passes leaves the final positions unchanged.
 pub place_taken : (test : Item → Bool) (n : ℕ) (items : List Item) (item : Item) (after : List Item) (old new all : List ℕ) → items ≡ item ∷ after → true ≡ test item → new ≡ old ++ n ∷ []
     → old ++ places test n items ≡ all → new ++ places test (n + 1) after ≡ all
 place_taken test n items item after old new all e t h w = rw (h, append_assoc) (rw (e, ← t) at w)
 
--- and without one that doesn't
+-- Skipping a position that does not pass leaves the final positions unchanged.
 pub place_passed : (test : Item → Bool) (n : ℕ) (items : List Item) (item : Item) (after : List Item) (old new all : List ℕ) → items ≡ item ∷ after → false ≡ test item → new ≡ old
     → old ++ places test n items ≡ all → new ++ places test (n + 1) after ≡ all
 place_passed test n items item after old new all e t h w = rw h (rw (e, ← t) at w)
 
--- ---- the filters that no item matches
+-- ---- the filters that match no item
 
--- the filters that no item matches, counted from a number
+-- The unmatched filters among the filters from a position on.
 unmatched_from : (items : List Item) (all : List Filter) (n : ℕ) (filters : List Filter) → ((k : ℕ) → slice_get all (n + k) ≡ slice_get filters k)
     → filter (is_unmatched_at items all) (places (λ f. true) n filters) ≡ places (is_unmatched items) n filters
 unmatched_from items all n [] at = refl
@@ -46,13 +46,13 @@ unmatched_from items all n (f ∷ rest) at =
     let later = unmatched_from items all (n + 1) rest (λ k. ap (λ (p : ℕ). slice_get all p) (next_place n k) ∙ at (suc k)) in
     rw (here, later) refl
 
--- what all items leave of all filters are the unmatched ones
+-- All items leave the filters that match no item.
 pub unmatched_of_all : (items : List Item) (filters : List Filter) (all : List ℕ) → all ≡ all_places filters → filter (is_unmatched_at items filters) all ≡ unmatched_places items filters
 unmatched_of_all items filters all e =
     ap (λ (ps : List ℕ). filter (is_unmatched_at items filters) ps) e
     ∙ unmatched_from items filters 0 filters (λ k. ap (λ (p : ℕ). slice_get filters p) (let z : 0 + k ≡ k = omega arith in z))
 
--- what one item leaves, the items after it go on with
+-- Removing the matches of one item and then of the others is removing the matches of all items.
 pub unmatched_after : (items : List Item) (filters : List Filter) (item : Item) (after : List Item) (unmatched left wanted : List ℕ) → items ≡ item ∷ after
     → left ≡ filter (is_miss filters item) unmatched → filter (is_unmatched_at items filters) unmatched ≡ wanted → filter (is_unmatched_at after filters) left ≡ wanted
 unmatched_after items filters item after unmatched left wanted e l w =
@@ -62,6 +62,6 @@ left_by_none : (items : List Item) (filters : List Filter) → length items ≡ 
 left_by_none [] filters e place = refl
 left_by_none (item ∷ items) filters e place = absurd (let z : length (item ∷ items) ≡ 0 = e in omega (arith, z))
 
--- no item leaves all
+-- Without items, no filter is removed.
 pub unmatched_at_last : (items : List Item) (filters : List Filter) (unmatched : List ℕ) → length items ≡ 0 → unmatched ≡ filter (is_unmatched_at items filters) unmatched
 unmatched_at_last items filters unmatched e = sym (kept_all (is_unmatched_at items filters) (left_by_none items filters e) unmatched)

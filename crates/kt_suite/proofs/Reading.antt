@@ -1,4 +1,4 @@
--- A file is read statement by statement.
+-- A file that is read statement by statement.
 use Rattle.std.proofs.Common.{drop, Option, None, Ok, Err, ◌≡◌, ◌-◌, ℕ, List, [], ◌∷◌, ◌++◌, length, take, ◌<◌, arith, length-append, refl, sym, subst, ap, ◌∙◌}
 use Rattle.kt_suite.proofs.Common.{append_assoc, append-nil, take_at, Stmt, SuiteFault, Meaning, Registry, Step, Enter, Asked, Read, meaning_of, Site, Mark, Asks, Part, Says, said, suite_after, StatementsSay, none, one, opened, Unfolds, end, says, Counted, Walked, through, FileGives, MeaningGives, Stepped, enters, Opened, opens}
 use Rattle.kt_suite.proofs.Counting.{counted-reading, totals}
@@ -7,19 +7,20 @@ use Rattle.kt_suite.proofs.Walking.{walked-enough, walked-reading, walked-then}
 use Rattle.kt_suite.proofs.Inclusions.{entered_below}
 use Rattle.std.proofs.lemmas.List.{nil_from_length}
 
--- a registry while a file is read
+-- `begun r file`: the registry `r` while `file` is read.
 abbrev pub begun : Registry → List ℕ → Registry
 begun r file = record r { reading = r.reading ++ file ∷ [] }
 
--- marks so far, behind which are those that the statements that are left give
+-- `ReadSoFar files file suite left front`: the marks `front`, followed by the marks of the
+-- statements `left`, are the marks of `file`.
 pub record ReadSoFar (files : List (List ℕ)) (file : List ℕ) (suite : Option (List ℕ)) (left : List Stmt) (front : List Mark) : Type 0 where
   pub goes_on : (parts : List Part) (marks : List Mark) → StatementsSay file suite left parts → Unfolds (files ++ file ∷ []) parts marks → FileGives files file (front ++ marks)
 
--- a file is read up to the statements that are left
+-- `Reading asks old new start file r suite left`: `file` was read up to the statements `left`.
 abbrev pub Reading : {T : Type 0} → (T → Asked → T → Type 0) → T → T → Registry → List ℕ → Registry → Option (List ℕ) → List Stmt → Type 0
 Reading asks old new start file r suite left = Walked asks old new (ReadSoFar start.reading file suite left) (begun start file) (Ok r)
 
--- the first statement is behind
+-- After a file is opened, only its first statement has been read.
 pub reading_first : {T : Type 0} (asks : T → Asked → T → Type 0) (old new : T) (start : Registry) (file : List ℕ) (r : Registry) (stmts left : List Stmt) (suite : Option (List ℕ)) → Opened asks old new file (Ok stmts) → r ≡ begun start file → left ≡ drop 1 stmts → suite ≡ None
     → Reading asks old new start file r suite left
 reading_first asks old new start file r _ left suite (opens text first rest h s w) e d n =
@@ -41,7 +42,7 @@ module _ {T : Type 0} (asks : T → Asked → T → Type 0) (old mid new : T) (s
   abbrev meaning : Meaning
   meaning = meaning_of suite stmt.action
 
-  -- the marks of a statement more
+  -- The marks of one more statement.
   one_more : (front marks : List Mark) → ReadSoFar start.reading file suite left front → MeaningGives r.reading at meaning marks
       → ReadSoFar start.reading file (suite_after suite meaning) rest (front ++ marks)
   one_more front marks g h = record {
@@ -53,12 +54,12 @@ module _ {T : Type 0} (asks : T → Asked → T → Type 0) (old mid new : T) (s
         (unfolds-append (start.reading ++ file ∷ []) own parts marks more unfolds u));
   }
 
-  -- a statement more is behind
+  -- One more statement was executed.
   pub reading_next : (after : Registry) (named : Option (List ℕ)) → named ≡ suite_after suite meaning → Walked asks mid new (MeaningGives r.reading at meaning) r (Ok after)
       → Reading asks old new start file after named rest
   reading_next after named n w = subst (λ (x : Option (List ℕ)). Reading asks old new start file after x rest) (sym n) (walked-then f w one_more)
 
-  -- a statement's part of the tree has the mark that decides, or memory ran out in it
+  -- A statement has the mark that decides, or an allocation failed in it.
   pub reading_stops : (fault : SuiteFault) → Walked asks mid new (MeaningGives r.reading at meaning) r (Err fault) → Walked asks old new (FileGives start.reading file) start (Err fault)
   reading_stops fault w =
       let others = some_parts file (suite_after suite meaning) rest in
@@ -68,7 +69,7 @@ module _ {T : Type 0} (asks : T → Asked → T → Type 0) (old mid new : T) (s
 without : (xs : List (List ℕ)) (x : List ℕ) → take (length (xs ++ x ∷ []) - 1) (xs ++ x ∷ []) ≡ xs
 without xs x = take_at xs (x ∷ []) (length (xs ++ x ∷ []) - 1) (omega (arith, length-append xs (x ∷ [])))
 
--- no statement is left
+-- No statement is left.
 pub reading_all : {T : Type 0} (asks : T → Asked → T → Type 0) (old new : T) (start : Registry) (file : List ℕ) (r after : Registry) (suite : Option (List ℕ)) (left : List Stmt) → length left ≡ 0
     → Reading asks old new start file r suite left → after ≡ (record r { reading = take (length r.reading - 1) r.reading })
     → Walked asks old new (FileGives start.reading file) start (Ok after)
@@ -80,7 +81,7 @@ reading_all asks old new start file _ after suite left e (through front r g c k)
     (subst (λ (x : Registry). Counted start front x) (sym (a ∙ ap (λ (xs : List (List ℕ)). record r { reading = xs }) back)) (counted-reading (begun start file) r front start.reading k))
 
 module _ {T : Type 0} (asks : T → Asked → T → Type 0) where
-  -- a file is entered with fewer files open than the most
+  -- A file is entered only if fewer files than the limit are open.
   deep : (old mid sub : T) (start : Registry) (file : List ℕ) (r next : Registry) (suite : Option (List ℕ)) (m : Meaning) (at : Site) (path : List ℕ) (left : List Stmt)
       → Reading asks old mid start file r suite left → Stepped asks mid sub r at m (Ok (Enter next path)) → 32 - length next.reading < 32 - length start.reading
   deep old mid sub start file r _ suite m at _ left f (enters path p e n s) =

@@ -1,10 +1,10 @@
--- The root is read, and what was counted decides.
+-- The root is read, and the counted marks decide the result.
 use Rattle.std.proofs.Common.{Result, Ok, Err, ◌≡◌, ◌≤◌, ◌+◌, ℕ, List, [], ◌∷◌, ◌++◌, length, arith, refl, sym, subst, ap, ◌⊎◌, inl, inr}
 use Rattle.kt_suite.proofs.Common.{append-nil, SuiteFault, Program, Registry, Asked, Answered, Site, Mark, File, Includes, end, entered, TreeGives, program_limit, Outcome, questions_in, files_in, programs_in, IsUndecided, Decides, Unfinished, Registered, all, stopped, Counted, Walked, through, stops, short, FileGives}
 use Rattle.kt_suite.proofs.Counting.{totals}
 use Rattle.kt_suite.proofs.Unfolding.{unfolds_to}
 
--- what is counted as the root is read
+-- `root_counted`: the registry before the root is read.
 abbrev pub root_counted : Registry
 root_counted = record { reading = []; files = 1; programs = [] }
 
@@ -23,7 +23,7 @@ undecided root after marks c =
     let little = t.few_programs (omega arith) in
     record { faultless = t.faultless; files = omega (arith, t.files, few); programs = omega (arith, ap (λ (ps : List Program). length ps) t.programs, little) }
 
--- the answer for the tree, by what its root came to
+-- `answered result`: the result for the tree, by the result of its root.
 abbrev pub answered : Result Registry SuiteFault → Outcome
 answered (Ok r) = Ok r.programs
 answered (Err fault) = Err fault

@@ -1,9 +1,10 @@
--- A tree that doesn't change has one meaning.
+-- A tree that does not change has one result.
 use Rattle.std.proofs.Common.{Option, Some, None, Ok, Err, ◌≡◌, ◌≤◌, ◌<◌, ◌+◌, ℕ, List, [], ◌∷◌, ◌++◌, length, arith, refl, sym, subst, ap, ◌∙◌}
 use Rattle.kt_suite.proofs.Common.{Contains, Contains-push, Contains-append_left, Contains-append_right, SuiteFault, Program, Asked, SameQuestion, IsSteady, Site, Mark, Asks, File, Listed, Fault, TreeGives, file_limit, program_limit, Outcome, questions_in, files_in, programs_in, faults_in, Decides, is_fault, file_too_many, program_too_many, Registered, all, stopped}
 use Rattle.kt_suite.proofs.Agreement.{Agree, both_end, same_mark, both_ask, trees_agree}
 
--- marks up to the one that decides, behind so many files and programs: the questions, the programs and the fault
+-- `Cut files programs marks asked listed fault`: the calls, the programs and the error of `marks`
+-- up to the mark that decides, after this number of files and programs.
 data Cut : ℕ → ℕ → List Mark → List Asked → List Program → Option SuiteFault → Type 0 where
   c_end : (n k : ℕ) → Cut n k [] [] [] None
   c_asks : (n k : ℕ) (q : Asked) (ms : List Mark) (qs : List Asked) (ps : List Program) (f : Option SuiteFault) → Cut n k ms qs ps f → Cut n k (Asks q ∷ ms) (q ∷ qs) ps f
@@ -15,7 +16,7 @@ abbrev pub outcome_of : List Program → Option SuiteFault → Outcome
 outcome_of ps None = Ok ps
 outcome_of ps (Some fault) = Err fault
 
--- where two lists of answers come to the same question at the same place, it has one answer
+-- `Alike qs rs`: the same call at the same position has the same result in both lists.
 abbrev Alike : List Asked → List Asked → Type 0
 Alike [] rs = Unit {0}
 Alike (q ∷ qs) [] = Unit {0}
@@ -83,7 +84,7 @@ cut_front n k (File at ∷ ms) back m fault u v a b e f p d = let c = cut_front 
 cut_front n k (Listed at x ∷ ms) back m fault u v a b e f p d = let c = cut_front n (k + 1) ms back m fault u v a (omega (arith, b)) e f p d in (x ∷ c.0, c_listed n k at x _ _ _ _ (omega (arith, b, p)) c.1)
 cut_front n k (Fault x ∷ ms) back m fault u v a b e f p d = absurd (cc)
 
--- what is registered comes from a cut of what the tree gives
+-- `Comes asked root result`: `result` comes from a cut of the marks of the tree of `root`.
 data Comes (asked : List Asked) (root : List ℕ) : Outcome → Type 0 where
   comes : (ms : List Mark) (ps : List Program) (f : Option SuiteFault) → TreeGives root ms → Cut 0 0 ms asked ps f → Comes asked root (outcome_of ps f)
 

@@ -1,8 +1,8 @@
--- The pairs of a table are taken one by one.
+-- The pairs of a table, one by one.
 use Rattle.std.proofs.Common.{Option, Some, None, Result, Ok, Err, ◌≡◌, List, [], ◌∷◌, ◌++◌, arith, sym, ap, ◌∙◌}
 use Rattle.kt_suite.proofs.Common.{append_assoc, Variable, Pair, SuiteCause, ProgramTable, table_with, option_or, definition, definitions, pair_fault, first_fault, table_of, unless, declared}
 
--- none of the pairs so far is refused, and they are what was found
+-- `TableSoFar found rest pairs`: no pair before `rest` is rejected, and `found` is their table.
 pub record TableSoFar (found : ProgramTable) (rest pairs : List Pair) : Type 0 where
   pub before : List Variable
   pub is : found ≡ table_of before
@@ -15,7 +15,7 @@ ok_unless fault next table e = (grind (arith, e), grind (arith, e))
 err_unless : (fault : Option SuiteCause) (cause : SuiteCause) (table : ProgramTable) → ◌≡◌ {A = Result ProgramTable SuiteCause} (Err cause) (unless fault table) → fault ≡ Some cause
 err_unless fault cause table e = grind (arith, e)
 
--- the faults of the pairs that are left, the next of them first
+-- The first error of the remaining pairs is the error of the next pair, or else of the others.
 left_fault : (pair : Pair) (after rest pairs : List Pair) → rest ≡ pair ∷ after → first_fault (definitions rest) ≡ first_fault (definitions pairs)
     → option_or (pair_fault (definition pair)) (first_fault (definitions after)) ≡ first_fault (definitions pairs)
 left_fault pair after rest pairs e f = ap (λ (ps : List Pair). first_fault (definitions ps)) (sym e) ∙ f

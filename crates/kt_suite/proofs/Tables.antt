@@ -1,4 +1,4 @@
--- A table with one definition more.
+-- A table with one more definition.
 use Rattle.std.proofs.Common.{codes, cond, Option, Some, None, Result, Ok, if◌then◌else◌, ◌≡◌, ℕ, Bool, true, false, List, [], ◌∷◌, ◌++◌, bytes_eq, refl, sym, ap, ◌∙◌, subst}
 use Rattle.kt_suite.proofs.Common.{filter, option_or, append-nil, filter-append, Variable, Pair, text_of, SuiteCause, ProgramTable, key_named, props_with, with_props, table_with, definition, is_property, value_cause, key_fault, pair_fault, table_of, unless}
 use Rattle.kt_base.specs.LastValues.{value_of, last_values}
@@ -7,15 +7,15 @@ use Rattle.kt_metadata.specs.Properties.{is_kyuafile_property, definition_fault}
 use Rattle.kt_suite.specs.declared.table.Key.{Key}
 use Rattle.kt_suite.specs.declared.table.Key.TheVariants as key
 
--- the properties in two lists
+-- The properties of two lists are the properties of each.
 properties-append : (pairs more : List Variable) → filter is_property (pairs ++ more) ≡ filter is_property pairs ++ filter is_property more
 properties-append pairs more = filter-append is_property pairs more
 
--- a name that isn't a word has no value for it
+-- A pair with another name has no value for a keyword.
 other_value : (word : List ℕ) (pair : Variable) → bytes_eq pair.name word ≡ false → value_of word (pair ∷ []) ≡ None
 other_value word pair e = ap (λ (b : Bool). option_or None (if b then Some pair.value else None)) (same-flip word pair.name ∙ e)
 
--- what a key says of its name
+-- `KeySays name key`: the facts about a name whose key is of the kind `key`.
 abbrev KeySays : List ℕ → Key → Type 0
 KeySays n key.Name = n ≡ codes "name"
 KeySays n key.TestSuite = n ≡ codes "test_suite"
@@ -33,20 +33,20 @@ key_says n k is =
     by false false true e f g = (e, f, g)
     by false false false e f g = tt
 
--- the parts of a table with a definition more
+-- The three parts of a table with one more definition.
 three_parts : (before : List Variable) (pair : Variable) (name suite : Option (List ℕ)) (props : List Variable)
     → value_of (codes "name") (before ++ pair ∷ []) ≡ name → value_of (codes "test_suite") (before ++ pair ∷ []) ≡ suite → filter is_property (before ++ pair ∷ []) ≡ props
     → table_of (before ++ pair ∷ []) ≡ record { name = name; suite = suite; props = last_values props }
 three_parts before pair name suite props n s p = rw (n, s, p) refl
 
--- a name more
+-- A name is added.
 push_name : (before : List Variable) (text : List ℕ) → table_of (before ++ (record { name = codes "name"; value = text }) ∷ []) ≡ record (table_of before) { name = Some text }
 push_name before text =
     let pair : Variable = record { name = codes "name"; value = text } in
     three_parts before pair (Some text) (value_of (codes "test_suite") before) (filter is_property before) (value_of-append (codes "name") before (pair ∷ [])) (value_of-append (codes "test_suite") before (pair ∷ []))
     (properties-append before (pair ∷ []) ∙ append-nil (filter is_property before))
 
--- a suite more
+-- A test suite is added.
 push_suite : (before : List Variable) (text : List ℕ) → table_of (before ++ (record { name = codes "test_suite"; value = text }) ∷ []) ≡ record (table_of before) { suite = Some text }
 push_suite before text =
     let pair : Variable = record { name = codes "test_suite"; value = text } in
@@ -56,7 +56,7 @@ push_suite before text =
 one_kept : (p : Variable → Bool) (pair : Variable) → p pair ≡ true → filter p (pair ∷ []) ≡ pair ∷ []
 one_kept p pair e = ap (λ (b : Bool). cond b (pair ∷ []) []) e
 
--- a property more
+-- A property is added.
 push_property : (before : List Variable) (pair : Variable) → (bytes_eq pair.name (codes "name") ≡ false) × (bytes_eq pair.name (codes "test_suite") ≡ false) × (is_kyuafile_property pair.name ≡ true)
     → table_of (before ++ pair ∷ []) ≡ record (table_of before) { props = last_values (filter is_property before ++ pair ∷ []) }
 push_property before pair k =
@@ -65,7 +65,7 @@ push_property before pair k =
     (value_of-append (codes "test_suite") before (pair ∷ []) ∙ ap (λ (o : Option (List ℕ)). option_or o (value_of (codes "test_suite") before)) (other_value (codes "test_suite") pair k.1))
     (properties-append before (pair ∷ []) ∙ ap (λ (ps : List Variable). filter is_property before ++ ps) (one_kept is_property pair k.2))
 
--- a definition with this key
+-- A definition is added by the kind of its key.
 by_key : (before : List Variable) (pair : Variable) (k : Key) (table : ProgramTable) → k ≡ key_named pair.name → table_of (before ++ pair ∷ []) ≡ table → unless (key_fault k pair) table ≡ table_with before pair
 by_key before pair k table e t = ap (λ (x : Key). unless (key_fault x pair) table) e ∙ ap (λ (x : ProgramTable). unless (pair_fault pair) x) (sym t)
 

@@ -1,4 +1,4 @@
--- The calls and keys that a Kyuafile knows by name.
+-- The calls of a Kyuafile and the keys of its tables, by their names.
 use Rattle.std.specs.Prelude.{ℕ, List, [], ◌∷◌, codes, bytes_eq, if◌then◌else◌, unwrap_or}
 use Rattle.kt_base.specs.Words.{named}
 use Rattle.kt_base.specs.declared.child.Interface.TheVariants.{Atf, Tap, Plain}
@@ -8,7 +8,7 @@ use Rattle.kt_suite.specs.declared.call.Call.TheVariants as call
 use Rattle.kt_suite.specs.declared.table.Key.{Key}
 use Rattle.kt_suite.specs.declared.table.Key.TheVariants as key
 
--- the calls by their names
+-- `calls`: the kinds of calls with their names.
 abbrev pub calls : List (List ℕ × Call)
 calls =
     (codes "syntax", call.Syntax)
@@ -18,11 +18,11 @@ calls =
     ∷ (codes "tap_test_program", call.Program Tap)
     ∷ (codes "plain_test_program", call.Program Plain) ∷ []
 
--- what a call of this name asks for
+-- `call_named name`: the kind of the call `name`.
 abbrev pub call_named : List ℕ → Call
 call_named name = unwrap_or (named calls name) call.Unknown
 
--- what a key of this name declares of a program
+-- `key_named name`: the kind of the key `name` in the table of a program.
 abbrev pub key_named : List ℕ → Key
 key_named name =
     if bytes_eq name (codes "name") then key.Name

@@ -1,4 +1,4 @@
--- The words that the clauses of this crate cite, passed on from one place. Declares nothing.
+-- The names that the clauses of this crate cite, passed on from one place. Declares nothing.
 pub use Rattle.std.specs.List.{list_all, list_any, slice_split}
 pub use Rattle.std.specs.Option.{option_eq}
 pub use Rattle.std.specs.Str.{bytes_eq}

@@ -1,45 +1,48 @@
--- Which filters share a case.
+-- Filters that match a common case.
 use Rattle.std.specs.Prelude.{ℕ, ◌≡◌, ◌<◌, Bool, ◌&&◌, ◌||◌, IsTrue, List, Option, Some, None, take, find, slice_get, option_map, option_and_then, bytes_eq, if◌then◌else◌}
 use Rattle.std.specs.Option.{option_eq}
 use Rattle.kt_suite.specs.Types.{Filter, FilterFault}
 use Rattle.kt_suite.specs.declared.filter.FilterFault.TheVariants.{Repeated, NotDisjoint}
 use Rattle.kt_suite.specs.Matching.{is_within, matches}
 
--- two filters are the same
+-- `is_same_filter filter other`: the filters are equal.
 abbrev pub is_same_filter : Filter → Filter → Bool
 is_same_filter filter other = bytes_eq filter.program other.program && option_eq bytes_eq filter.case_name other.case_name
 
--- without a case part all filters of programs within the path are covered, else only the same filter
+-- `parts_cover program case other`: the filter of `program` and `case` matches each case that
+-- `other` matches.
 abbrev pub parts_cover : List ℕ → Option (List ℕ) → Filter → Bool
 parts_cover program None other = is_within program other.program
 parts_cover program (Some own) other = bytes_eq program other.program && option_eq bytes_eq (Some own) other.case_name
 
--- the first filter matches all that the second matches
+-- `covers filter other`: `filter` matches each case that `other` matches.
 abbrev pub covers : Filter → Filter → Bool
 covers filter other = parts_cover filter.program filter.case_name other
 
--- one of two filters covers the other
+-- `overlap filter other`: one of the filters matches each case that the other matches.
 abbrev pub overlap : Filter → Filter → Bool
 overlap filter other = covers filter other || covers other filter
 
--- two filters match the same case of some program
+-- `ShareCase filter other`: both filters match a common case of some program.
 abbrev pub ShareCase : Filter → Filter → Type 0
 ShareCase filter other = (path case_name : List ℕ) × IsTrue (matches filter path case_name) × IsTrue (matches other path case_name)
 
--- what is wrong with the filter at a position that overlaps with an earlier one
+-- `clash position filter earlier`: the error of `filter` at `position`, which overlaps with
+-- `earlier`.
 abbrev pub clash : ℕ → Filter → Filter → FilterFault
 clash position filter earlier = if is_same_filter filter earlier then Repeated position else NotDisjoint position
 
--- what is wrong with the filter at a position: the first filter before it that it overlaps with decides
+-- `overlap_fault filters position`: the error of the filter at `position`, by the first earlier
+-- filter that it overlaps with.
 abbrev pub overlap_fault : List Filter → ℕ → Option FilterFault
 overlap_fault filters position =
     option_and_then (λ filter. option_map (clash position filter) (find (overlap filter) (take position filters))) (slice_get filters position)
 
--- nothing is wrong with any filter
+-- `IsDisjoint filters`: no filter overlaps with an earlier filter.
 abbrev pub IsDisjoint : List Filter → Type 0
 IsDisjoint filters = (position : ℕ) → overlap_fault filters position ≡ None
 
--- this is wrong at some position, and nothing before
+-- `IsFirstFault filters fault`: `fault` is the error at the first position that has an error.
 abbrev pub IsFirstFault : List Filter → FilterFault → Type 0
 IsFirstFault filters fault =
     (position : ℕ) × (overlap_fault filters position ≡ Some fault) × ((before : ℕ) → before < position → overlap_fault filters before ≡ None)

@@ -1,4 +1,4 @@
--- The words of faults, as their lines have them.
+-- The messages of errors.
 use Rattle.std.specs.Prelude.{ℕ, List, [], ◌++◌, codes}
 use Rattle.std.specs.Fmt.{decimal}
 use Rattle.kt_suite.specs.Types.{FilterFault, ReadFault, SuiteCause, SuiteFault}
@@ -9,7 +9,7 @@ use Rattle.kt_suite.specs.declared.tree.ReadFault.TheVariants as read
 use Rattle.kt_suite.specs.declared.selecting.SelectFault.{SelectFault}
 use Rattle.kt_suite.specs.declared.selecting.SelectFault.TheVariants as select
 
--- the words of a cause without a number
+-- `fixed_words cause`: the message of a cause without a number.
 abbrev pub fixed_words : SuiteCause → List ℕ
 fixed_words (cause.NoMemory refusal) = codes "out of memory"
 fixed_words cause.NoSyntax = codes "syntax(2) expected"
@@ -27,25 +27,26 @@ fixed_words cause.Unreadable = codes "file could not be read"
 fixed_words cause.TooMany = codes "too many programs or files"
 fixed_words (cause.Script fault) = script_words fault
 
--- the words of a cause
+-- `cause_words cause`: the message of `cause`.
 abbrev pub cause_words : SuiteCause → List ℕ
 cause_words (cause.WrongSyntax n) = codes "syntax " ++ decimal n ++ codes " not supported"
 cause_words other = fixed_words other
 
--- a file, a line and the words of a cause
+-- `placed_words fault`: the file, the line and the message of the cause.
 abbrev pub placed_words : SuiteFault → List ℕ
 placed_words fault = fault.path ++ codes ":" ++ decimal fault.line ++ codes ": " ++ cause_words fault.cause
 
--- the words of a fault by its cause: an out-of-memory fault has no place
+-- `words_by cause fault`: the message of `fault`, whose cause is `cause`; `NoMemory` has no file
+-- and no line.
 abbrev pub words_by : SuiteCause → SuiteFault → List ℕ
 words_by (cause.NoMemory refusal) fault = codes "out of memory"
 words_by _ fault = placed_words fault
 
--- the words of a fault
+-- `fault_words fault`: the message of `fault`.
 abbrev pub fault_words : SuiteFault → List ℕ
 fault_words fault = words_by fault.cause fault
 
--- the words of a filter's fault
+-- `filter_words fault`: the message of a filter's error.
 abbrev pub filter_words : FilterFault → List ℕ
 filter_words (filter.NoMemory refusal) = codes "out of memory"
 filter_words filter.Empty = codes "empty"
@@ -54,12 +55,12 @@ filter_words filter.EmptyCase = codes "empty case"
 filter_words (filter.Repeated position) = codes "repeated"
 filter_words (filter.NotDisjoint position) = codes "not disjoint"
 
--- why nothing was selected
+-- `select_words fault`: the message of a selection's error.
 abbrev pub select_words : SelectFault → List ℕ
 select_words (select.NoMemory refusal) = codes "out of memory"
 select_words select.TooMany = codes "too many cases"
 
--- why a file could not be read
+-- `read_words fault`: the message of a read's error.
 abbrev pub read_words : ReadFault → List ℕ
 read_words read.Missing = codes "no such file"
 read_words read.Failed = codes "file could not be read"

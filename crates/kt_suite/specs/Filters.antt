@@ -1,4 +1,4 @@
--- What a text says as a filter.
+-- The meaning of a text as a filter.
 use Rattle.std.specs.Prelude.{ℕ, ◌≡◌, Bool, not, ◌==◌, ◌&&◌, List, [], ◌∷◌, Option, Some, None, Result, Ok, Err, filter, bytes_eq, codes, if◌then◌else◌}
 use Rattle.std.specs.List.{slice_split, join_with_byte}
 use Rattle.kt_suite.specs.Types.{Filter, FilterFault}
@@ -6,48 +6,49 @@ use Rattle.kt_suite.specs.declared.filter.FilterFault.TheVariants.{NoMemory, Emp
 use Rattle.kt_base.specs.Characters.{is_slash}
 use Rattle.kt_base.specs.Texts.{is_empty, before, after}
 
--- a component counts if it is neither empty nor `.`
+-- `counts component`: `component` is neither empty nor `.`.
 abbrev pub counts : List ℕ → Bool
 counts component = not (is_empty component) && not (bytes_eq component (codes "."))
 
--- the components of a path that count
+-- `components path`: the components of `path` that are neither empty nor `.`.
 abbrev pub components : List ℕ → List (List ℕ)
 components path = filter counts (slice_split is_slash path)
 
--- a path with single slashes and without `.`
+-- `plain_path path`: `path` without components that are empty or `.`.
 abbrev pub plain_path : List ℕ → List ℕ
 plain_path path = join_with_byte 47 (components path)
 
--- a case part may not be empty
+-- `case_fault case_name`: the error if there is a case and its name is empty.
 abbrev pub case_fault : Option (List ℕ) → Option FilterFault
 case_fault None = None
 case_fault (Some name) = if is_empty name then Some EmptyCase else None
 
--- the first thing that is wrong with the two parts of a filter as they are written
+-- `parts_fault path case_name`: the first error in the path and the case of a filter, as they are
+-- written.
 abbrev pub parts_fault : List ℕ → Option (List ℕ) → Option FilterFault
 parts_fault [] case_name = Some Empty
 parts_fault (c ∷ path) case_name = if c == 47 then Some Absolute else case_fault case_name
 
--- a filter, or why a text is none
+-- `Meaning`: a filter, or the error of a text that isn't a filter.
 abbrev pub Meaning : Type 0
 Meaning = Result Filter FilterFault
 
--- a filter has a component
+-- `filter_of path case_name`: the filter of `path`, which may not be empty, and `case_name`.
 abbrev pub filter_of : List ℕ → Option (List ℕ) → Meaning
 filter_of [] case_name = Err Empty
 filter_of (c ∷ path) case_name = Ok (record { program = c ∷ path; case_name = case_name })
 
--- what was wrong before decides
+-- `unless_wrong fault meaning`: `fault` if there is an error, else `meaning`.
 abbrev pub unless_wrong : Option FilterFault → Meaning → Meaning
 unless_wrong None meaning = meaning
 unless_wrong (Some fault) meaning = Err fault
 
--- what a text says as a filter, by its parts before and after the first colon
+-- `filter_meaning text`: the filter that `text` represents, or its first error.
 abbrev pub filter_meaning : List ℕ → Meaning
 filter_meaning text =
     unless_wrong (parts_fault (before 58 text) (after 58 text)) (filter_of (plain_path (before 58 text)) (after 58 text))
 
--- memory ran out, or this was answered
+-- `Answers result meaning`: `result` is `meaning`, or an allocation failed.
 abbrev pub Answers : Result Filter FilterFault → Meaning → Type 0
 Answers (Err (NoMemory refusal)) meaning = Unit {0}
 Answers found meaning = found ≡ meaning

@@ -1,3 +1,3 @@
--- What the crate's own functions do: cited only by private functions.
+-- Definitions for private functions. No public clause cites them.
 pub mod Steps
 pub mod Walks

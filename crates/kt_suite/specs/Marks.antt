@@ -1,4 +1,4 @@
--- What is met as a tree of Kyuafiles is read, in order.
+-- Marks: the events of reading a tree of Kyuafiles, in order.
 use Rattle.std.specs.Prelude.{ℕ, Bool, true, false, List, [], ◌∷◌, ◌++◌, ◌≡◌, length, nat_le, bytes_eq, Option, Some, None, Ok, Err, if◌then◌else◌}
 use Rattle.std.specs.List.{list_any}
 use Rattle.kt_suite.specs.Types.{IncludeLoop, Meaning, MissingProgram, NoSyntax, Program, ReadFault, Script, ScriptFault, Stmt, SuiteCause, SuiteFault, TooDeep}
@@ -9,37 +9,40 @@ use Rattle.kt_suite.specs.Faults.{fault_at, read_fault, script_line}
 use Rattle.kt_suite.specs.Meanings.{meaning_of, opening_fault}
 use Rattle.kt_suite.specs.Paths.{beside}
 
--- the most files of which each includes the next
+-- `depth_limit`: the maximum number of open files, each included by the file before.
 abbrev pub depth_limit : ℕ
 depth_limit = 32
 
--- where a statement stands
+-- `Site`: the file and the line of a statement.
 pub record Site : Type 0 where
   pub file : List ℕ
   pub line : ℕ
 
--- a fault of a statement
+-- `site_fault at cause`: the error with the cause `cause` in the statement at `at`.
 abbrev pub site_fault : Site → SuiteCause → SuiteFault
 site_fault at cause = fault_at at.file at.line cause
 
--- what is met: a question with its answer, a file that is to be read, a program, a fault
+-- `Mark`: an event of reading a tree: a call with its result, a file to read, a program, or an
+-- error.
 pub data Mark : Type 0 where
   Asks : Asked → Mark
   File : Site → Mark
   Listed : Site → Program → Mark
   Fault : SuiteFault → Mark
 
--- a part of what one file says: a mark, or an include of the file with this path
+-- `Part`: a part of one file's events: a mark, or an include of the file at this path.
 pub data Part : Type 0 where
   Says : Mark → Part
   Includes : Site → List ℕ → Part
 
--- a program that a statement registers is there or missing
+-- `looked_up at program there`: the mark of a program that a statement registers; `there`: a file
+-- is at its path.
 abbrev pub looked_up : Site → Program → Bool → Mark
 looked_up at program true = Listed at program
 looked_up at program false = Fault (site_fault at MissingProgram)
 
--- a statement says this by its meaning, and by whether its program is there
+-- `said at there meaning`: the parts of a statement with this meaning; `there`: a file is at the
+-- path of its program.
 abbrev pub said : Site → Bool → Meaning → List Part
 said at there (meaning.Wrong cause) = Says (Fault (site_fault at cause)) ∷ []
 said at there (meaning.Suite name) = []
@@ -48,12 +51,14 @@ said at there (meaning.Program interface name suite props) =
     Says (Asks (Exists (beside at.file name) there))
     ∷ Says (looked_up at (record { interface = interface; path = beside at.file name; suite = suite; props = props }) there) ∷ []
 
--- the suite of the programs after a statement
+-- `suite_after suite meaning`: the test suite of the programs after a statement; `suite` is the
+-- test suite before it.
 abbrev pub suite_after : Option (List ℕ) → Meaning → Option (List ℕ)
 suite_after suite (meaning.Suite name) = Some name
 suite_after suite other = suite
 
--- what the statements of a file say, if it has named this suite so far
+-- `StatementsSay file suite stmts parts`: the statements `stmts` of `file` have the parts `parts`;
+-- `suite` is the test suite before them.
 pub data StatementsSay (file : List ℕ) : Option (List ℕ) → List Stmt → List Part → Type 0 where
   none : (suite : Option (List ℕ)) → StatementsSay file suite [] []
   one : (suite : Option (List ℕ)) (stmt : Stmt) (rest : List Stmt) (there : Bool) (parts : List Part)
@@ -61,7 +66,7 @@ pub data StatementsSay (file : List ℕ) : Option (List ℕ) → List Stmt → L
       → StatementsSay file suite (stmt ∷ rest)
       (said (record { file = file; line = stmt.line }) there (meaning_of suite stmt.action) ++ parts)
 
--- what a file says by itself, under an answer to the question for its bytes
+-- `FileSays file parts`: `file` has the parts `parts`, for some result of reading it.
 pub data FileSays (file : List ℕ) : List Part → Type 0 where
   unread : (why : ReadFault)
       → FileSays file (Says (Asks (Read file (Err why))) ∷ Says (Fault (read_fault file why)) ∷ [])
@@ -76,13 +81,15 @@ pub data FileSays (file : List ℕ) : List Part → Type 0 where
       → Spells text (first ∷ rest) → opening_fault first.action ≡ None → StatementsSay file None rest parts
       → FileSays file (Says (Asks (Read file (Ok text))) ∷ parts)
 
--- why a file isn't included while these are open, the root first: it is one of them, or they are 32
+-- `entry_fault files path`: the cause why `path` can't be included while `files` are open: it is
+-- one of them, or they are 32.
 abbrev pub entry_fault : List (List ℕ) → List ℕ → Option SuiteCause
 entry_fault files path =
     if list_any (bytes_eq path) files then Some IncludeLoop
     else if nat_le depth_limit (length files) then Some TooDeep else None
 
--- an include stands for its fault, or for a file and all that this file gives; `files` are the open ones
+-- `Unfolds files parts marks`: `marks` are `parts` while `files` are open, with each include
+-- replaced by its error, or by a file and its marks.
 pub data Unfolds : List (List ℕ) → List Part → List Mark → Type 0 where
   end : (files : List (List ℕ)) → Unfolds files [] []
   says : (files : List (List ℕ)) (mark : Mark) (parts : List Part) (marks : List Mark)
@@ -95,6 +102,6 @@ pub data Unfolds : List (List ℕ) → List Part → List Mark → Type 0 where
       → entry_fault files path ≡ None → FileSays path own → Unfolds (files ++ path ∷ []) own inner → Unfolds files parts marks
       → Unfolds files (Includes at path ∷ parts) (File at ∷ (inner ++ marks))
 
--- what a tree gives: its root is included by no other file
+-- `TreeGives root marks`: reading the tree with the root Kyuafile `root` has the marks `marks`.
 abbrev pub TreeGives : List ℕ → List Mark → Type 0
 TreeGives root marks = Unfolds [] (Includes (record { file = root; line = 0 }) root ∷ []) marks

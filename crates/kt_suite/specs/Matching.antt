@@ -1,27 +1,29 @@
--- Which cases a filter matches.
+-- The cases that a filter matches.
 use Rattle.std.specs.Prelude.{ℕ, ◌≡◌, Bool, true, false, ◌==◌, ◌&&◌, ◌⊎◌, IsTrue, List, [], ◌∷◌, ◌++◌, Option, Some, None, bytes_eq}
 use Rattle.kt_suite.specs.Types.{Filter}
 
--- whether a path is this directory or goes on after it with a slash
+-- `is_within directory path`: `path` is `directory`, or begins with `directory` and a slash.
 abbrev pub is_within : List ℕ → List ℕ → Bool
 is_within [] [] = true
 is_within [] (c ∷ path) = c == 47
 is_within (d ∷ directory) [] = false
 is_within (d ∷ directory) (c ∷ path) = d == c && is_within directory path
 
--- a path is this directory or goes on after it with a slash, as a fact
+-- `IsWithin directory path`: `path` is `directory`, or begins with `directory` and a slash, as a
+-- fact.
 abbrev pub IsWithin : List ℕ → List ℕ → Type 0
 IsWithin directory path = (path ≡ directory) ⊎ ((rest : List ℕ) × (path ≡ directory ++ 47 ∷ rest))
 
--- without a case part the program and all programs under it, else this case of this program
+-- `parts_match program case path case_name`: the filter of `program` and `case` matches the case
+-- `case_name` of the program `path`.
 abbrev pub parts_match : List ℕ → Option (List ℕ) → List ℕ → List ℕ → Bool
 parts_match program None path case_name = is_within program path
 parts_match program (Some own) path case_name = bytes_eq path program && bytes_eq case_name own
 
--- a filter matches a case of a program
+-- `matches filter path case_name`: `filter` matches the case `case_name` of the program `path`.
 abbrev pub matches : Filter → List ℕ → List ℕ → Bool
 matches filter path case_name = parts_match filter.program filter.case_name path case_name
 
--- a filter matches some case that a program could have
+-- `MayMatch filter path`: `filter` matches some case that the program `path` could have.
 abbrev pub MayMatch : Filter → List ℕ → Type 0
 MayMatch filter path = (case_name : List ℕ) × IsTrue (matches filter path case_name)

@@ -1,4 +1,4 @@
--- What one statement of a Kyuafile means, before the tree is asked.
+-- The meaning of one statement of a Kyuafile, which does not depend on the files of the tree.
 use Rattle.std.specs.Prelude.{ℕ, List, ◌==◌, Option, Some, None, Result, Ok, Err, if◌then◌else◌}
 use Rattle.kt_suite.specs.Types.{BadInclude, BadValue, Meaning, NoSuite, NoSyntax, PathHasDirectory, ProgramTable, SuiteCause, UnknownCall, Variable, WrongSyntax}
 use Rattle.kt_base.specs.declared.child.Interface.{Interface}
@@ -16,34 +16,37 @@ use Rattle.kt_suite.specs.Tables.{declared}
 use Rattle.kt_suite.specs.Paths.{has_directory, leads_down}
 use Rattle.kt_base.specs.Texts.{is_empty}
 
--- the argument of `syntax` is refused for this
+-- `version_fault arg`: the cause why `arg` is not an argument of `syntax`.
 abbrev pub version_fault : Arg → Option SuiteCause
 version_fault (Value (Number n)) = if n == 2 then None else Some (WrongSyntax n)
 version_fault other = Some BadValue
 
--- a call that stands first is refused for this
+-- `first_call_fault call arg`: the cause why a file may not begin with `call`.
 abbrev pub first_call_fault : CallKind → Arg → Option SuiteCause
 first_call_fault call.Syntax arg = version_fault arg
 first_call_fault other arg = Some NoSyntax
 
--- a first statement is refused for this; `syntax(2)` isn't
+-- `opening_fault action`: the cause why a file may not begin with `action`; `syntax(2)` has none.
 abbrev pub opening_fault : Action → Option SuiteCause
 opening_fault (Call name arg) = first_call_fault (call_named name) arg
 opening_fault (Assign parts value) = Some NoSyntax
 
--- `test_suite` names the suite from here on, by a text that isn't empty
+-- `suite_meaning arg`: the meaning of `test_suite` with the argument `arg`, whose text may not be
+-- empty.
 abbrev pub suite_meaning : Arg → Meaning
 suite_meaning (Value v) = if is_empty (text_of v) then meaning.Wrong BadValue else meaning.Suite (text_of v)
 suite_meaning (Table pairs) = meaning.Wrong BadValue
 
--- the program's own suite, else the file's
+-- `suited interface name file own props`: the meaning of a program with its own test suite, or else
+-- the test suite of the file.
 abbrev pub suited : Interface → List ℕ → Option (List ℕ) → Option (List ℕ) → List Variable → Meaning
 suited interface name file (Some own) props =
     if is_empty own then meaning.Wrong BadValue else meaning.Program interface name own props
 suited interface name (Some suite) None props = meaning.Program interface name suite props
 suited interface name None None props = meaning.Wrong NoSuite
 
--- a name is there, isn't empty and has no directory
+-- `named interface file own props name`: the meaning of a program, whose name may not be missing,
+-- empty or lead out of its directory.
 abbrev pub named : Interface → Option (List ℕ) → Option (List ℕ) → List Variable → Option (List ℕ) → Meaning
 named interface file own props None = meaning.Wrong BadValue
 named interface file own props (Some name) =
@@ -51,29 +54,32 @@ named interface file own props (Some name) =
     else if has_directory name then meaning.Wrong PathHasDirectory
     else suited interface name file own props
 
--- a program by what its table declares
+-- `declared_meaning interface file table`: the meaning of a program by the declarations of its
+-- table.
 abbrev pub declared_meaning : Interface → Option (List ℕ) → Result ProgramTable SuiteCause → Meaning
 declared_meaning interface file (Err cause) = meaning.Wrong cause
 declared_meaning interface file (Ok table) = named interface file table.suite table.props table.name
 
--- a program by its table
+-- `program_meaning interface file arg`: the meaning of a program's call with the argument `arg`.
 abbrev pub program_meaning : Interface → Option (List ℕ) → Arg → Meaning
 program_meaning interface file (Value v) = meaning.Wrong BadValue
 program_meaning interface file (Table pairs) = declared_meaning interface file (declared pairs)
 
--- `include` names a file, by a path that leads down
+-- `include_meaning arg`: the meaning of `include` with the argument `arg`.
 abbrev pub include_meaning : Arg → Meaning
 include_meaning (Value v) = if leads_down (text_of v) then meaning.Include (text_of v) else meaning.Wrong BadInclude
 include_meaning (Table pairs) = meaning.Wrong BadInclude
 
--- a call that stands after the first
+-- `call_meaning file call arg`: the meaning of a call after the first statement; `file` is the test
+-- suite so far.
 abbrev pub call_meaning : Option (List ℕ) → CallKind → Arg → Meaning
 call_meaning file call.TestSuite arg = suite_meaning arg
 call_meaning file call.Include arg = include_meaning arg
 call_meaning file (call.Program interface) arg = program_meaning interface file arg
 call_meaning file other arg = meaning.Wrong UnknownCall
 
--- a statement after the first, in a file that has named this suite so far
+-- `meaning_of file action`: the meaning of a statement after the first; `file` is the test suite so
+-- far.
 abbrev pub meaning_of : Option (List ℕ) → Action → Meaning
 meaning_of file (Call name arg) = call_meaning file (call_named name) arg
 meaning_of file (Assign parts value) = meaning.Wrong UnknownCall

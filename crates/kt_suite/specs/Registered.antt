@@ -1,60 +1,63 @@
--- What a tree registers, and which questions this takes.
+-- The programs that a tree registers, and the calls of the tree for this.
 use Rattle.std.specs.Prelude.{ℕ, List, [], ◌∷◌, ◌++◌, ◌≡◌, ◌≤◌, ◌+◌, length, Result, Ok, Err}
 use Rattle.kt_suite.specs.Types.{Program, SuiteFault, TooMany}
 use Rattle.kt_suite.specs.Answers.{Asked, SameQuestion}
 use Rattle.kt_suite.specs.Faults.{IsNoMemory}
 use Rattle.kt_suite.specs.Marks.{Site, site_fault, Mark, Asks, File, Listed, Fault, TreeGives}
 
--- the most files that are read
+-- `file_limit`: the maximum number of files that are read.
 abbrev pub file_limit : ℕ
 file_limit = 10000
 
--- the most programs that a tree may register
+-- `program_limit`: the maximum number of programs that a tree may register.
 abbrev pub program_limit : ℕ
 program_limit = 10000
 
--- the programs of a tree in order, or its first fault
+-- `Outcome`: the programs of a tree in order, or its first error.
 abbrev pub Outcome : Type 0
 Outcome = Result (List Program) SuiteFault
 
--- the questions among marks
+-- `questions_in marks`: the calls among `marks`.
 abbrev pub questions_in : List Mark → List Asked
 questions_in [] = []
 questions_in (Asks question ∷ marks) = question ∷ questions_in marks
 questions_in (other ∷ marks) = questions_in marks
 
--- the number of files among marks
+-- `files_in marks`: the number of files among `marks`.
 abbrev pub files_in : List Mark → ℕ
 files_in [] = 0
 files_in (File at ∷ marks) = 1 + files_in marks
 files_in (other ∷ marks) = files_in marks
 
--- the programs among marks
+-- `programs_in marks`: the programs among `marks`.
 abbrev pub programs_in : List Mark → List Program
 programs_in [] = []
 programs_in (Listed at program ∷ marks) = program ∷ programs_in marks
 programs_in (other ∷ marks) = programs_in marks
 
--- the faults among marks
+-- `faults_in marks`: the errors among `marks`.
 abbrev pub faults_in : List Mark → List SuiteFault
 faults_in [] = []
 faults_in (Fault fault ∷ marks) = fault ∷ faults_in marks
 faults_in (other ∷ marks) = faults_in marks
 
--- no mark decides: there is no fault, and neither a file nor a program is one too many
+-- `IsUndecided marks`: no mark decides: there is no error, and no file or program exceeds its
+-- limit.
 pub record IsUndecided (marks : List Mark) : Type 0 where
   pub faultless : faults_in marks ≡ []
   pub files : files_in marks ≤ file_limit
   pub programs : length (programs_in marks) ≤ program_limit
 
--- a mark decides after so many files and programs, by this fault
+-- `Decides files programs mark fault`: after this number of files and programs, `mark` decides that
+-- the result is `fault`.
 pub data Decides (files programs : ℕ) : Mark → SuiteFault → Type 0 where
   is_fault : (fault : SuiteFault) → Decides files programs (Fault fault) fault
   file_too_many : (at : Site) → file_limit ≤ files → Decides files programs (File at) (site_fault at TooMany)
   program_too_many : (at : Site) (program : Program) → program_limit ≤ programs
       → Decides files programs (Listed at program) (site_fault at TooMany)
 
--- what a tree registers by these answers; the questions are exactly those before the mark that decides
+-- `Registered asked root result`: the tree of `root` has the result `result` by the calls `asked`,
+-- which are exactly those before the mark that decides.
 pub data Registered (asked : List Asked) (root : List ℕ) : Outcome → Type 0 where
   all : (marks : List Mark) → TreeGives root marks → IsUndecided marks → asked ≡ questions_in marks
       → Registered asked root (Ok (programs_in marks))
@@ -63,13 +66,14 @@ pub data Registered (asked : List Asked) (root : List ℕ) : Outcome → Type 0 
       → Decides (files_in front) (length (programs_in front)) mark fault → asked ≡ questions_in front
       → Registered asked root (Err fault)
 
--- of the marks to come no question was asked, or the next one, whose answer decided nothing
+-- `IsNext marks asked`: `asked` has no call, or only the call that begins `marks`, with any result.
 pub data IsNext : List Mark → List Asked → Type 0 where
   no_question : (marks : List Mark) → IsNext marks []
   thrown_away : (question other : Asked) (marks : List Mark) → SameQuestion question other
       → IsNext (Asks other ∷ marks) (question ∷ [])
 
--- memory ran out before a mark decided: the questions are the first ones of the same list
+-- `Unfinished asked root outcome`: an allocation failed before a mark decided; `asked` is a prefix
+-- of the calls.
 pub record Unfinished (asked : List Asked) (root : List ℕ) (outcome : Outcome) : Type 0 where
   pub fault : SuiteFault
   pub no_memory : IsNoMemory fault

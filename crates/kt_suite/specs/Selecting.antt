@@ -1,35 +1,35 @@
--- Which cases some filters select.
+-- The cases that filters select.
 use Rattle.std.specs.Prelude.{ℕ, Bool, true, not, ◌+◌, List, [], ◌∷◌, if◌then◌else◌}
 use Rattle.std.specs.List.{list_any}
 use Rattle.kt_suite.specs.Types.{Filter, Item}
 use Rattle.kt_suite.specs.Matching.{matches}
 
--- the most items to select from
+-- `most_items`: the maximum number of items.
 abbrev pub most_items : ℕ
 most_items = 100000
 
--- the positions of the elements that pass a test, counted from a number
+-- `places test n xs`: the positions of the elements of `xs` that pass `test`, counted from `n`.
 abbrev pub places : {A : Type 0} → (A → Bool) → ℕ → List A → List ℕ
 places test n [] = []
 places test n (x ∷ xs) = if test x then n ∷ places test (n + 1) xs else places test (n + 1) xs
 
--- a filter matches an item
+-- `matches_item item filter`: `filter` matches `item`.
 abbrev pub matches_item : Item → Filter → Bool
 matches_item item filter = matches filter item.path item.case_name
 
--- an item is selected if some filter matches it, or if there is no filter
+-- `is_selected filters item`: some filter matches `item`, or there is no filter.
 abbrev pub is_selected : List Filter → Item → Bool
 is_selected [] item = true
 is_selected (filter ∷ filters) item = list_any (matches_item item) (filter ∷ filters)
 
--- the positions of the selected items
+-- `selected_places items filters`: the positions of the selected items.
 abbrev pub selected_places : List Item → List Filter → List ℕ
 selected_places items filters = places (is_selected filters) 0 items
 
--- a filter matches no item
+-- `is_unmatched items filter`: `filter` matches none of `items`.
 abbrev pub is_unmatched : List Item → Filter → Bool
 is_unmatched items filter = not (list_any (λ item. matches_item item filter) items)
 
--- the positions of the filters that match no item
+-- `unmatched_places items filters`: the positions of the filters that match no item.
 abbrev pub unmatched_places : List Item → List Filter → List ℕ
 unmatched_places items filters = places (is_unmatched items) 0 filters

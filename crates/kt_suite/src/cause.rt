@@ -11,52 +11,56 @@ use kt_script::ScriptFault;
 use std::io::Write;
 use thiserror::Error;
 
-/// Stands before the number of `WrongSyntax`.
+/// The text before the number of `WrongSyntax`.
 const SYNTAX: &str = "syntax ";
 
-/// Stands after the number of `WrongSyntax`.
+/// The text after the number of `WrongSyntax`.
 const NOT_SUPPORTED: &str = " not supported";
 
-/// Why a tree of Kyuafiles was refused, by the rules of kyuafile(5) and of this profile. `Display`
-/// prints the words of the fault's line (this profile).
+/// Causes of errors in a tree of Kyuafiles (kyuafile(5) and this profile).
+///
+/// `Display` prints the message of the cause.
 #[derive(Clone, Copy, Debug, Error)]
 #[error("{}", self.words())]
 pub enum SuiteCause {
-    /// It has no file and no line.
+    /// An allocation failed. The error has no file and no line.
     NoMemory(NoMemory),
-    /// The first statement of a file isn't a call of `syntax`.
+    /// A file has no statement, or its first statement is not a call of `syntax`.
     NoSyntax,
-    /// The file declares a syntax other than 2.
+    /// A file declares this syntax, which is not 2.
     #[error("{SYNTAX}{0}{NOT_SUPPORTED}")]
     WrongSyntax(u64),
-    /// An unknown call, an assignment, or a second `syntax`.
+    /// A statement after the first is an assignment, a call of `syntax`, or an unknown call.
     UnknownCall,
-    /// No property of a Kyuafile has this name.
+    /// A key of a program's table is not `name`, `test_suite` or a property that a Kyuafile may
+    /// set.
     UnknownProperty,
-    /// The call, the key or the property doesn't accept this value.
+    /// A call, a key or a property does not accept its value, or a program has no name.
     BadValue,
-    /// A program belongs to no test suite.
+    /// Neither the program nor the file before it names a test suite.
     NoSuite,
-    /// The name of a program leads into another directory.
+    /// The name of a program has a slash, or is `.` or `..`.
     PathHasDirectory,
-    /// The argument of `include` isn't a relative path of components, or one of them is `.` or `..`.
+    /// The argument of `include` is not a relative path, or has a component that is empty, `.` or
+    /// `..`.
     BadInclude,
     /// The included file is already open.
     IncludeLoop,
-    /// More than 32 files, each included by the one before.
+    /// More than 32 files would be open, each included by the file before.
     TooDeep,
-    /// No program stands at the path.
+    /// No regular file is at the path of a program.
     MissingProgram,
-    /// The file could not be read.
+    /// A file could not be read.
     Unreadable,
-    /// More than 10,000 programs, or more than 10,000 files.
+    /// The tree has more than 10,000 programs, or more than 10,000 files.
     TooMany,
-    /// The file isn't a script.
+    /// A file is not a script.
     Script(ScriptFault),
 }
 
 impl SuiteCause {
-    /// The words of the cause; none for `WrongSyntax`, whose words have a number.
+    /// Returns the message of the cause, or an empty text for `WrongSyntax`, whose message has a
+    /// number.
     pub fn words(&self) -> &'static str
         ensures { result.now ≡ fixed_words self.now }
     {
@@ -79,7 +83,11 @@ impl SuiteCause {
         }
     }
 
-    /// Writes the words of the cause.
+    /// Prints the message of the cause.
+    ///
+    /// # Errors
+    ///
+    /// - `OutputFault`: a write to `out` fails.
     pub fn print<W: Write>(&self, out: &mut W) -> Result<(), OutputFault>
         ensures { Shows (W.contents out.old) (W.contents out.new) (is_err result)
             (utf8 (cause_words self.now)) }

@@ -8,28 +8,31 @@ use kt_base::{NoMemory, OUT_OF_MEMORY, Text};
 use std::alloc::Global;
 use thiserror::Error;
 
-/// Why a filter, or a list of them, was refused. A number is a position in the list, from 0. `Display`
-/// prints the words of the fault's line (this profile), which shows the filter itself.
+/// Errors returned by [`Filter::parse`] and [`check_disjoint`](crate::check_disjoint).
+///
+/// A number is a position in the list of filters, from 0. `Display` prints the message without the
+/// filter (this profile).
 #[derive(Clone, Copy, Debug, Error)]
 #[error("{}", self.words())]
 pub enum FilterFault {
+    /// An allocation failed.
     NoMemory(NoMemory),
-    /// It names no program.
+    /// The filter has no path of a program.
     Empty,
-    /// It begins with a slash.
+    /// The filter begins with a slash.
     Absolute,
-    /// Nothing follows its first colon.
+    /// Nothing follows the first colon of the filter.
     EmptyCase,
-    /// The filter at this position is equal to an earlier one.
+    /// The filter at this position is equal to an earlier filter.
     Repeated(usize),
-    /// The filter at this position and an earlier one match the same cases, or one of them more than the other.
+    /// The filter at this position and another, earlier filter match a common case.
     NotDisjoint(usize),
 }
 
 impl FilterFault {
     ghost use Rattle.kt_suite.specs.FaultWords.{filter_words};
 
-    /// The words of the fault.
+    /// Returns the message of the error, which `Display` prints.
     pub fn words(&self) -> &'static str
         ensures { result.now ≡ filter_words self.now }
     {
@@ -52,20 +55,29 @@ impl From<NoMemory> for FilterFault {
     }
 }
 
-/// Names cases to run: those of a program, of all programs under a directory, or one case (kyua(1)).
+/// A filter for test cases: the cases of a program or below a directory, or one case (kyua(1)).
 #[derive(Drop)]
 pub struct Filter {
-    /// The path of a program or a directory, relative to the directory of the root Kyuafile. `parse` leaves no component that
-    /// is empty or `.`.
+    /// The path of a program or a directory, relative to the directory of the root Kyuafile.
+    ///
+    /// After `parse`, no component is empty or `.`.
     pub program: Text,
-    /// The case, if it is one case of one program.
+    /// The name of the case, if the filter matches one case of one program.
     pub case_name: Option<Text>,
 }
 
 impl Filter {
     ghost use Rattle.kt_suite.specs.Common.{filter_meaning, Answers, matches, MayMatch};
 
-    /// Reads a filter: `PROGRAM` or `PROGRAM:CASE`, split at the first colon.
+    /// Parses `text` as a filter, `PROGRAM` or `PROGRAM:CASE`, which is split at the first colon
+    /// (kyua(1)).
+    ///
+    /// # Errors
+    ///
+    /// - `Empty`: nothing precedes the colon, or each component is empty or `.`.
+    /// - `Absolute`: `text` begins with a slash.
+    /// - `EmptyCase`: nothing follows the first colon.
+    /// - `NoMemory`: an allocation fails.
     pub fn parse(alloc: Global, text: &Text) -> Result<Filter, FilterFault>
         ensures { Answers result (filter_meaning text.now) }
     {
@@ -80,7 +92,9 @@ impl Filter {
         Ok(Filter { program, case_name })
     }
 
-    /// Whether it selects a case of a program. It takes no memory.
+    /// Returns `true` if the filter matches the case `case_name` of the program at `path`.
+    ///
+    /// Allocates nothing.
     pub fn matches(&self, path: &Text, case_name: &Text) -> bool
         ensures { result ≡ matches self.now path.now case_name.now }
     {
@@ -90,7 +104,9 @@ impl Filter {
         }
     }
 
-    /// Whether it selects a case of a program, if the program has the right one. It takes no memory.
+    /// Returns `true` if the filter matches some case that the program at `path` could have.
+    ///
+    /// Allocates nothing.
     pub fn may_match(&self, path: &Text) -> bool
         ensures { IsTrue result ↔ MayMatch self.now path.now }
     {
@@ -101,7 +117,7 @@ impl Filter {
     }
 }
 
-/// What is wrong with a case part.
+/// Returns the error in the case of a filter, if there is one.
 fn case_fault(case_name: &Option<Text>) -> Option<FilterFault>
     ensures { result ≡ case_fault case_name.now }
 {
@@ -111,7 +127,7 @@ fn case_fault(case_name: &Option<Text>) -> Option<FilterFault>
     }
 }
 
-/// The first thing that is wrong with the two parts of a filter as they are written.
+/// Returns the first error in the path and the case of a filter, as they are written.
 fn parts_fault(path: &Text, case_name: &Option<Text>) -> Option<FilterFault>
     ensures { result ≡ parts_fault path.now case_name.now }
 {
@@ -122,14 +138,14 @@ fn parts_fault(path: &Text, case_name: &Option<Text>) -> Option<FilterFault>
     }
 }
 
-/// Whether a component is neither empty nor `.`.
+/// Returns `true` if `component` is neither empty nor `.`.
 fn counts(component: &Text) -> bool
     ensures { result ≡ counts component.now }
 {
     !component.is_empty() && !component.is_word(".")
 }
 
-/// Appends a component that counts.
+/// Appends `component` to `path`, after a slash unless `path` is empty.
 fn push_component(path: &mut Text, component: &Text) -> Result<(), NoMemory>
     ensures { OnOk result (path.new ≡ joined path.old component.now) }
 {
@@ -142,7 +158,7 @@ fn push_component(path: &mut Text, component: &Text) -> Result<(), NoMemory>
     Ok(())
 }
 
-/// Appends a component if it counts.
+/// Appends `component` to `path`, unless `component` is empty or `.`.
 fn add_component(path: &mut Text, component: &Text) -> Result<(), NoMemory>
     ensures { OnOk result (path.new ≡ with_component path.old component.now) }
 {
@@ -152,7 +168,7 @@ fn add_component(path: &mut Text, component: &Text) -> Result<(), NoMemory>
     Ok(())
 }
 
-/// A path with single slashes and without `.`.
+/// Returns `path` without components that are empty or `.`.
 fn plain_path(alloc: Global, path: &Text) -> Result<Text, NoMemory>
     ensures { IfOk result (λ plain. plain ≡ plain_path path.now) }
 {

@@ -9,16 +9,18 @@ use kt_base::{Items, NoMemory, Text};
 use kt_script::{ScriptFault, Stmt, parse};
 use std::alloc::Global;
 
-/// What was read of a tree so far.
+/// A state of the loader: the open files, the number of files, and the registered programs.
 pub struct Registry {
-    /// The open files: the root first, each included by the one before it.
+    /// The open files: the root first, then each file after the file that includes it.
     pub reading: Items<Text>,
-    /// The number of files that were opened.
+    /// The number of files that were counted, at most 10,000.
     pub files: usize,
+    /// The registered programs in order, at most 10,000.
     pub programs: Items<Program>,
 }
 
-/// Written out so that a drop is one call: what a registry owns is taken apart only here.
+/// Implemented manually, so that the prover takes a drop as one call and the fields apart only
+/// here.
 impl Drop for Registry {
     fn drop(self) {
         let Registry {
@@ -30,6 +32,7 @@ impl Drop for Registry {
 }
 
 impl Registry {
+    /// Returns the registered programs.
     pub fn into_programs(self) -> Items<Program>
         ensures { result ≡ self.programs }
     {
@@ -41,7 +44,7 @@ impl Registry {
         programs
     }
 
-    /// Closes the file that was opened last.
+    /// Removes the file that was opened last from the open files.
     pub fn end(self) -> Registry
         ensures { result ≡ (record self { reading = take (length self.reading - 1) self.reading }) }
     {
@@ -60,16 +63,16 @@ impl Registry {
     }
 }
 
-/// What comes after a statement.
+/// A next step of the loader, after a statement.
 #[derive(Drop)]
 pub enum Step {
-    /// The next statement.
+    /// The next statement of the file.
     Next(Registry),
-    /// The file at this path, and then the next statement.
+    /// The file at this path, and then the next statement of the including file.
     Enter(Registry, Text),
 }
 
-/// The fault of a file that can't be read.
+/// Returns the error of a file that can't be read.
 fn unread(alloc: Global, file: &Text, why: ReadFault) -> SuiteFault
     ensures { IsNoMemory result ⊎ (result ≡ read_fault file.now why) }
 {
@@ -79,7 +82,7 @@ fn unread(alloc: Global, file: &Text, why: ReadFault) -> SuiteFault
     }
 }
 
-/// The line of a script's fault, or 0 if it has none.
+/// Returns the line of a script's error, or 0 if the error has no line.
 fn line_of(why: ScriptFault) -> u32
     ensures { result ≡ script_line why }
 {
@@ -90,7 +93,7 @@ fn line_of(why: ScriptFault) -> u32
     }
 }
 
-/// The fault of a file that isn't a script.
+/// Returns the error of a file that is not a script.
 fn unparsed(alloc: Global, file: &Text, why: ScriptFault) -> SuiteFault
     ensures { IsNoMemory result
         ⊎ (IsText why × (result ≡ fault_at file.now (script_line why) (Script why))) }
@@ -101,7 +104,7 @@ fn unparsed(alloc: Global, file: &Text, why: ScriptFault) -> SuiteFault
     }
 }
 
-/// The statements of a script that begins with `syntax(2)`.
+/// Checks that the statements of `file` begin with `syntax(2)`, and returns them.
 fn well_opened(alloc: Global, file: &Text, stmts: Items<Stmt>) -> Result<Items<Stmt>, SuiteFault>
     ensures { WellOpened file.now stmts result }
 {
@@ -114,7 +117,9 @@ fn well_opened(alloc: Global, file: &Text, stmts: Items<Stmt>) -> Result<Items<S
     Ok(stmts)
 }
 
-/// Reads a file. Its bytes are dropped before its first statement is read.
+/// Reads a file, and returns its statements, which begin with `syntax(2)`.
+///
+/// The bytes are dropped before a statement is executed.
 pub fn open_file<T: Tree>(
     alloc: Global,
     tree: &mut T,
@@ -131,7 +136,7 @@ pub fn open_file<T: Tree>(
     }
 }
 
-/// Opens a file within the open ones.
+/// Appends `file` to the open files.
 fn begin(registry: Registry, file: &Text) -> Result<Registry, NoMemory>
     ensures { IfOk result (λ next. next
         ≡ (record registry { reading = registry.reading ++ file.now ∷ [] })) }
@@ -141,7 +146,9 @@ fn begin(registry: Registry, file: &Text) -> Result<Registry, NoMemory>
     Ok(registry)
 }
 
-/// Reads a file and all that it includes, at most 32 deep. The file was counted before.
+/// Reads a file and all files that it includes, at most 32 deep.
+///
+/// The caller has counted the file.
 fn read_file<T: Tree>(
     alloc: Global,
     tree: &mut T,
@@ -180,13 +187,21 @@ fn read_file<T: Tree>(
     Ok(registry.end())
 }
 
-/// Registers the programs of a tree of Kyuafiles, in the order of their statements, or tells its first fault.
+/// Returns the programs that a tree of Kyuafiles registers, in the order of their statements
+/// (kyuafile(5)).
 ///
-/// `root` is the path of the root Kyuafile. An included file's programs stand in the place of the `include`, and its
-/// suite neither begins as that of the including file nor goes back to it. Files are read at most 32 deep, with the
-/// root as 1; at most 10,000 files are read and 10,000 programs registered (this profile).
+/// `root` is the path of the root Kyuafile. The programs of an included file are in the position of
+/// the `include`. An included file begins without a test suite, and does not change the test suite
+/// of the including file. The limits are this profile's: at most 32 open files, the root included,
+/// 10,000 files and 10,000 programs.
+///
+/// # Errors
+///
+/// - [`SuiteFault`] with the first fault in the order of reading: [`SuiteCause`] has the condition
+///   of each cause.
+/// - [`SuiteFault`] with the cause `NoMemory`: an allocation fails.
 pub fn load<T: Tree>(alloc: Global, tree: &mut T, root: &Text) -> Result<Items<Program>, SuiteFault>
-    // The tree was asked what decides the result, in this order, and nothing else.
+    // The calls of the tree are the calls that decide the result, in their order, and no others.
     ensures loaded { Answered T.asks tree.old tree.new (λ asked. Registered asked root.now result
         ⊎ Unfinished asked root.now result) }
     ensures few { IfOk result (λ programs. length programs ≤ program_limit) }
@@ -202,12 +217,12 @@ pub fn load<T: Tree>(alloc: Global, tree: &mut T, root: &Text) -> Result<Items<P
     }
 }
 
-/// States that loading an unchanged tree always gives the same result. It does nothing.
+/// Theorem: loading an unchanged tree always gives the same result.
 pub fn registers_once()
     ensures steady { (first second : List Asked) (root : List ℕ) (r s : Outcome)
         → IsSteady (first ++ second) → Registered first root r → Registered second root s → r ≡ s }
 
-    // One list of answers has one result, whether or not the tree changed.
+    // The same calls with the same results give one result, whether or not the tree changed.
     ensures decided { (asked : List Asked) (root : List ℕ) (r s : Outcome)
         → Registered asked root r → Registered asked root s → r ≡ s }
 {}

@@ -4,7 +4,7 @@ ghost use Rattle.kt_suite.specs.Common.{list_all, slice_split, is_slash, directo
 use kt_base::{NoMemory, Text, has_slash};
 use std::alloc::Global;
 
-/// A path up to and with its last slash.
+/// Returns `path` up to its last slash, with the slash.
 fn directory(path: &[char]) -> &[char]
     ensures { result.now ≡ directory_of path.now }
 {
@@ -18,7 +18,11 @@ fn directory(path: &[char]) -> &[char]
     rest
 }
 
-/// The directory of a path, with its last slash, and the name after it.
+/// Returns the directory of `path`, with its last slash, and the name after it.
+///
+/// # Errors
+///
+/// - `NoMemory`: an allocation fails.
 pub fn split_path(alloc: Global, path: &Text) -> Result<(Text, Text), NoMemory>
     ensures directory { IfOk result (λ parts. parts.0 ≡ directory_of path.now) }
     ensures name { IfOk result (λ parts. parts.1 ≡ name_in path.now) }
@@ -32,6 +36,7 @@ pub fn split_path(alloc: Global, path: &Text) -> Result<(Text, Text), NoMemory>
     ))
 }
 
+/// Returns `path` without its last character.
 fn without_last(path: &[char]) -> &[char]
     ensures { result.now ≡ without_last path.now }
 {
@@ -41,7 +46,13 @@ fn without_last(path: &[char]) -> &[char]
     }
 }
 
-/// What stands before the last slash of a path: its directory, which is empty for a path directly below `/`.
+/// Returns the directory of `path`, without its last slash.
+///
+/// The result is empty for a path directly below `/`, and for a path without a slash.
+///
+/// # Errors
+///
+/// - `NoMemory`: an allocation fails.
 pub fn parent_path(alloc: Global, path: &Text) -> Result<Text, NoMemory>
     ensures { IfOk result (λ parent. parent ≡ parent_of path.now) }
 {
@@ -49,7 +60,7 @@ pub fn parent_path(alloc: Global, path: &Text) -> Result<Text, NoMemory>
     Text::from_characters(alloc, without_last(directory(&characters)))
 }
 
-/// The path of a name in the directory of a file.
+/// Returns the path of `name` in the directory of `file`.
 pub fn path_beside(alloc: Global, file: &Text, name: &Text) -> Result<Text, NoMemory>
     ensures { IfOk result (λ path. path ≡ beside file.now name.now) }
 {
@@ -59,26 +70,28 @@ pub fn path_beside(alloc: Global, file: &Text, name: &Text) -> Result<Text, NoMe
     Ok(path)
 }
 
-/// Whether a name leads out of the directory in which it is looked up.
+/// Returns `true` if `name` has a slash, or is `.` or `..`.
 pub fn leads_away(name: &Text) -> bool
     ensures { result ≡ has_directory name.now }
 {
     has_slash(name.as_str()) || name.is_word(".") || name.is_word("..")
 }
 
+/// Returns `true` if `part` is not empty, `.` or `..`.
 fn is_component(part: &[char]) -> bool
     ensures { result ≡ is_component part.now }
 {
     !matches!(part, [] | ['.'] | ['.', '.'])
 }
 
+/// Returns `true` if no component of `path` is empty, `.` or `..`.
 fn are_components(path: &[char]) -> bool
     ensures { result ≡ list_all is_component (slice_split is_slash path.now) }
 {
     path.split(|c| *c == '/').all(|part| is_component(part))
 }
 
-/// Whether a text is a relative path of one or more components, none of them empty, `.` or `..`.
+/// Returns `true` if `path` is a relative path without components that are empty, `.` or `..`.
 pub fn leads_down(alloc: Global, path: &Text) -> Result<bool, NoMemory>
     ensures { IfOk result (λ down. down ≡ leads_down path.now) }
 {

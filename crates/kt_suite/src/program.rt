@@ -4,10 +4,11 @@ use kt_metadata::Props;
 /// A test program that a Kyuafile registers.
 #[derive(Drop)]
 pub struct Program {
+    /// The interface by which the program reports its test cases and results.
     pub interface: Interface,
-    /// Relative to the directory of the root Kyuafile.
+    /// The path, relative to the directory of the root Kyuafile.
     pub path: Text,
-    /// The test suite that the program belongs to. It isn't empty.
+    /// The name of the test suite of the program, which is not empty.
     pub suite: Text,
     /// The properties that the program's table sets.
     pub props: Props,

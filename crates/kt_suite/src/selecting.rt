@@ -10,19 +10,22 @@ use kt_base::{NoMemory, OUT_OF_MEMORY, Text};
 use std::alloc::Global;
 use thiserror::Error;
 
-/// Why nothing was selected. `Display` prints the words of the fault's line (this profile).
+/// Errors returned by [`select`].
+///
+/// `Display` prints the message (this profile).
 #[derive(Clone, Copy, Debug, Error)]
 #[error("{}", self.words())]
 pub enum SelectFault {
+    /// An allocation failed.
     NoMemory(NoMemory),
-    /// Over 100,000 items.
+    /// There are more than 100,000 items.
     TooMany,
 }
 
 impl SelectFault {
     ghost use Rattle.kt_suite.specs.FaultWords.{select_words};
 
-    /// The words of the fault.
+    /// Returns the message of the error, which `Display` prints.
     pub fn words(&self) -> &'static str
         ensures { result.now ≡ select_words self.now }
     {
@@ -41,15 +44,16 @@ impl From<NoMemory> for SelectFault {
     }
 }
 
-/// A case of a program, as filters see it.
+/// A test case to select, by the path of its program and its name.
 #[derive(Drop)]
 pub struct Item {
-    /// The program's path, relative to the directory of the root Kyuafile.
+    /// The path of the program, relative to the directory of the root Kyuafile.
     pub path: Text,
+    /// The name of the case.
     pub case_name: Text,
 }
 
-/// What filters select among some items.
+/// A result of [`select`]: positions of items and of filters.
 #[derive(Drop)]
 pub struct Selection {
     /// The positions of the selected items, ascending, from 0.
@@ -58,21 +62,24 @@ pub struct Selection {
     pub unmatched: Vec<usize>,
 }
 
-/// The most items to select from.
+/// The maximum number of items.
 const MOST_ITEMS: usize = 100_000;
 
+/// Returns `true` if `filter` matches `item`.
 fn matches_item(item: &Item, filter: &Filter) -> bool
     ensures { result ≡ matches_item item.now filter.now }
 {
     filter.matches(&item.path, &item.case_name)
 }
 
+/// Returns the position of the first filter that matches `item`.
 fn first_match(filters: &[Filter], item: &Item) -> Option<usize>
     ensures { result ≡ first_match filters.now item.now }
 {
     filters.iter().position(|filter| matches_item(item, filter))
 }
 
+/// Returns `true` if the filter at position `place` matches `item`.
 fn is_match(filters: &[Filter], item: &Item, place: usize) -> bool
     ensures { result ≡ is_match filters.now item.now place }
 {
@@ -82,7 +89,10 @@ fn is_match(filters: &[Filter], item: &Item, place: usize) -> bool
     }
 }
 
-/// Whether a filter misses an item. Up to the first filter that matches it, this is known.
+/// Returns `true` if the filter at position `place` does not match `item`.
+///
+/// `first` is the position of the first filter that matches `item`, so earlier filters are not
+/// compared again.
 fn is_miss(filters: &[Filter], item: &Item, first: usize, place: usize) -> bool
     ensures { first_match filters.now item.now ≡ Some first
         → result ≡ is_miss filters.now item.now place }
@@ -93,7 +103,9 @@ fn is_miss(filters: &[Filter], item: &Item, first: usize, place: usize) -> bool
     place != first && !is_match(filters, item, place)
 }
 
-/// Drops the positions of the filters that match an item, by the first of all filters that does.
+/// Removes the positions of the filters that match `item` from `unmatched`.
+///
+/// `first` is the position of the first filter that matches `item`.
 fn drop_matches(unmatched: &mut Vec<usize>, filters: &[Filter], item: &Item, first: usize)
     requires { first_match filters.now item.now ≡ Some first }
     ensures { unmatched.new.items ≡ filter (is_miss filters.now item.now) unmatched.old.items }
@@ -101,7 +113,10 @@ fn drop_matches(unmatched: &mut Vec<usize>, filters: &[Filter], item: &Item, fir
     unmatched.retain(|place| is_miss(filters, item, first, *place));
 }
 
-/// Whether an item is selected. Each filter is compared once at most, and those that match the item are no longer unmatched.
+/// Returns `true` if `item` is selected, and removes the filters that match `item` from
+/// `unmatched`.
+///
+/// A filter is compared at most once.
 fn compare_item(filters: &[Filter], item: &Item, unmatched: &mut Vec<usize>) -> bool
     ensures selected { result ≡ is_selected filters.now item.now }
     ensures unmatched { unmatched.new.items ≡ filter (is_miss filters.now item.now) unmatched.old.items }
@@ -115,6 +130,7 @@ fn compare_item(filters: &[Filter], item: &Item, unmatched: &mut Vec<usize>) -> 
     }
 }
 
+/// Returns the positions of all filters.
 fn all_places(alloc: Global, filters: &[Filter]) -> Result<Vec<usize>, NoMemory>
     ensures { IfOk result (λ all. all.items ≡ all_places filters.now) }
 {
@@ -127,7 +143,7 @@ fn all_places(alloc: Global, filters: &[Filter]) -> Result<Vec<usize>, NoMemory>
     Ok(all)
 }
 
-/// Goes over the items once. The filters that match no item so far are unmatched.
+/// Selects items in one pass; a filter is unmatched until an item matches it.
 #[tactic(auto, using(crate::proofs::Picking::unmatched_of_all))]
 fn compare_items(alloc: Global, items: &[Item], filters: &[Filter]) -> Result<Selection, NoMemory>
     ensures cases { IfOk result (λ s. s.cases.items ≡ selected_places items.now filters.now) }
@@ -145,13 +161,20 @@ fn compare_items(alloc: Global, items: &[Item], filters: &[Filter]) -> Result<Se
     Ok(Selection { cases, unmatched })
 }
 
-/// Selects the items that some filter matches, or all items if there is no filter, and lists the filters that match none.
-/// Filters may share cases.
+/// Returns the positions of the items that some filter matches, and of the filters that match no
+/// item.
+///
+/// Without filters, each item is selected. Filters may match common cases.
+///
+/// # Errors
+///
+/// - `TooMany`: there are more than 100,000 items.
+/// - `NoMemory`: an allocation fails.
 pub fn select(alloc: Global, items: &[Item], filters: &[Filter]) -> Result<Selection, SelectFault>
     ensures cases { IfOk result (λ s. s.cases.items ≡ selected_places items.now filters.now) }
     ensures unmatched { IfOk result (λ s. s.unmatched.items ≡ unmatched_places items.now filters.now) }
 
-    // It refuses by number alone.
+    // `TooMany` depends only on the number of items.
     ensures too_many { (result ≡ Err TooMany) ↔ (most_items < length items.now) }
 {
     if items.len() > MOST_ITEMS {

@@ -10,19 +10,21 @@ use kt_metadata::Props;
 use kt_script::{Action, Arg, Literal};
 use std::alloc::Global;
 
-/// What a statement asks for.
+/// A meaning of a statement, which does not depend on the files of the tree.
 #[derive(Drop)]
 pub enum Meaning {
-    /// The suite of the programs after it.
+    /// The test suite of the programs after the statement.
     Suite(Text),
-    /// The path of a file below this directory.
+    /// The path of an included file, relative to the directory of the including file.
     Include(Text),
-    /// A program's interface, its name in this directory, its suite and its properties.
+    /// A program: its interface, its name in the directory of the file, its test suite and its
+    /// properties.
     Program(Interface, Text, Text, Props),
+    /// The cause why the statement is rejected.
     Wrong(SuiteCause),
 }
 
-/// Why a first statement is refused; `syntax(2)` isn't.
+/// Returns the cause why a file may not begin with this statement, or `None` for `syntax(2)`.
 pub fn wrong_opening(action: &Action) -> Option<SuiteCause>
     ensures { result ≡ opening_fault action.now }
 {
@@ -37,6 +39,7 @@ pub fn wrong_opening(action: &Action) -> Option<SuiteCause>
     }
 }
 
+/// Returns the meaning of a call of `test_suite`.
 fn read_suite(alloc: Global, arg: &Arg) -> Result<Meaning, NoMemory>
     ensures { IfOk result (λ found. found ≡ suite_meaning arg.now) }
 {
@@ -52,6 +55,7 @@ fn read_suite(alloc: Global, arg: &Arg) -> Result<Meaning, NoMemory>
     }
 }
 
+/// Returns the meaning of a call of `include`.
 fn read_include(alloc: Global, arg: &Arg) -> Result<Meaning, NoMemory>
     ensures { IfOk result (λ found. found ≡ include_meaning arg.now) }
 {
@@ -67,7 +71,7 @@ fn read_include(alloc: Global, arg: &Arg) -> Result<Meaning, NoMemory>
     }
 }
 
-/// What a statement after the first asks for, in a file that has named this suite so far.
+/// Returns the meaning of a statement after the first, in a file whose test suite so far is `file`.
 pub fn read_statement(
     alloc: Global,
     file: &Option<Text>,

@@ -11,22 +11,23 @@ use kt_base::Text;
 use kt_script::Stmt;
 use std::alloc::Global;
 
-/// The most programs that a tree may register.
+/// The maximum number of programs that a tree may register.
 const PROGRAM_LIMIT: usize = 10_000;
 
-/// The most files that are read.
+/// The maximum number of files that are read.
 const FILE_LIMIT: usize = 10_000;
 
-/// The most files that are open at once, each included by the one before.
+/// The maximum number of files that are open at once, each included by the file before.
 const DEPTH_LIMIT: usize = 32;
 
+/// Returns `true` if `files` contains `path`.
 fn is_among(files: &[Text], path: &Text) -> bool
     ensures { result ≡ list_any (bytes_eq path.now) files.now }
 {
     files.iter().any(|file| is_same(path, file))
 }
 
-/// Why a file may not be included while these are open.
+/// Returns the cause why the file at `path` may not be included while `files` are open.
 fn wrong_entry(files: &[Text], path: &Text) -> Option<SuiteCause>
     ensures { result ≡ entry_fault files.now path.now }
 {
@@ -39,7 +40,7 @@ fn wrong_entry(files: &[Text], path: &Text) -> Option<SuiteCause>
     }
 }
 
-/// Counts a file that is to be read next, if it may be included here.
+/// Counts the file at `path`, or returns the error if it may not be included here.
 fn enter(
     alloc: Global,
     file: &Text,
@@ -60,7 +61,7 @@ fn enter(
     Ok(registry)
 }
 
-/// Goes on with the file that an `include` names, if it may be read here.
+/// Returns the step into the file that an `include` names, or the error if it may not be read here.
 fn include(
     alloc: Global,
     file: &Text,
@@ -82,7 +83,9 @@ fn include(
     }
 }
 
-/// Registers a program whose path is still its name in the directory of the file, if it is there and not one too many.
+/// Registers a program whose path is still its name in the directory of `file`.
+///
+/// Fails if the program is missing or exceeds the limit.
 fn register<T: Tree>(
     alloc: Global,
     tree: &mut T,
@@ -113,7 +116,9 @@ fn register<T: Tree>(
     }
 }
 
-/// Carries out one statement of a file, after its first. `suite` is the suite of the programs to come.
+/// Executes a statement after the first of its file, and returns the next step.
+///
+/// `suite` is the test suite of the programs after the statement.
 pub fn step<T: Tree>(
     alloc: Global,
     tree: &mut T,

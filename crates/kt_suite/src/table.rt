@@ -11,17 +11,20 @@ use kt_metadata::{PropFault, Props, is_kyuafile_property};
 use kt_script::{Arg, Pair};
 use std::alloc::Global;
 
-/// What a key in the table of a program declares.
+/// A kind of key in the table of a program.
 #[derive(Clone, Copy)]
 enum Key {
+    /// The name of the program.
     Name,
+    /// The test suite of the program.
     TestSuite,
     /// A property that a Kyuafile may set.
     Property,
+    /// A key that a table may not have.
     Unknown,
 }
 
-/// The key of a name.
+/// Returns the kind of the key `name`.
 #[tactic(auto, unfolding(crate::proofs::Common::chars))]
 fn key_of(name: &Text) -> Key
     ensures { result ≡ key_named name.now }
@@ -37,14 +40,18 @@ fn key_of(name: &Text) -> Key
     }
 }
 
-/// What the table of a program declares.
+/// A table of a program: its name, its test suite and its properties, each if it is declared.
 pub struct ProgramTable {
+    /// The name of the program, which may be empty.
     pub name: Option<Text>,
+    /// The test suite of the program, which may be empty.
     pub suite: Option<Text>,
+    /// The properties of the program.
     pub props: Props,
 }
 
-/// Written out so that a drop is one call: what a table owns is taken apart only here.
+/// Implemented manually, so that the prover takes a drop as one call and the fields apart only
+/// here.
 impl Drop for ProgramTable {
     fn drop(self) {
         let ProgramTable {
@@ -58,7 +65,7 @@ impl Drop for ProgramTable {
 impl ProgramTable {
     ghost use Rattle.kt_suite.specs.Meanings.{named};
 
-    /// The program that a table declares in a file that has named this suite so far.
+    /// Returns the meaning of the table, in a file whose test suite so far is `file`.
     fn meaning(self, interface: Interface, file: &Option<Text>) -> Result<Meaning, NoMemory>
         ensures { IfOk result (λ meaning. meaning
             ≡ named interface file.now self.suite self.props self.name) }
@@ -86,7 +93,7 @@ impl ProgramTable {
     }
 }
 
-/// A table with one property more, or why it is refused.
+/// Sets the property `name` in a table, or returns the cause why the value is rejected.
 fn set_property(
     found: ProgramTable,
     name: &Text,
@@ -103,7 +110,7 @@ fn set_property(
     }
 }
 
-/// A table with one pair more, or why the pair is refused.
+/// Adds a pair to a table, or returns the cause why the pair is rejected.
 fn take_pair(
     alloc: Global,
     found: ProgramTable,
@@ -128,7 +135,7 @@ fn take_pair(
     }
 }
 
-/// What the pairs of a table declare, or why the first refused pair is refused.
+/// Returns the declarations of a table, or the cause why its first rejected pair is rejected.
 fn read_table(alloc: Global, pairs: &[Pair]) -> Result<Result<ProgramTable, SuiteCause>, NoMemory>
     ensures { IfOk result (λ found. found ≡ declared pairs.now) }
 {
@@ -146,7 +153,7 @@ fn read_table(alloc: Global, pairs: &[Pair]) -> Result<Result<ProgramTable, Suit
     Ok(Ok(found))
 }
 
-/// What the call of a program asks for, in a file that has named this suite so far.
+/// Returns the meaning of a program's call, in a file whose test suite so far is `file`.
 pub fn read_program(
     alloc: Global,
     interface: Interface,

@@ -5,7 +5,7 @@ ghost use Rattle.kt_suite.specs.declared.filter.Filter.{Filter as OneFilter};
 use crate::{Filter, FilterFault};
 use kt_base::Text;
 
-/// Whether a component ends here: the path ends, or a slash follows.
+/// Returns `true` if `path` ends at the byte `place` or has a slash there.
 fn ends_component_at(path: &[u8], place: usize) -> bool
     ensures { result ≡ is_within [] (drop place path.now) }
 {
@@ -15,7 +15,7 @@ fn ends_component_at(path: &[u8], place: usize) -> bool
     }
 }
 
-/// Whether a path is over, or goes on with a slash.
+/// Returns `true` if `rest` is empty or begins with a slash.
 fn ends_component(rest: &str) -> bool
     ensures { result ≡ is_within [] (chars rest.now) }
 {
@@ -25,7 +25,9 @@ fn ends_component(rest: &str) -> bool
     }
 }
 
-/// Whether a path is this one, or lies under it. One byte rules out most other paths.
+/// Returns `true` if `path` is `directory` or is below `directory`.
+///
+/// The byte after the prefix is compared first, which rejects most other paths.
 pub fn is_within(directory: &Text, path: &Text) -> bool
     ensures { result ≡ is_within directory.now path.now }
 {
@@ -40,13 +42,14 @@ pub fn is_within(directory: &Text, path: &Text) -> bool
     }
 }
 
-/// Whether two texts are the same.
+/// Returns `true` if two texts are equal.
 pub fn is_same(one: &Text, other: &Text) -> bool
     ensures { result ≡ bytes_eq one.now other.now }
 {
     one.as_str() == other.as_str()
 }
 
+/// Returns `true` if the cases of two filters are equal or both missing.
 fn same_case_part(own: &Option<Text>, other: &Option<Text>) -> bool
     ensures { result ≡ option_eq bytes_eq own.now other.now }
 {
@@ -59,12 +62,14 @@ fn same_case_part(own: &Option<Text>, other: &Option<Text>) -> bool
     }
 }
 
+/// Returns `true` if two filters are equal.
 fn is_same_filter(filter: &Filter, other: &Filter) -> bool
     ensures { result ≡ is_same_filter filter.now other.now }
 {
     is_same(&filter.program, &other.program) && same_case_part(&filter.case_name, &other.case_name)
 }
 
+/// Returns `true` if `filter` matches each case that `other` matches.
 fn covers(filter: &Filter, other: &Filter) -> bool
     ensures { result ≡ covers filter.now other.now }
 {
@@ -74,19 +79,21 @@ fn covers(filter: &Filter, other: &Filter) -> bool
     }
 }
 
+/// Returns `true` if one of two filters matches each case that the other matches.
 fn overlap(filter: &Filter, other: &Filter) -> bool
     ensures { result ≡ overlap filter.now other.now }
 {
     covers(filter, other) || covers(other, filter)
 }
 
+/// Returns the first of the filters `earlier` that overlaps with `filter`.
 fn first_overlap<'a>(filter: &Filter, earlier: &'a [Filter]) -> Option<&'a Filter>
     ensures { option_copied result ≡ find (overlap filter.now) earlier.now }
 {
     earlier.iter().find(|other| overlap(filter, *other))
 }
 
-/// What is wrong with the filter at a position.
+/// Returns the error if the filter at `position` overlaps with an earlier filter.
 fn overlap_fault(filters: &[Filter], position: usize) -> Option<FilterFault>
     ensures { result ≡ overlap_fault filters.now position }
 {
@@ -98,8 +105,15 @@ fn overlap_fault(filters: &[Filter], position: usize) -> Option<FilterFault>
     Some(FilterFault::NotDisjoint(position))
 }
 
-/// Checks that no case is matched by two filters. The fault is that of the first filter that shares a case with an earlier
-/// one; the first of these decides whether it is a repetition. It takes no memory.
+/// Checks that no case is matched by two filters.
+///
+/// The error is about the first filter that matches a common case with an earlier filter. Allocates
+/// nothing.
+///
+/// # Errors
+///
+/// - `Repeated`: the filter is equal to the first such earlier filter.
+/// - `NotDisjoint`: the filter is not equal to the first such earlier filter.
 pub fn check_disjoint(filters: &[Filter]) -> Result<(), FilterFault>
     ensures ok { OnOk result (IsDisjoint filters.now) }
     ensures first { IfErr result (IsFirstFault filters.now) }
@@ -112,8 +126,10 @@ pub fn check_disjoint(filters: &[Filter]) -> Result<(), FilterFault>
     Ok(())
 }
 
-/// What the words of filters mean: a path lies within a directory if it is its own or begins with it and a slash, equal filters
-/// are equal in both parts, and two filters overlap exactly if there is a case that both select.
+/// Theorem: two filters overlap if and only if they match a common case.
+///
+/// A path is within a directory if it is the directory, or begins with the directory and a slash.
+/// Two filters are the same if and only if they are equal.
 pub fn filter_laws()
     ensures within { (directory path : List ℕ) → IsTrue (is_within directory path)
         ↔ IsWithin directory path }

@@ -1,4 +1,4 @@
--- What private functions return, each a step of a larger walk.
+-- Results of private functions, each a step of a larger walk.
 use Rattle.std.specs.Prelude.{◌≡◌, ◌⊎◌, ℕ, Bool, true, false, not, Option, Result, Ok, Err, slice_get, List, [], ◌∷◌, ◌++◌, if◌then◌else◌}
 use Rattle.std.specs.List.{position}
 use Rattle.std.specs.Option.{option_map_or}
@@ -11,50 +11,54 @@ use Rattle.kt_suite.specs.Filters.{counts}
 use Rattle.kt_suite.specs.Selecting.{places, matches_item}
 use Rattle.kt_suite.specs.Tables.{value_cause, pair_fault, table_of, unless}
 
--- properties with one more definition
+-- `props_with before pair`: the properties `before` with `pair` set, or the cause why its value is
+-- rejected.
 abbrev pub props_with : List Variable → Variable → Result (List Variable) SuiteCause
 props_with before pair =
     unless (value_cause (definition_fault pair.name pair.value)) (last_values (before ++ pair ∷ []))
 
--- a table with these properties, or why they are refused
+-- `with_props found props`: the table `found` with the properties `props`, or the cause why they
+-- are rejected.
 abbrev pub with_props : ProgramTable → Result (List Variable) SuiteCause → Result ProgramTable SuiteCause
 with_props found (Ok props) = Ok (record found { props = props })
 with_props found (Err cause) = Err cause
 
--- a table with one more definition
+-- `table_with before pair`: the table of `before` with `pair` appended, or the cause why `pair` is
+-- rejected.
 abbrev pub table_with : List Variable → Variable → Result ProgramTable SuiteCause
 table_with before pair = unless (pair_fault pair) (table_of (before ++ pair ∷ []))
 
--- a path with one more component
+-- `joined path component`: `path` with `component` appended.
 abbrev pub joined : List ℕ → List ℕ → List ℕ
 joined [] component = component
 joined (c ∷ path) component = c ∷ path ++ 47 ∷ component
 
--- a path with one more component, if it counts
+-- `with_component path component`: `path` with `component` appended, unless it is empty or `.`.
 abbrev pub with_component : List ℕ → List ℕ → List ℕ
 with_component path component = if counts component then joined path component else path
 
--- the positions of all filters
+-- `all_places filters`: the positions of all filters.
 abbrev pub all_places : List Filter → List ℕ
 all_places filters = places (λ filter. true) 0 filters
 
--- the position of the first filter that matches an item
+-- `first_match filters item`: the position of the first filter that matches `item`.
 abbrev pub first_match : List Filter → Item → Option ℕ
 first_match filters item = position (matches_item item) filters
 
--- the filter at a position, if there is one, matches an item
+-- `is_match filters item place`: the filter at position `place` exists and matches `item`.
 abbrev pub is_match : List Filter → Item → ℕ → Bool
 is_match filters item place = option_map_or (matches_item item) (slice_get filters place) false
 
--- the filter at a position misses an item
+-- `is_miss filters item place`: the filter at position `place` does not match `item`.
 abbrev pub is_miss : List Filter → Item → ℕ → Bool
 is_miss filters item place = not (is_match filters item place)
 
--- a fault on a line of a file, unless memory for its path ran out
+-- `Blames file line cause fault`: `fault` is the error with the cause `cause` in line `line` of
+-- `file`, or of a failed allocation.
 abbrev pub Blames : List ℕ → ℕ → SuiteCause → SuiteFault → Type 0
 Blames file line cause fault = IsNoMemory fault ⊎ (fault ≡ fault_at file line cause)
 
--- a script's fault lies in its text
+-- `IsText fault`: the error `fault` of a script is not a failed allocation.
 abbrev pub IsText : ScriptFault → Type 0
 IsText (script.NoMemory refusal) = ⊥
 IsText fault = Unit {0}

@@ -1,4 +1,4 @@
--- What the reader's own functions do, each on its part of a tree.
+-- Results of the loader's private functions, each for its part of a tree.
 use Rattle.std.specs.Prelude.{ℕ, Bool, true, List, [], ◌∷◌, ◌++◌, ◌≡◌, ◌<◌, ◌≤◌, ◌+◌, length, Some, None, Result, Ok, Err}
 use Rattle.kt_suite.specs.Types.{Meaning, NoSyntax, Program, ReadFault, Stmt, SuiteCause, SuiteFault, TooMany}
 use Rattle.kt_script.specs.Spelling.{Spells}
@@ -12,7 +12,8 @@ use Rattle.kt_suite.specs.Marks.{Site, site_fault, looked_up, Mark, Asks, File, 
 use Rattle.kt_suite.specs.Meanings.{opening_fault}
 use Rattle.kt_suite.specs.Registered.{file_limit, program_limit, questions_in, Decides, IsNext}
 
--- these marks are counted one by one, and none decides
+-- `Counted r marks after`: counting `marks` one by one leads from `r` to `after`, and no mark
+-- decides.
 abbrev pub Counted : Registry → List Mark → Registry → Type 0
 Counted r [] after = after ≡ r
 Counted r (Asks question ∷ marks) after = Counted r marks after
@@ -21,7 +22,8 @@ Counted r (Listed at program ∷ marks) after =
     (length r.programs < program_limit) × Counted (record r { programs = r.programs ++ program ∷ [] }) marks after
 Counted r (Fault fault ∷ marks) after = ⊥
 
--- the marks of some part of a tree were counted with these answers, up to the one that decides, unless memory ran out
+-- `Walked leads old new Gives r result`: the marks that `Gives` describes were counted from `r` on,
+-- up to the mark that decides or a failed allocation.
 pub data Walked {S : Type 0} (leads : S → Asked → S → Type 0) (old new : S) (Gives : List Mark → Type 0) (r : Registry)
     : Result Registry SuiteFault → Type 0 where
   through : (marks : List Mark) (after : Registry)
@@ -34,24 +36,26 @@ pub data Walked {S : Type 0} (leads : S → Asked → S → Type 0) (old new : S
       → Gives (front ++ back) → IsNext back more → Chain leads old (questions_in front ++ more) new → Counted r front mid
       → IsNoMemory fault → Walked leads old new Gives r (Err fault)
 
--- the marks of a file that is read within these
+-- `FileGives files file marks`: `file`, read while `files` are open, has the marks `marks`.
 pub record FileGives (files : List (List ℕ)) (file : List ℕ) (marks : List Mark) : Type 0 where
   pub parts : List Part
   pub says : FileSays file parts
   pub unfolds : Unfolds (files ++ file ∷ []) parts marks
 
--- the marks of a statement with this meaning
+-- `MeaningGives files at meaning marks`: a statement at `at` with this meaning, read while `files`
+-- are open, has the marks `marks`.
 pub record MeaningGives (files : List (List ℕ)) (at : Site) (meaning : Meaning) (marks : List Mark) : Type 0 where
   pub there : Bool
   pub unfolds : Unfolds files (said at there meaning) marks
 
 module _ {S : Type 0} (leads : S → Asked → S → Type 0) (old new : S) where
-  -- a program is looked up, and then counted
+  -- `Adds at r program result`: `program` is looked up, and then added to `r` or rejected.
   abbrev pub Adds : Site → Registry → Program → Result Registry SuiteFault → Type 0
   Adds at r program result =
       Walked leads old new (λ marks. (there : Bool) × (marks ≡ Asks (Exists program.path there) ∷ looked_up at program there ∷ [])) r result
 
--- an include is refused, or its file counted
+-- `Enters at r path result`: the file at `path` is counted in `r`, or the include at `at` is
+-- rejected.
 pub data Enters (at : Site) (r : Registry) (path : List ℕ) : Result Registry SuiteFault → Type 0 where
   refuses : (cause : SuiteCause) → entry_fault r.reading path ≡ Some cause → Enters at r path (Err (site_fault at cause))
   exceeds : entry_fault r.reading path ≡ None → file_limit ≤ r.files → Enters at r path (Err (site_fault at TooMany))
@@ -59,11 +63,12 @@ pub data Enters (at : Site) (r : Registry) (path : List ℕ) : Result Registry S
       → Enters at r path (Ok (record r { files = r.files + 1 }))
   scant : (fault : SuiteFault) → IsNoMemory fault → Enters at r path (Err fault)
 
--- an included file was counted, and is read next
+-- `Entered at r path step`: the file at `path` was counted in `r`, and `step` reads it next.
 abbrev pub Entered : Site → Registry → List ℕ → Step → Type 0
 Entered at r path step = (next : Registry) × Enters at r path (Ok next) × (step ≡ Enter next path)
 
--- a statement was carried out, or as far as the file that it includes
+-- `Stepped leads old new r at meaning result`: the statement at `at` was executed, or executed as
+-- far as the file that it includes.
 pub data Stepped {S : Type 0} (leads : S → Asked → S → Type 0) (old new : S) (r : Registry) (at : Site)
     (meaning : Meaning) : Result Step SuiteFault → Type 0 where
   goes : (after : Registry) → Walked leads old new (MeaningGives r.reading at meaning) r (Ok after)
@@ -74,7 +79,8 @@ pub data Stepped {S : Type 0} (leads : S → Asked → S → Type 0) (old new : 
   fails : (fault : SuiteFault) → Walked leads old new (MeaningGives r.reading at meaning) r (Err fault)
       → Stepped leads old new r at meaning (Err fault)
 
--- the statements of a file are seen to begin with `syntax(2)`
+-- `WellOpened file stmts result`: `result` is `stmts` if they begin with `syntax(2)`, else the
+-- error of `file`.
 pub data WellOpened (file : List ℕ) (stmts : List Stmt) : Result (List Stmt) SuiteFault → Type 0 where
   well : (first : Stmt) (rest : List Stmt) → stmts ≡ first ∷ rest → opening_fault first.action ≡ None
       → WellOpened file stmts (Ok stmts)
@@ -84,7 +90,8 @@ pub data WellOpened (file : List ℕ) (stmts : List Stmt) : Result (List Stmt) S
       → WellOpened file stmts (Err (fault_at file first.line cause))
   unclear : (fault : SuiteFault) → IsNoMemory fault → WellOpened file stmts (Err fault)
 
--- a file was asked for, and has statements after `syntax(2)`, or a fault
+-- `Opened leads old new file result`: `file` was read, and `result` is its statements, which begin
+-- with `syntax(2)`, or its error.
 pub data Opened {S : Type 0} (leads : S → Asked → S → Type 0) (old new : S) (file : List ℕ)
     : Result (List Stmt) SuiteFault → Type 0 where
   opens : (text : List ℕ) (first : Stmt) (rest : List Stmt)

@@ -3,7 +3,8 @@ use Rattle.kt_suite.proofs.Common.{filter, places, is_selected, selected_places,
 use Rattle.kt_suite.proofs.Picking.{is_unmatched_at}
 use Rattle.kt_suite.proofs.selecting.compare_items.Given as goal
 
--- what was found, and what the rest gives; what is unmatched, and what the rest leaves of it
+-- The positions so far, followed by those of the remaining items, are all; the unmatched filters,
+-- without the matches of the remaining items, are the final ones.
 abbrev pub invariant-loop-item : goal.invariant-loop-item
 invariant-loop-item l = record {
   found : l.cases.items ++ places (is_selected l.filters) l.place (drop l.item-index l.items) ≡ selected_places l.items l.filters;
