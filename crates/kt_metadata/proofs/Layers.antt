@@ -7,7 +7,7 @@ use Rattle.indexmap.specs.IndexMap.{insert_entry}
 use Rattle.kt_base.proofs.Texts.{key-chars}
 
 module _ {Z : Type 0} where
-  -- Inserting an entry puts its pair, and all values are still those of their texts.
+  -- Inserting an entry puts its pair, and each value is still the value of its text.
   inserted-next : (k : String Z) (v : Given) (e : String Z × Given) (es : List (String Z × Given)) → IsRead (chars (string_bytes k)) v → AreRead (e ∷ es)
       → (pairs_in (insert_entry string_eq es k v) ≡ put (pairs_in es) (pair_in (k, v))) × AreRead (insert_entry string_eq es k v)
       → (b : Bool) → string_eq k e.0 ≡ b → bytes_eq (chars (string_bytes k)) (chars (string_bytes e.0)) ≡ b

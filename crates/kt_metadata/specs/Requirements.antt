@@ -65,7 +65,7 @@ abbrev pub needed : Need → Meta → List (List ℕ)
 needed File meta = meta.required_files
 needed Program meta = meta.required_programs
 
--- `is_found need host word`: the file or program `word` is one that was found on `host`.
+-- `is_found need host word`: the file or program `word` was found on `host`.
 abbrev pub is_found : Need → Host → List ℕ → Bool
 is_found File host word = contains_text host.files (utf8 word)
 is_found Program host word = contains_text host.programs (utf8 word)

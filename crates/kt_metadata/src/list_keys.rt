@@ -5,7 +5,7 @@ use crate::table::{TABLE, own_part, row_keyed};
 use kt_base::{NoMemory, Text};
 use std::alloc::Global;
 
-/// Returns the name of the custom property `part`: `custom.` and `part`.
+/// Returns `custom.` followed by `part`, as the name of a custom property.
 fn custom_name(alloc: Global, part: &str) -> Result<Text, NoMemory>
     ensures { IfOk result (λ name. name ≡ codes "custom." ++ chars part.now) }
 {

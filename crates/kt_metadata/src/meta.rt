@@ -31,7 +31,7 @@ pub struct Meta {
     pub timeout: u32,
 }
 
-/// Implemented manually, so that the prover takes a drop as one call.
+/// Implemented manually for the prover: a drop is one call.
 impl Drop for Meta {
     fn drop(self) {
         let Meta {

@@ -14,14 +14,15 @@ use std::rc::Rc;
 /// A set of properties with their values, of a program or a case.
 ///
 /// In contracts, it is the list of the last values of the accepted definitions, in the order of the
-/// first ones. An overlay over [`Props::shared`] shares the memory of the program's properties.
+/// first definitions. An overlay over [`Props::shared`] shares the memory of the program's
+/// properties.
 pub struct Props {
     program: Option<Rc<SharedLayer>>,
     own: Layer,
 }
 
-/// Implemented manually, so that the prover takes a drop as one call and the fields apart only
-/// here.
+/// Implemented manually for the prover: a drop is one call, and only this function takes the fields
+/// apart.
 impl Drop for Props {
     fn drop(self) {
         let Props { program, own } = self;
@@ -181,8 +182,8 @@ impl Props {
 
     /// Returns equal properties in memory that overlays over them share.
     ///
-    /// The listing is computed here. [`Props::listing`] of a case without properties set by the
-    /// case shares its memory.
+    /// The call computes the listing of the properties. If a case sets no property,
+    /// [`Props::listing`] shares the memory of this listing.
     ///
     /// # Errors
     ///

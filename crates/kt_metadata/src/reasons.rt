@@ -46,7 +46,7 @@ fn is_allowed(words: &[Text], word: &str) -> bool
     words.is_empty() || is_listed(words, word)
 }
 
-/// Returns the reason with the text `front`, `word`, `back`.
+/// Returns the reason whose text is `front`, `word` and `back`, joined.
 fn about(alloc: Global, front: &str, word: &str, back: &str) -> Result<Reason, NoMemory>
     ensures { IfOk result (λ reason. reason_text reason
         ≡ chars front.now ++ (chars word.now ++ chars back.now)) }
@@ -57,7 +57,7 @@ fn about(alloc: Global, front: &str, word: &str, back: &str) -> Result<Reason, N
     Ok(Reason::Owned(text))
 }
 
-/// Returns the reason if a required configuration variable isn't a variable of the suite.
+/// Returns the reason to skip a case if a required variable isn't a variable of the test suite.
 pub fn config_reason(
     alloc: Global,
     meta: &Meta,
@@ -80,10 +80,9 @@ pub fn config_reason(
     }
 }
 
-/// Returns the reason if `listed` isn't empty and doesn't contain the architecture or platform
-/// `word`.
+/// Returns the reason to skip a case if `listed` isn't empty and doesn't contain `word`.
 ///
-/// The reason begins with `front`.
+/// `word` is the configured architecture or platform. The reason begins with `front`.
 pub fn listed_reason(
     alloc: Global,
     front: &str,
@@ -100,8 +99,9 @@ pub fn listed_reason(
     Ok(Some(reason))
 }
 
-/// Returns the reason if the runner isn't the required user; `root` is `true` if the runner is
-/// root.
+/// Returns the reason to skip a case if the runner isn't the required user.
+///
+/// `root` is `true` if the runner is root.
 pub fn user_reason(user: User, root: bool) -> Option<Reason>
     ensures { text_in result ≡ user_row user root }
 {
@@ -112,7 +112,7 @@ pub fn user_reason(user: User, root: bool) -> Option<Reason>
     }
 }
 
-/// Returns the reason if a required file or program wasn't found.
+/// Returns the reason to skip a case if a required file or program wasn't found.
 pub fn need_reason(
     alloc: Global,
     need: Need,
@@ -130,7 +130,9 @@ pub fn need_reason(
     }
 }
 
-/// Returns the reason if `there`, the known memory or disk space, is less than the required `due`.
+/// Returns the reason to skip a case if the host has less memory or disk space than required.
+///
+/// `due` and `there` are the required and the known amounts in bytes. An unknown amount is enough.
 pub fn amount_reason(phrase: Phrase, due: u64, there: Option<u64>) -> Option<Reason>
     ensures { text_in result ≡ amount_row phrase due there }
 {

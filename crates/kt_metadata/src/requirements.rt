@@ -7,7 +7,7 @@ use kt_base::{NoMemory, Phrase, Reason, Text};
 use kt_config::Config;
 use std::alloc::Global;
 
-/// Returns the reason if the configured architecture isn't among the allowed architectures.
+/// Returns the reason to skip a case if the configured architecture isn't an allowed architecture.
 fn architecture_reason(
     alloc: Global,
     meta: &Meta,
@@ -24,7 +24,7 @@ fn architecture_reason(
     )
 }
 
-/// Returns the reason if the configured platform isn't among the allowed platforms.
+/// Returns the reason to skip a case if the configured platform isn't an allowed platform.
 fn platform_reason(alloc: Global, meta: &Meta, config: &Config) -> Result<Option<Reason>, NoMemory>
     ensures { IfOk result (λ reason. text_in reason ≡ platform_row meta.now config.now) }
 {
@@ -32,7 +32,7 @@ fn platform_reason(alloc: Global, meta: &Meta, config: &Config) -> Result<Option
     listed_reason(alloc, "Current platform '", listed, config.platform())
 }
 
-/// Returns the reason of the first requirement that the host doesn't meet.
+/// Returns the reason to skip a case: the first of its requirements that the host doesn't meet.
 fn host_reason(alloc: Global, meta: &Meta, host: &Host) -> Result<Option<Reason>, NoMemory>
     ensures { IfOk result (λ reason. text_in reason ≡ first_reason (host_rows meta.now host.now)) }
 {
@@ -51,11 +51,10 @@ fn host_reason(alloc: Global, meta: &Meta, host: &Host) -> Result<Option<Reason>
     Ok(amount_reason(Phrase::DiskNeeded, meta.required_disk_space, host.disk))
 }
 
-/// Returns the reason of the first unmet requirement of a case, or `None` if all are met.
+/// Returns the reason to skip a case: its first unmet requirement, or `None` if all are met.
 ///
-/// A case with an unmet requirement isn't run. `suite` is the test suite whose variables are
-/// checked. The order is this profile's: variables, architecture, platform, user, files, programs,
-/// memory, disk space.
+/// `suite` is the test suite whose variables are checked. The order is this profile's: variables,
+/// architecture, platform, user, files, programs, memory, disk space.
 ///
 /// # Errors
 ///

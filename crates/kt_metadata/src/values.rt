@@ -95,7 +95,8 @@ pub fn user(text: &Text) -> Option<User>
 /// The longest timeout, in seconds.
 const LONGEST_TIMEOUT: u32 = 1_000_000;
 
-/// Parses one or more digits, or returns `None` if there are none or the number isn't below 2^64.
+/// Returns the number that `digits` represent, or `None` if `digits` is empty or the number isn't
+/// below 2^64.
 fn number(digits: &[u8]) -> Option<u64>
     ensures { result ≡ number_of digits.now }
 {
