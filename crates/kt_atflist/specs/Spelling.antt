@@ -69,8 +69,8 @@ fits_first cases (Some name) BadValue = not (is_name name)
 fits_first cases (Some name) RepeatedIdent = is_listed cases (lossy name)
 fits_first cases ident _ = false
 
--- `fits_further block key value cause`: `cause` fits a line of `block` with the key `key` and the
--- value `value` (if any); it isn't the first line.
+-- `fits_further block key value cause`: `cause` fits a line of `block`, but not its first, with the
+-- key `key` and the value `value` (if any).
 abbrev pub fits_further : CaseDef → List ℕ → Option (List ℕ) → ListCause → Bool
 fits_further block key None BadLine = true
 fits_further block key (Some value) BadLine = is_empty key

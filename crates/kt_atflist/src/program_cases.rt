@@ -57,7 +57,7 @@ fn all_with_program(
     each_with_program(alloc, &shared, found)
 }
 
-/// Returns the only case of a program, with the program's properties.
+/// Returns the single case `name` of a program, with the properties `props` and the fault `fault`.
 fn one_case(
     alloc: Global,
     name: &str,
@@ -90,10 +90,10 @@ fn listed(alloc: Global, props: &Props, listing: &Listing) -> Result<Items<CaseD
 
 /// Returns the test cases of a program, in order.
 ///
-/// A TAP or plain program has the one case `main`. An ATF program has the cases of its listing. If
-/// the listing can't be used, the program has the one case `__test_cases_list__`, whose `fault` is
-/// the reason. A case's own properties take precedence over its program's. The caller has a listing
-/// for each ATF program.
+/// A TAP or plain program has the one case `main`. An ATF program has the cases of its listing,
+/// which the caller provides. If the listing can't be used, the program has the one case
+/// `__test_cases_list__`, whose `fault` is the reason. A case's own properties take precedence over
+/// its program's.
 ///
 /// # Errors
 ///
