@@ -7,13 +7,13 @@ use Rattle.kt_suite.specs.declared.statement.Meaning.TheVariants as meaning
 use Rattle.kt_suite.proofs.Unfolding.{some_file, some_marks}
 use Rattle.kt_suite.proofs.Walking.{walked-as}
 
--- A fact about the error of a failed allocation and about another error holds of their union.
+-- A fact that holds of a failed allocation and of another error holds of either.
 pub blamed : (P : SuiteFault → Type 0) (other fault : SuiteFault) → (IsNoMemory fault → P fault) → P other → IsNoMemory fault ⊎ (fault ≡ other) → P fault
 blamed P other fault p q (inl n) = p n
 blamed P other fault p q (inr e) = subst P (sym e) q
 
 module _ {S : Type 0} (leads : S → Asked → S → Type 0) where
-  -- The program is missing.
+  -- A missing program is rejected.
   pub adds_missing : (old new : S) (at : Site) (r : Registry) (p : Program) (there : Bool) (fault : SuiteFault) → leads old (Exists p.path there) new → there ≡ false
       → IsNoMemory fault ⊎ (fault ≡ site_fault at MissingProgram) → Adds leads old new at r p (Err fault)
   adds_missing old new at r p there fault h e b =
@@ -22,7 +22,7 @@ module _ {S : Type 0} (leads : S → Asked → S → Type 0) where
       (short (Asks (Exists p.path false) ∷ []) (Fault (site_fault at MissingProgram) ∷ []) [] r fault (false, refl) (no_question _) (new, asked, refl) refl)
       (stops (Asks (Exists p.path false) ∷ []) [] (Fault (site_fault at MissingProgram)) r (site_fault at MissingProgram) (false, refl) (new, asked, refl) refl (is_fault (site_fault at MissingProgram))) b
 
-  -- The program exceeds the limit.
+  -- A program that exceeds the limit is rejected.
   pub adds_too_many : (old new : S) (at : Site) (r : Registry) (p : Program) (there : Bool) (fault : SuiteFault) → leads old (Exists p.path there) new → there ≡ true → program_limit ≤ length r.programs
       → IsNoMemory fault ⊎ (fault ≡ site_fault at TooMany) → Adds leads old new at r p (Err fault)
   adds_too_many old new at r p there fault h e n b =
@@ -39,11 +39,11 @@ module _ {S : Type 0} (leads : S → Asked → S → Type 0) where
   adds_one old new at r after p there h e n a =
       through (Asks (Exists p.path true) ∷ Listed at p ∷ []) after (true, refl) (new, subst (λ (x : Bool). leads old (Exists p.path x) new) e h, refl) (n, a)
 
-  -- An allocation failed before the program was looked up.
+  -- An allocation may fail before the program is looked up.
   pub adds_unasked : (old : S) (at : Site) (r : Registry) (p : Program) (fault : SuiteFault) → IsNoMemory fault → Adds leads old old at r p (Err fault)
   adds_unasked old at r p fault n = short [] (Asks (Exists p.path true) ∷ Listed at p ∷ []) [] r fault (true, refl) (no_question _) refl refl n
 
--- An include is rejected.
+-- An include is rejected with its cause.
 pub enters_refused : (at : Site) (r : Registry) (path : List ℕ) (cause : SuiteCause) (fault : SuiteFault) → Some cause ≡ entry_fault r.reading path → IsNoMemory fault ⊎ (fault ≡ site_fault at cause) → Enters at r path (Err fault)
 enters_refused at r path cause fault e b = blamed (λ f. Enters at r path (Err f)) (site_fault at cause) fault (scant fault) (refuses cause (sym e)) b
 
@@ -54,7 +54,7 @@ pub enters_well : (at : Site) (r after : Registry) (path : List ℕ) → None �
 enters_well at r after path e n a = subst (λ (x : Registry). Enters at r path (Ok x)) (sym a) (counts (sym e) n)
 
 module _ {S : Type 0} (leads : S → Asked → S → Type 0) where
-  -- An allocation failed before the statement had a mark.
+  -- An allocation may fail before the statement has a mark.
   at_once : (old : S) (r : Registry) (at : Site) (m : Meaning) (fault : SuiteFault) → IsNoMemory fault → Walked leads old old (MeaningGives r.reading at m) r (Err fault)
   at_once old r at m fault n = let some = some_marks r.reading (said at true m) in short [] some.0 [] r fault (record { there = true; unfolds = some.1 }) (no_question _) refl refl n
 

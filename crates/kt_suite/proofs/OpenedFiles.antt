@@ -4,7 +4,7 @@ use Rattle.kt_suite.proofs.Common.{Stmt, ReadFault, Missing, SuiteFault, Registr
 use Rattle.kt_suite.proofs.Unfolding.{some_file}
 
 module _ {T : Type 0} (asks : T → Asked → T → Type 0) where
-  -- An allocation failed after the read of a file.
+  -- An allocation may fail after the read of a file.
   file_short : (old new : T) (r : Registry) (file : List ℕ) (answer : Result (List ℕ) ReadFault) (fault : SuiteFault) → asks old (Read file answer) new → IsNoMemory fault → Walked asks old new (FileGives r.reading file) r (Err fault)
   file_short old new r file answer fault h n =
       short [] (Asks (Read file (Err Missing)) ∷ Fault (read_fault file Missing) ∷ []) (Read file answer ∷ []) r fault
@@ -17,6 +17,6 @@ module _ {T : Type 0} (asks : T → Asked → T → Type 0) where
       stops (Asks (Read file answer) ∷ []) [] (Fault fault) r fault (record { parts = _; says = s; unfolds = says _ _ _ _ (says _ _ _ _ (end _)) }) (new, h, refl) refl (is_fault fault)
   unopened_file old new r file _ (lacks answer fault h n) = file_short old new r file answer fault h n
 
-  -- An allocation failed after a file was opened.
+  -- An allocation may fail after a file is opened.
   pub opened_short : (old new : T) (r : Registry) (file : List ℕ) (stmts : List Stmt) (fault : SuiteFault) → Opened asks old new file (Ok stmts) → IsNoMemory fault → Walked asks old new (FileGives r.reading file) r (Err fault)
   opened_short old new r file _ fault (opens text first rest h s w) n = file_short old new r file (Ok text) fault h n

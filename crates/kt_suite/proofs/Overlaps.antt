@@ -1,4 +1,4 @@
--- Filters that match a common case.
+-- Filters that both match some case.
 use Rattle.std.proofs.Common.{arith, ◌≡◌, ℕ, true, false, List, [], ◌∷◌, ◌++◌, refl, sym, ap, ◌∙◌, Option, Some, None, ◌⊎◌, inl, inr, ◌||◌, IsTrue, bytes_eq, append-nil}
 use Rattle.kt_suite.proofs.Common.{nat_tests, append_assoc, eq-eqb, eqb-true, and_parts, and_from, Filter, is_within, IsWithin, parts_match, matches, parts_cover, covers, overlap, ShareCase}
 use Rattle.std.proofs.lemmas.Bool.{or_cases}
@@ -80,11 +80,11 @@ by_side : (filter other : Filter) → (covers filter other ≡ true) ⊎ (covers
 by_side filter other (inl e) = shared_by filter other e
 by_side filter other (inr e) = swapped other filter (shared_by other filter e)
 
--- Filters that overlap match a common case.
+-- If two filters overlap, there is a case that both of them match.
 pub shares : (filter other : Filter) → IsTrue (overlap filter other) → ShareCase filter other
 shares filter other e = by_side filter other (or_cases (covers filter other) (covers other filter) e)
 
--- Filters that match a common case overlap.
+-- If there is a case that two filters match, the filters overlap.
 meet : (program : List ℕ) (part : Option (List ℕ)) (other : List ℕ) (other_part : Option (List ℕ)) (path case_name : List ℕ)
     → parts_match program part path case_name ≡ true → parts_match other other_part path case_name ≡ true
     → (parts_cover program part (record { program = other; case_name = other_part }) || parts_cover other other_part (record { program = program; case_name = part })) ≡ true

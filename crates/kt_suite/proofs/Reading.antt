@@ -42,7 +42,8 @@ module _ {T : Type 0} (asks : T → Asked → T → Type 0) (old mid new : T) (s
   abbrev meaning : Meaning
   meaning = meaning_of suite stmt.action
 
-  -- The marks of one more statement.
+  -- The marks so far, followed by the marks of the next statement, are the marks after this
+  -- statement.
   one_more : (front marks : List Mark) → ReadSoFar start.reading file suite left front → MeaningGives r.reading at meaning marks
       → ReadSoFar start.reading file (suite_after suite meaning) rest (front ++ marks)
   one_more front marks g h = record {
@@ -54,12 +55,12 @@ module _ {T : Type 0} (asks : T → Asked → T → Type 0) (old mid new : T) (s
         (unfolds-append (start.reading ++ file ∷ []) own parts marks more unfolds u));
   }
 
-  -- One more statement was executed.
+  -- Executing a statement reads the file up to the next statement.
   pub reading_next : (after : Registry) (named : Option (List ℕ)) → named ≡ suite_after suite meaning → Walked asks mid new (MeaningGives r.reading at meaning) r (Ok after)
       → Reading asks old new start file after named rest
   reading_next after named n w = subst (λ (x : Option (List ℕ)). Reading asks old new start file after x rest) (sym n) (walked-then f w one_more)
 
-  -- A statement has the mark that decides, or an allocation failed in it.
+  -- A statement with the mark that decides, or with a failed allocation, ends the file.
   pub reading_stops : (fault : SuiteFault) → Walked asks mid new (MeaningGives r.reading at meaning) r (Err fault) → Walked asks old new (FileGives start.reading file) start (Err fault)
   reading_stops fault w =
       let others = some_parts file (suite_after suite meaning) rest in
@@ -69,7 +70,7 @@ module _ {T : Type 0} (asks : T → Asked → T → Type 0) (old mid new : T) (s
 without : (xs : List (List ℕ)) (x : List ℕ) → take (length (xs ++ x ∷ []) - 1) (xs ++ x ∷ []) ≡ xs
 without xs x = take_at xs (x ∷ []) (length (xs ++ x ∷ []) - 1) (omega (arith, length-append xs (x ∷ [])))
 
--- No statement is left.
+-- If no statement remains, the whole file was read.
 pub reading_all : {T : Type 0} (asks : T → Asked → T → Type 0) (old new : T) (start : Registry) (file : List ℕ) (r after : Registry) (suite : Option (List ℕ)) (left : List Stmt) → length left ≡ 0
     → Reading asks old new start file r suite left → after ≡ (record r { reading = take (length r.reading - 1) r.reading })
     → Walked asks old new (FileGives start.reading file) start (Ok after)

@@ -3,8 +3,8 @@ use Rattle.std.proofs.Common.{Option, Some, None, Ok, Err, ◌≡◌, ◌≤◌,
 use Rattle.kt_suite.proofs.Common.{Contains, Contains-push, Contains-append_left, Contains-append_right, SuiteFault, Program, Asked, SameQuestion, IsSteady, Site, Mark, Asks, File, Listed, Fault, TreeGives, file_limit, program_limit, Outcome, questions_in, files_in, programs_in, faults_in, Decides, is_fault, file_too_many, program_too_many, Registered, all, stopped}
 use Rattle.kt_suite.proofs.Agreement.{Agree, both_end, same_mark, both_ask, trees_agree}
 
--- `Cut files programs marks asked listed fault`: the calls, the programs and the error of `marks`
--- up to the mark that decides, after this number of files and programs.
+-- `Cut files programs marks asked listed fault`: the calls, programs and error of `marks` up to the
+-- mark that decides, counted from `files` and `programs`.
 data Cut : ℕ → ℕ → List Mark → List Asked → List Program → Option SuiteFault → Type 0 where
   c_end : (n k : ℕ) → Cut n k [] [] [] None
   c_asks : (n k : ℕ) (q : Asked) (ms : List Mark) (qs : List Asked) (ps : List Program) (f : Option SuiteFault) → Cut n k ms qs ps f → Cut n k (Asks q ∷ ms) (q ∷ qs) ps f

@@ -39,14 +39,14 @@ three_parts : (before : List Variable) (pair : Variable) (name suite : Option (L
     → table_of (before ++ pair ∷ []) ≡ record { name = name; suite = suite; props = last_values props }
 three_parts before pair name suite props n s p = rw (n, s, p) refl
 
--- A name is added.
+-- A pair with the key `name` sets the name of the table.
 push_name : (before : List Variable) (text : List ℕ) → table_of (before ++ (record { name = codes "name"; value = text }) ∷ []) ≡ record (table_of before) { name = Some text }
 push_name before text =
     let pair : Variable = record { name = codes "name"; value = text } in
     three_parts before pair (Some text) (value_of (codes "test_suite") before) (filter is_property before) (value_of-append (codes "name") before (pair ∷ [])) (value_of-append (codes "test_suite") before (pair ∷ []))
     (properties-append before (pair ∷ []) ∙ append-nil (filter is_property before))
 
--- A test suite is added.
+-- A pair with the key `test_suite` sets the test suite of the table.
 push_suite : (before : List Variable) (text : List ℕ) → table_of (before ++ (record { name = codes "test_suite"; value = text }) ∷ []) ≡ record (table_of before) { suite = Some text }
 push_suite before text =
     let pair : Variable = record { name = codes "test_suite"; value = text } in
@@ -56,7 +56,7 @@ push_suite before text =
 one_kept : (p : Variable → Bool) (pair : Variable) → p pair ≡ true → filter p (pair ∷ []) ≡ pair ∷ []
 one_kept p pair e = ap (λ (b : Bool). cond b (pair ∷ []) []) e
 
--- A property is added.
+-- A pair with the name of a property sets the property.
 push_property : (before : List Variable) (pair : Variable) → (bytes_eq pair.name (codes "name") ≡ false) × (bytes_eq pair.name (codes "test_suite") ≡ false) × (is_kyuafile_property pair.name ≡ true)
     → table_of (before ++ pair ∷ []) ≡ record (table_of before) { props = last_values (filter is_property before ++ pair ∷ []) }
 push_property before pair k =
@@ -65,7 +65,7 @@ push_property before pair k =
     (value_of-append (codes "test_suite") before (pair ∷ []) ∙ ap (λ (o : Option (List ℕ)). option_or o (value_of (codes "test_suite") before)) (other_value (codes "test_suite") pair k.1))
     (properties-append before (pair ∷ []) ∙ ap (λ (ps : List Variable). filter is_property before ++ ps) (one_kept is_property pair k.2))
 
--- A definition is added by the kind of its key.
+-- A pair changes the table by the kind of its key.
 by_key : (before : List Variable) (pair : Variable) (k : Key) (table : ProgramTable) → k ≡ key_named pair.name → table_of (before ++ pair ∷ []) ≡ table → unless (key_fault k pair) table ≡ table_with before pair
 by_key before pair k table e t = ap (λ (x : Key). unless (key_fault x pair) table) e ∙ ap (λ (x : ProgramTable). unless (pair_fault pair) x) (sym t)
 

@@ -1,4 +1,4 @@
--- Filters that match a common case.
+-- Filters that both match some case.
 use Rattle.std.specs.Prelude.{ℕ, ◌≡◌, ◌<◌, Bool, ◌&&◌, ◌||◌, IsTrue, List, Option, Some, None, take, find, slice_get, option_map, option_and_then, bytes_eq, if◌then◌else◌}
 use Rattle.std.specs.Option.{option_eq}
 use Rattle.kt_suite.specs.Types.{Filter, FilterFault}
@@ -23,7 +23,7 @@ covers filter other = parts_cover filter.program filter.case_name other
 abbrev pub overlap : Filter → Filter → Bool
 overlap filter other = covers filter other || covers other filter
 
--- `ShareCase filter other`: both filters match a common case of some program.
+-- `ShareCase filter other`: there is a case that both filters match.
 abbrev pub ShareCase : Filter → Filter → Type 0
 ShareCase filter other = (path case_name : List ℕ) × IsTrue (matches filter path case_name) × IsTrue (matches other path case_name)
 

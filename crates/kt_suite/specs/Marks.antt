@@ -81,8 +81,8 @@ pub data FileSays (file : List ℕ) : List Part → Type 0 where
       → Spells text (first ∷ rest) → opening_fault first.action ≡ None → StatementsSay file None rest parts
       → FileSays file (Says (Asks (Read file (Ok text))) ∷ parts)
 
--- `entry_fault files path`: the cause why `path` can't be included while `files` are open: it is
--- one of them, or they are 32.
+-- `entry_fault files path`: the cause of the error if `path` is included while `files` are open: it
+-- is one of them, or they are 32.
 abbrev pub entry_fault : List (List ℕ) → List ℕ → Option SuiteCause
 entry_fault files path =
     if list_any (bytes_eq path) files then Some IncludeLoop

@@ -16,17 +16,18 @@ use Rattle.kt_suite.specs.Tables.{declared}
 use Rattle.kt_suite.specs.Paths.{has_directory, leads_down}
 use Rattle.kt_base.specs.Texts.{is_empty}
 
--- `version_fault arg`: the cause why `arg` is not an argument of `syntax`.
+-- `version_fault arg`: the cause of the error in the argument `arg` of `syntax`.
 abbrev pub version_fault : Arg → Option SuiteCause
 version_fault (Value (Number n)) = if n == 2 then None else Some (WrongSyntax n)
 version_fault other = Some BadValue
 
--- `first_call_fault call arg`: the cause why a file may not begin with `call`.
+-- `first_call_fault call arg`: the cause of the error if a file begins with `call`.
 abbrev pub first_call_fault : CallKind → Arg → Option SuiteCause
 first_call_fault call.Syntax arg = version_fault arg
 first_call_fault other arg = Some NoSyntax
 
--- `opening_fault action`: the cause why a file may not begin with `action`; `syntax(2)` has none.
+-- `opening_fault action`: the cause of the error if a file begins with `action`; `syntax(2)` has
+-- none.
 abbrev pub opening_fault : Action → Option SuiteCause
 opening_fault (Call name arg) = first_call_fault (call_named name) arg
 opening_fault (Assign parts value) = Some NoSyntax

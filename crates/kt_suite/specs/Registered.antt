@@ -56,8 +56,8 @@ pub data Decides (files programs : ℕ) : Mark → SuiteFault → Type 0 where
   program_too_many : (at : Site) (program : Program) → program_limit ≤ programs
       → Decides files programs (Listed at program) (site_fault at TooMany)
 
--- `Registered asked root result`: the tree of `root` has the result `result` by the calls `asked`,
--- which are exactly those before the mark that decides.
+-- `Registered asked root result`: the tree of `root` has the result `result`. `asked` are the calls
+-- before the mark that decides, or all calls without such a mark.
 pub data Registered (asked : List Asked) (root : List ℕ) : Outcome → Type 0 where
   all : (marks : List Mark) → TreeGives root marks → IsUndecided marks → asked ≡ questions_in marks
       → Registered asked root (Ok (programs_in marks))
@@ -72,8 +72,8 @@ pub data IsNext : List Mark → List Asked → Type 0 where
   thrown_away : (question other : Asked) (marks : List Mark) → SameQuestion question other
       → IsNext (Asks other ∷ marks) (question ∷ [])
 
--- `Unfinished asked root outcome`: an allocation failed before a mark decided; `asked` is a prefix
--- of the calls.
+-- `Unfinished asked root outcome`: an allocation failed before a mark decided. `asked` is a prefix
+-- of the calls, whose last call may have any result.
 pub record Unfinished (asked : List Asked) (root : List ℕ) (outcome : Outcome) : Type 0 where
   pub fault : SuiteFault
   pub no_memory : IsNoMemory fault

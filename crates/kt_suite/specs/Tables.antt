@@ -25,24 +25,24 @@ definitions (pair ∷ pairs) = definition pair ∷ definitions pairs
 abbrev pub is_property : Variable → Bool
 is_property pair = is_kyuafile_property pair.name
 
--- `value_cause fault`: the cause why the value of a property is rejected, if it has the error
+-- `value_cause fault`: the cause of the error in a table if the value of a property has the error
 -- `fault`.
 abbrev pub value_cause : Option PropFault → Option SuiteCause
 value_cause None = None
 value_cause (Some fault) = Some BadValue
 
--- `key_fault key pair`: the cause why `pair`, whose key is of the kind `key`, is rejected.
+-- `key_fault key pair`: the cause of the error in `pair`, whose key is of the kind `key`.
 abbrev pub key_fault : Key → Variable → Option SuiteCause
 key_fault key.Name pair = None
 key_fault key.TestSuite pair = None
 key_fault key.Property pair = value_cause (definition_fault pair.name pair.value)
 key_fault key.Unknown pair = Some UnknownProperty
 
--- `pair_fault pair`: the cause why `pair` is rejected: an unknown key, or else a bad value.
+-- `pair_fault pair`: the cause of the error in `pair`: an unknown key, or else a bad value.
 abbrev pub pair_fault : Variable → Option SuiteCause
 pair_fault pair = key_fault (key_named pair.name) pair
 
--- `first_fault pairs`: the cause why the first rejected pair is rejected.
+-- `first_fault pairs`: the cause of the error in the first rejected pair.
 abbrev pub first_fault : List Variable → Option SuiteCause
 first_fault [] = None
 first_fault (pair ∷ pairs) = option_or (pair_fault pair) (first_fault pairs)
@@ -60,7 +60,7 @@ abbrev pub unless : {T : Type 0} → Option SuiteCause → T → Result T SuiteC
 unless None there = Ok there
 unless (Some cause) there = Err cause
 
--- `declared pairs`: the declarations of a table, or the cause why its first rejected pair is
--- rejected.
+-- `declared pairs`: the declarations of a table, or the cause of the error in its first rejected
+-- pair.
 abbrev pub declared : List Pair → Result ProgramTable SuiteCause
 declared pairs = unless (first_fault (definitions pairs)) (table_of (definitions pairs))

@@ -27,7 +27,7 @@ pub enum SuiteCause {
     NoMemory(NoMemory),
     /// A file has no statement, or its first statement is not a call of `syntax`.
     NoSyntax,
-    /// A file declares this syntax, which is not 2.
+    /// A file declares a syntax with this number, which is not 2.
     #[error("{SYNTAX}{0}{NOT_SUPPORTED}")]
     WrongSyntax(u64),
     /// A statement after the first is an assignment, a call of `syntax`, or an unknown call.

@@ -25,7 +25,7 @@ pub enum FilterFault {
     EmptyCase,
     /// The filter at this position is equal to an earlier filter.
     Repeated(usize),
-    /// The filter at this position and another, earlier filter match a common case.
+    /// The filter at this position and another, earlier filter both match some case.
     NotDisjoint(usize),
 }
 
@@ -55,7 +55,7 @@ impl From<NoMemory> for FilterFault {
     }
 }
 
-/// A filter for test cases: the cases of a program or below a directory, or one case (kyua(1)).
+/// A filter for test cases: all cases of a program or below a directory, or one case (kyua(1)).
 #[derive(Drop)]
 pub struct Filter {
     /// The path of a program or a directory, relative to the directory of the root Kyuafile.
@@ -74,7 +74,7 @@ impl Filter {
     ///
     /// # Errors
     ///
-    /// - `Empty`: nothing precedes the colon, or each component is empty or `.`.
+    /// - `Empty`: nothing precedes the first colon, or each component of the path is empty or `.`.
     /// - `Absolute`: `text` begins with a slash.
     /// - `EmptyCase`: nothing follows the first colon.
     /// - `NoMemory`: an allocation fails.

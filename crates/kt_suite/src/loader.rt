@@ -13,14 +13,14 @@ use std::alloc::Global;
 pub struct Registry {
     /// The open files: the root first, then each file after the file that includes it.
     pub reading: Items<Text>,
-    /// The number of files that were counted, at most 10,000.
+    /// The number of files that were read or are read next, at most 10,000.
     pub files: usize,
     /// The registered programs in order, at most 10,000.
     pub programs: Items<Program>,
 }
 
-/// Implemented manually, so that the prover takes a drop as one call and the fields apart only
-/// here.
+/// Implemented manually for the prover: a drop is one call, and only this function takes the fields
+/// apart.
 impl Drop for Registry {
     fn drop(self) {
         let Registry {
@@ -44,7 +44,7 @@ impl Registry {
         programs
     }
 
-    /// Removes the file that was opened last from the open files.
+    /// Removes the file that was opened last from the open files, and returns the registry.
     pub fn end(self) -> Registry
         ensures { result ≡ (record self { reading = take (length self.reading - 1) self.reading }) }
     {
@@ -136,7 +136,7 @@ pub fn open_file<T: Tree>(
     }
 }
 
-/// Appends `file` to the open files.
+/// Appends `file` to the open files, and returns the registry.
 fn begin(registry: Registry, file: &Text) -> Result<Registry, NoMemory>
     ensures { IfOk result (λ next. next
         ≡ (record registry { reading = registry.reading ++ file.now ∷ [] })) }

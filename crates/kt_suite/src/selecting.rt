@@ -164,7 +164,7 @@ fn compare_items(alloc: Global, items: &[Item], filters: &[Filter]) -> Result<Se
 /// Returns the positions of the items that some filter matches, and of the filters that match no
 /// item.
 ///
-/// Without filters, each item is selected. Filters may match common cases.
+/// Without filters, each item is selected. Several filters may match the same item.
 ///
 /// # Errors
 ///

@@ -20,11 +20,12 @@ pub enum Meaning {
     /// A program: its interface, its name in the directory of the file, its test suite and its
     /// properties.
     Program(Interface, Text, Text, Props),
-    /// The cause why the statement is rejected.
+    /// The cause of the error in the statement.
     Wrong(SuiteCause),
 }
 
-/// Returns the cause why a file may not begin with this statement, or `None` for `syntax(2)`.
+/// Returns the cause of the error if a file may not begin with this statement; `syntax(2)` has
+/// none.
 pub fn wrong_opening(action: &Action) -> Option<SuiteCause>
     ensures { result ≡ opening_fault action.now }
 {

@@ -27,7 +27,7 @@ fn is_among(files: &[Text], path: &Text) -> bool
     files.iter().any(|file| is_same(path, file))
 }
 
-/// Returns the cause why the file at `path` may not be included while `files` are open.
+/// Returns the cause of the error if the file at `path` may not be included while `files` are open.
 fn wrong_entry(files: &[Text], path: &Text) -> Option<SuiteCause>
     ensures { result ≡ entry_fault files.now path.now }
 {
@@ -40,7 +40,7 @@ fn wrong_entry(files: &[Text], path: &Text) -> Option<SuiteCause>
     }
 }
 
-/// Counts the file at `path`, or returns the error if it may not be included here.
+/// Counts the file at `path` in the registry, or returns the error if the file may not be included.
 fn enter(
     alloc: Global,
     file: &Text,
@@ -61,7 +61,7 @@ fn enter(
     Ok(registry)
 }
 
-/// Returns the step into the file that an `include` names, or the error if it may not be read here.
+/// Returns the step into the file that an `include` names, or the error if it may not be included.
 fn include(
     alloc: Global,
     file: &Text,
@@ -85,7 +85,7 @@ fn include(
 
 /// Registers a program whose path is still its name in the directory of `file`.
 ///
-/// Fails if the program is missing or exceeds the limit.
+/// Fails if no regular file is at its path, or if 10,000 programs are registered.
 fn register<T: Tree>(
     alloc: Global,
     tree: &mut T,

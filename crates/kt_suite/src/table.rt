@@ -50,8 +50,8 @@ pub struct ProgramTable {
     pub props: Props,
 }
 
-/// Implemented manually, so that the prover takes a drop as one call and the fields apart only
-/// here.
+/// Implemented manually for the prover: a drop is one call, and only this function takes the fields
+/// apart.
 impl Drop for ProgramTable {
     fn drop(self) {
         let ProgramTable {
@@ -93,7 +93,7 @@ impl ProgramTable {
     }
 }
 
-/// Sets the property `name` in a table, or returns the cause why the value is rejected.
+/// Sets the property `name` in a table, or returns the cause of the error.
 fn set_property(
     found: ProgramTable,
     name: &Text,
@@ -110,7 +110,7 @@ fn set_property(
     }
 }
 
-/// Adds a pair to a table, or returns the cause why the pair is rejected.
+/// Adds a pair to a table, or returns the cause of the error in the pair.
 fn take_pair(
     alloc: Global,
     found: ProgramTable,
@@ -135,7 +135,7 @@ fn take_pair(
     }
 }
 
-/// Returns the declarations of a table, or the cause why its first rejected pair is rejected.
+/// Returns the declarations of a table, or the cause of the error in its first rejected pair.
 fn read_table(alloc: Global, pairs: &[Pair]) -> Result<Result<ProgramTable, SuiteCause>, NoMemory>
     ensures { IfOk result (λ found. found ≡ declared pairs.now) }
 {

@@ -5,7 +5,7 @@ ghost use Rattle.kt_suite.specs.declared.filter.Filter.{Filter as OneFilter};
 use crate::{Filter, FilterFault};
 use kt_base::Text;
 
-/// Returns `true` if `path` ends at the byte `place` or has a slash there.
+/// Returns `true` if the byte of `path` at `place` is a slash, or `path` has no byte at `place`.
 fn ends_component_at(path: &[u8], place: usize) -> bool
     ensures { result ≡ is_within [] (drop place path.now) }
 {
@@ -107,13 +107,13 @@ fn overlap_fault(filters: &[Filter], position: usize) -> Option<FilterFault>
 
 /// Checks that no case is matched by two filters.
 ///
-/// The error is about the first filter that matches a common case with an earlier filter. Allocates
-/// nothing.
+/// The error is about the first filter that overlaps with an earlier filter: some case is matched
+/// by both. Allocates nothing.
 ///
 /// # Errors
 ///
-/// - `Repeated`: the filter is equal to the first such earlier filter.
-/// - `NotDisjoint`: the filter is not equal to the first such earlier filter.
+/// - `Repeated`: the filter is equal to the first earlier filter that it overlaps with.
+/// - `NotDisjoint`: the filter is not equal to the first earlier filter that it overlaps with.
 pub fn check_disjoint(filters: &[Filter]) -> Result<(), FilterFault>
     ensures ok { OnOk result (IsDisjoint filters.now) }
     ensures first { IfErr result (IsFirstFault filters.now) }
@@ -126,10 +126,10 @@ pub fn check_disjoint(filters: &[Filter]) -> Result<(), FilterFault>
     Ok(())
 }
 
-/// Theorem: two filters overlap if and only if they match a common case.
+/// Theorem: two filters overlap if and only if there is a case that both of them match.
 ///
-/// A path is within a directory if it is the directory, or begins with the directory and a slash.
-/// Two filters are the same if and only if they are equal.
+/// A path is within a directory if and only if it is the directory, or begins with the directory
+/// and a slash. A comparison of two filters by their parts decides whether the filters are equal.
 pub fn filter_laws()
     ensures within { (directory path : List ℕ) → IsTrue (is_within directory path)
         ↔ IsWithin directory path }

@@ -11,20 +11,20 @@ use Rattle.kt_suite.specs.Filters.{counts}
 use Rattle.kt_suite.specs.Selecting.{places, matches_item}
 use Rattle.kt_suite.specs.Tables.{value_cause, pair_fault, table_of, unless}
 
--- `props_with before pair`: the properties `before` with `pair` set, or the cause why its value is
--- rejected.
+-- `props_with before pair`: the properties `before` with `pair` set, or the cause of the error in
+-- `pair`.
 abbrev pub props_with : List Variable → Variable → Result (List Variable) SuiteCause
 props_with before pair =
     unless (value_cause (definition_fault pair.name pair.value)) (last_values (before ++ pair ∷ []))
 
--- `with_props found props`: the table `found` with the properties `props`, or the cause why they
--- are rejected.
+-- `with_props found props`: the table `found` with the properties `props`, or the cause of their
+-- error.
 abbrev pub with_props : ProgramTable → Result (List Variable) SuiteCause → Result ProgramTable SuiteCause
 with_props found (Ok props) = Ok (record found { props = props })
 with_props found (Err cause) = Err cause
 
--- `table_with before pair`: the table of `before` with `pair` appended, or the cause why `pair` is
--- rejected.
+-- `table_with before pair`: the table of `before` with `pair` appended, or the cause of the error
+-- in `pair`.
 abbrev pub table_with : List Variable → Variable → Result ProgramTable SuiteCause
 table_with before pair = unless (pair_fault pair) (table_of (before ++ pair ∷ []))
 

@@ -22,8 +22,8 @@ Counted r (Listed at program ∷ marks) after =
     (length r.programs < program_limit) × Counted (record r { programs = r.programs ++ program ∷ [] }) marks after
 Counted r (Fault fault ∷ marks) after = ⊥
 
--- `Walked leads old new Gives r result`: the marks that `Gives` describes were counted from `r` on,
--- up to the mark that decides or a failed allocation.
+-- `Walked leads old new Gives r result`: marks with `Gives` were counted from `r` on, with calls
+-- from `old` to `new`. Counting ends at the mark that decides, or at a failed allocation.
 pub data Walked {S : Type 0} (leads : S → Asked → S → Type 0) (old new : S) (Gives : List Mark → Type 0) (r : Registry)
     : Result Registry SuiteFault → Type 0 where
   through : (marks : List Mark) (after : Registry)

@@ -3,8 +3,8 @@ use Rattle.kt_suite.proofs.Common.{filter, places, is_selected, selected_places,
 use Rattle.kt_suite.proofs.Picking.{is_unmatched_at}
 use Rattle.kt_suite.proofs.selecting.compare_items.Given as goal
 
--- The positions so far, followed by those of the remaining items, are all; the unmatched filters,
--- without the matches of the remaining items, are the final ones.
+-- The positions so far, followed by the positions of the remaining items, are all positions. The
+-- unmatched filters without the matches of the remaining items are the final unmatched filters.
 abbrev pub invariant-loop-item : goal.invariant-loop-item
 invariant-loop-item l = record {
   found : l.cases.items ++ places (is_selected l.filters) l.place (drop l.item-index l.items) ≡ selected_places l.items l.filters;
