@@ -32,7 +32,7 @@ pub enum Form {
 /// The timeout of a case without a `timeout` property, in seconds.
 pub const DEFAULT_TIMEOUT: u32 = 300;
 
-/// Returns the value of `words`, or `None` if `wrong` is `true`.
+/// Returns the elements `words` as a value, or `None` if `wrong` is `true`.
 fn unless(wrong: bool, words: Items<Text>) -> Option<Value>
     ensures { result ≡ (if wrong then None else Some (Value.Words words)) }
 {

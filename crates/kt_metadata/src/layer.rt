@@ -8,7 +8,7 @@ use kt_base::{NoMemory, Text, Variable, Variables};
 use std::alloc::Global;
 use std::marker::Model;
 
-/// A map from names to definitions, in the order of the first definitions.
+/// A map from names of properties to definitions, in the order of the first definitions.
 ///
 /// In contracts, it is the list of its names with their texts. Each name occurs once.
 #[derive(Drop)]

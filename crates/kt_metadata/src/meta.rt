@@ -5,9 +5,9 @@ use kt_base::{Items, NoMemory, Text};
 
 /// The effective properties of a case (kyuafile(5)): each by its value, or else by its default.
 pub struct Meta {
-    /// The allowed architectures, or none if each is allowed.
+    /// The allowed architectures. If the list is empty, each architecture is allowed.
     pub allowed_architectures: Items<Text>,
-    /// The allowed platforms, or none if each is allowed.
+    /// The allowed platforms. If the list is empty, each platform is allowed.
     pub allowed_platforms: Items<Text>,
     /// A description for people.
     pub description: Text,

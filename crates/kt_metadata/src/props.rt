@@ -163,7 +163,7 @@ impl Props {
         Ok(layer)
     }
 
-    /// Returns the listing in memory that copies of it share.
+    /// Returns the listing of the properties, in memory that copies of the listing share.
     fn shared_listing(&self) -> Result<Variables, NoMemory>
         ensures { IfOk result (λ pairs. pairs ≡ listing self.now) }
     {
@@ -182,7 +182,7 @@ impl Props {
 
     /// Returns equal properties in memory that overlays over them share.
     ///
-    /// The call computes the listing of the properties. If a case sets no property,
+    /// The call computes the listing of the properties. If an overlay adds no property,
     /// [`Props::listing`] shares the memory of this listing.
     ///
     /// # Errors
@@ -254,7 +254,7 @@ impl Props {
         all.add_custom(pairs)
     }
 
-    /// Returns the listing in newly allocated memory.
+    /// Returns the listing of the properties, in newly allocated memory.
     fn own_listing(&self) -> Result<Variables, NoMemory>
         ensures { IfOk result (λ pairs. pairs ≡ listing self.now) }
     {
@@ -268,8 +268,8 @@ impl Props {
     ///
     /// The effective values are in the order of the table of properties, the custom properties in
     /// the order of their first definitions. Elements are joined by one space, and numbers are
-    /// decimal. A property with an empty text is omitted. If a case sets no property, its listing
-    /// shares the memory of its program's listing.
+    /// decimal. A property with an empty text is omitted. If an overlay adds no property to
+    /// [`Props::shared`] properties, the result shares the memory of their listing.
     ///
     /// # Errors
     ///

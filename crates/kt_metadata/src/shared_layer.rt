@@ -5,7 +5,7 @@ use crate::layer::Layer;
 use kt_base::{NoMemory, Variables};
 use std::marker::Model;
 
-/// A layer with its listing, which the cases of a program share.
+/// A layer of properties with its listing, which the cases of a program share.
 ///
 /// In contracts, it is the list of its names with their texts. Each name occurs once.
 #[derive(Drop)]

@@ -36,7 +36,7 @@ pub fn is_custom(name: &str) -> bool
     own_part(name, "custom.").is_some()
 }
 
-/// Returns the first row with the property name `name`.
+/// Returns the first row whose property name is `name`.
 fn row_named<'a>(name: &Text, rows: &'a [Row]) -> Option<&'a Row>
     ensures { option_map row_in (option_copied result)
         ≡ find (has_name name.now) (map row_in rows.now) }
@@ -49,7 +49,7 @@ fn row_named<'a>(name: &Text, rows: &'a [Row]) -> Option<&'a Row>
     None
 }
 
-/// Returns the first row with the key `key`, which a list of ATF cases may contain.
+/// Returns the first row whose key in a list of ATF cases is `key`.
 pub fn row_keyed<'a>(key: &Text, rows: &'a [Row]) -> Option<&'a Row>
     ensures { option_map row_in (option_copied result)
         ≡ find (has_key key.now) (map row_in rows.now) }

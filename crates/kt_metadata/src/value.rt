@@ -43,7 +43,7 @@ pub fn copy_of_words(alloc: Global, words: &[Text]) -> Result<Items<Text>, NoMem
     Ok(copy)
 }
 
-/// Joins `words` by one space.
+/// Joins the elements `words` by one space.
 fn join(alloc: Global, words: &[Text]) -> Result<Text, NoMemory>
     ensures { IfOk result (λ text. text ≡ joined words.now) }
 {
@@ -53,7 +53,7 @@ fn join(alloc: Global, words: &[Text]) -> Result<Text, NoMemory>
     }
 }
 
-/// Appends `words` to `front`, each after a space.
+/// Appends the elements `words` to `front`, each after a space.
 fn join_after(front: Text, words: &[Text]) -> Result<Text, NoMemory>
     ensures { IfOk result (λ text. text ≡ front ++ spaced words.now) }
 {
@@ -65,14 +65,14 @@ fn join_after(front: Text, words: &[Text]) -> Result<Text, NoMemory>
     Ok(text)
 }
 
-/// Returns the text that represents `value` in a listing.
+/// Returns the text that represents a truth value in a listing of properties.
 fn truth_word(value: bool) -> &'static str
     ensures { chars result.now ≡ truth_text value }
 {
     if value { "true" } else { "false" }
 }
 
-/// Returns the text that represents `user` in a listing.
+/// Returns the text that represents a required user in a listing of properties.
 fn user_word(user: User) -> &'static str
     ensures { chars result.now ≡ user_text user }
 {
@@ -98,7 +98,7 @@ impl Value {
         }
     }
 
-    /// Returns the text that represents the value in a listing.
+    /// Returns the text that represents the value in a listing of properties.
     ///
     /// `text` is the text from which the value was parsed.
     pub fn shown(&self, alloc: Global, text: &str) -> Result<Text, NoMemory>

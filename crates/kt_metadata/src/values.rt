@@ -147,7 +147,7 @@ pub fn size(text: &[u8]) -> Option<u64>
     scaled(number(&text[..length]), factor(&text[length..]))
 }
 
-/// Returns the timeout that `number` represents, or `None` if it is too long or `rest` isn't empty.
+/// Returns the timeout of `number` seconds, or `None` if it is too long or `rest` isn't empty.
 ///
 /// The number 0 represents the longest timeout, 1,000,000 seconds.
 fn limited(number: Option<u64>, rest: &[u8]) -> Option<u32>
