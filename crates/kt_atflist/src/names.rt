@@ -6,7 +6,7 @@ use kt_base::{NoMemory, Text};
 use std::alloc::Global;
 use std::marker::Model;
 
-/// A set of names, which finds a name in constant time.
+/// A set of names with lookup in constant time.
 ///
 /// In contracts, it is the list of the names in the order of their insertion.
 #[derive(Drop)]

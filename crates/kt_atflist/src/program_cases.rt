@@ -44,8 +44,7 @@ fn each_with_program(
     Ok(cases)
 }
 
-/// Returns the cases `found` with their own properties over `props`, in memory that the cases
-/// share.
+/// Returns the cases `found` with their own properties over `props`, whose memory the cases share.
 fn all_with_program(
     alloc: Global,
     props: &Props,

@@ -28,7 +28,7 @@ fn first_line(text: &[u8]) -> Option<(&[u8], &[u8])>
 /// The first line of each list.
 const HEADER: &[u8] = b"Content-Type: application/X-atf-tp; version=\"1\"";
 
-/// Parses the blocks of a list; `text` is the list without its first two lines.
+/// Parses the blocks of a list from line 3 on.
 fn read_from(alloc: Global, text: &[u8]) -> Result<Items<CaseDef>, ListFault>
     ensures { IsUnlessMemory result (read_from 3 nothing_read (lines text.now)) }
 {
@@ -47,8 +47,7 @@ fn read_from(alloc: Global, text: &[u8]) -> Result<Items<CaseDef>, ListFault>
     Ok(cases)
 }
 
-/// Parses the blocks of a list, which needs a block; `text` is the list without its first two
-/// lines.
+/// Parses a list from line 3 on; line 3 must exist.
 fn read_blocks(alloc: Global, text: &[u8]) -> Result<Items<CaseDef>, ListFault>
     ensures { IsUnlessMemory result (read_blocks (lines text.now)) }
 {
@@ -61,7 +60,7 @@ fn read_blocks(alloc: Global, text: &[u8]) -> Result<Items<CaseDef>, ListFault>
     read_from(alloc, text)
 }
 
-/// Parses the list without its first line; the second line must be empty.
+/// Parses a list from line 2 on; line 2 must be empty.
 fn read_second(alloc: Global, text: &[u8]) -> Result<Items<CaseDef>, ListFault>
     ensures { IsUnlessMemory result (read_second (lines text.now)) }
 {
@@ -78,7 +77,7 @@ fn read_second(alloc: Global, text: &[u8]) -> Result<Items<CaseDef>, ListFault>
     read_blocks(alloc, rest)
 }
 
-/// Parses a list in UTF-8, whose first line must be the header.
+/// Parses a list in UTF-8 from line 1 on; line 1 must be the header.
 fn read_lines(alloc: Global, text: &[u8]) -> Result<Items<CaseDef>, ListFault>
     ensures { IsUnlessMemory result (read_lines (lines text.now)) }
 {

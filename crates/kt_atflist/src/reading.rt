@@ -34,7 +34,7 @@ impl Model for Reading {
 }
 
 impl Reading {
-    /// Creates the state before the first block.
+    /// Creates the state of the reader before the first block of a list.
     ///
     /// Allocates nothing.
     pub fn new(alloc: Global) -> Reading

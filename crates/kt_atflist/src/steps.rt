@@ -50,7 +50,7 @@ fn name_in(alloc: Global, line: &[u8]) -> Result<Result<Text, ListCause>, NoMemo
     }
 }
 
-/// Reads the first line of a block.
+/// Reads the first line of a block: begins the block, or returns the cause of a fault.
 fn begin(alloc: Global, cases: Items<CaseDef>, names: Names, line: &[u8]) -> Result<Step, NoMemory>
     requires { names ≡ names_of cases None }
     ensures { IfOk result (λ step. step ≡ begin_with cases (name_from (ident_in line.now))) }
@@ -152,7 +152,7 @@ fn set_line(alloc: Global, block: &mut Block, line: &[u8]) -> Result<Option<List
     }
 }
 
-/// Reads a line of a block that is neither its first line nor empty.
+/// Reads a line of a block that is neither the block's first line nor empty.
 fn go_on_with(
     alloc: Global,
     cases: Items<CaseDef>,
@@ -182,7 +182,7 @@ fn with_block(mut cases: Items<CaseDef>, block: Block) -> Result<Items<CaseDef>,
     Ok(cases)
 }
 
-/// Reads a line of a block that isn't its first line. An empty line ends the block.
+/// Reads a line of a block after the block's first line. An empty line ends the block.
 fn go_on(
     alloc: Global,
     cases: Items<CaseDef>,
@@ -219,7 +219,7 @@ pub fn step(alloc: Global, reading: Reading, line: &[u8]) -> Result<Step, NoMemo
     }
 }
 
-/// Returns all cases at the end of the list; the end finishes a block in progress.
+/// Returns all cases of the list, whose end also ends a block in progress.
 pub fn finish(reading: Reading) -> Result<Items<CaseDef>, NoMemory>
     ensures { IfOk result (λ cases. cases ≡ finished reading) }
 {
