@@ -117,7 +117,7 @@ impl Filter {
     }
 }
 
-/// Returns the error in the case of a filter, if there is one.
+/// Returns the error if the name of the case in a filter is empty.
 fn case_fault(case_name: &Option<Text>) -> Option<FilterFault>
     ensures { result ≡ case_fault case_name.now }
 {
@@ -127,7 +127,7 @@ fn case_fault(case_name: &Option<Text>) -> Option<FilterFault>
     }
 }
 
-/// Returns the first error in the path and the case of a filter, as they are written.
+/// Returns the first error in the program path and the case name of a filter, as they are written.
 fn parts_fault(path: &Text, case_name: &Option<Text>) -> Option<FilterFault>
     ensures { result ≡ parts_fault path.now case_name.now }
 {

@@ -10,7 +10,7 @@ use kt_metadata::Props;
 use kt_script::{Action, Arg, Literal};
 use std::alloc::Global;
 
-/// A meaning of a statement, which does not depend on the files of the tree.
+/// A meaning of a statement in a Kyuafile, which does not depend on the files of the tree.
 #[derive(Drop)]
 pub enum Meaning {
     /// The test suite of the programs after the statement.
@@ -72,7 +72,7 @@ fn read_include(alloc: Global, arg: &Arg) -> Result<Meaning, NoMemory>
     }
 }
 
-/// Returns the meaning of a statement after the first, in a file whose test suite so far is `file`.
+/// Returns the meaning of a statement after the first, in a file whose test suite is `file`.
 pub fn read_statement(
     alloc: Global,
     file: &Option<Text>,

@@ -24,7 +24,7 @@ enum Key {
     Unknown,
 }
 
-/// Returns the kind of the key `name`.
+/// Returns the kind of the key `name` in the table of a program.
 #[tactic(auto, unfolding(crate::proofs::Common::chars))]
 fn key_of(name: &Text) -> Key
     ensures { result ≡ key_named name.now }
@@ -65,7 +65,8 @@ impl Drop for ProgramTable {
 impl ProgramTable {
     ghost use Rattle.kt_suite.specs.Meanings.{named};
 
-    /// Returns the meaning of the table, in a file whose test suite so far is `file`.
+    /// Returns the program that the table declares, or its error, in a file whose test suite is
+    /// `file`.
     fn meaning(self, interface: Interface, file: &Option<Text>) -> Result<Meaning, NoMemory>
         ensures { IfOk result (λ meaning. meaning
             ≡ named interface file.now self.suite self.props self.name) }
@@ -153,7 +154,7 @@ fn read_table(alloc: Global, pairs: &[Pair]) -> Result<Result<ProgramTable, Suit
     Ok(Ok(found))
 }
 
-/// Returns the meaning of a program's call, in a file whose test suite so far is `file`.
+/// Returns the meaning of a call that registers a program, in a file whose test suite is `file`.
 pub fn read_program(
     alloc: Global,
     interface: Interface,

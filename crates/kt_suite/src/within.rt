@@ -49,7 +49,7 @@ pub fn is_same(one: &Text, other: &Text) -> bool
     one.as_str() == other.as_str()
 }
 
-/// Returns `true` if the cases of two filters are equal or both missing.
+/// Returns `true` if the case names of two filters are equal or both missing.
 fn same_case_part(own: &Option<Text>, other: &Option<Text>) -> bool
     ensures { result ≡ option_eq bytes_eq own.now other.now }
 {
