@@ -1,4 +1,4 @@
-//! Lists of cases, and what comes of asking a program for its list.
+//! Lists of ATF test cases, and the cases of a program for each outcome of its listing.
 
 use crate::answer::Answer;
 use crate::escapes::unescaped;
@@ -11,23 +11,24 @@ use kt_base::{Bytes, Interface, Items, Verdict};
 use kt_metadata::Props;
 use std::alloc::Global;
 
-/// The header of a list of ATF cases, and an empty line.
+/// The header of a list of ATF test cases, with the empty line after it.
 pub const HEADER: &str = "Content-Type: application/X-atf-tp; version=\"1\"\n\n";
 
-/// The blocks of a list after its header and an empty line.
+/// Returns a list of ATF test cases: the header, and then `blocks` with its escapes decoded.
 fn after_header(alloc: Global, blocks: &str) -> Result<Vec<u8>> {
     let mut text = HEADER.as_bytes().to_vec(alloc)?;
     append(alloc, &mut text, blocks)?;
     Ok(text)
 }
 
-/// What comes of asking a program that prints this text, and ends so.
+/// Creates the listing of a program that printed `text` and ended with the outcome `ending`.
 fn ended(ending: &str, text: Result<Vec<u8>>) -> Result<Listing> {
     let (text, ending) = both(text, ending_of(ending))?;
     Ok(Listing::Ended(ending, ListBytes::Read(Bytes::from_vec(text))))
 }
 
-/// What comes of asking for a list: `refused WHY`, or `ENDING` and `blocks TEXT`, `list TEXT`, `unreadable` or `too-long`.
+/// Parses the listing of a program: `refused WHY`, or an outcome and then `blocks TEXT`,
+/// `list TEXT`, `unreadable` or `too-long`.
 fn listing_of(alloc: Global, text: &str) -> Result<Listing> {
     if let Some(cause) = text.strip_prefix("refused ") {
         return refused_of(cause).map(Listing::Refused);
@@ -45,7 +46,8 @@ fn listing_of(alloc: Global, text: &str) -> Result<Listing> {
     ended(ending, unescaped(alloc, list))
 }
 
-/// Appends a case, with the properties that differ from the defaults and its fault.
+/// Appends a case on a new line: its name, the properties that differ from the defaults, and its
+/// fault.
 fn push_case(out: &mut Answer, case: CaseDef) -> Result<()> {
     let CaseDef { name, props, fault } = case;
     out.line(name.as_str());
@@ -57,7 +59,7 @@ fn push_case(out: &mut Answer, case: CaseDef) -> Result<()> {
     Ok(())
 }
 
-/// Appends cases, or their number if the row says `count`.
+/// Appends cases, or only their number if the example contains the line `count`.
 fn push_cases(out: &mut Answer, row: &Row<'_>, found: Items<CaseDef>) -> Result<()> {
     if row.text("count").is_some() {
         write!(out, "{} cases", found.len());
@@ -69,7 +71,8 @@ fn push_cases(out: &mut Answer, row: &Row<'_>, found: Items<CaseDef>) -> Result<
     Ok(())
 }
 
-/// The text of a list: `list TEXT`, or after a header `blocks TEXT` and then `numbered COUNT TEXT`.
+/// Returns the list of an example: `list TEXT`, or the header followed by `blocks TEXT` and then
+/// `numbered COUNT TEXT`.
 fn list_text(alloc: Global, row: &Row<'_>) -> Result<Vec<u8>> {
     if let Some(text) = row.text("list") {
         return unescaped(alloc, text);
@@ -78,6 +81,7 @@ fn list_text(alloc: Global, row: &Row<'_>) -> Result<Vec<u8>> {
     with_numbered(alloc, after_header(alloc, blocks), row)
 }
 
+/// Parses the interface of a test program: `atf`, `tap` or `plain`.
 fn interface_of(word: &str) -> Result<Interface> {
     match word {
         "atf" => Ok(Interface::Atf),
@@ -87,8 +91,8 @@ fn interface_of(word: &str) -> Result<Interface> {
     }
 }
 
-/// The cases of a program: `program INTERFACE`, `set NAME=VALUE` for its properties, and what came of its listing, which is
-/// unreadable if no line says it.
+/// Returns the cases of a program with the interface `word`. The lines `set NAME=VALUE` have the
+/// program's properties, and `lists LISTING` has the listing. By default the list is unreadable.
 fn program_cases(alloc: Global, row: &Row<'_>, word: &str) -> Result<Items<CaseDef>> {
     let mut props = Props::new(alloc);
     let mut lists = "exited 0 unreadable";
@@ -103,7 +107,7 @@ fn program_cases(alloc: Global, row: &Row<'_>, word: &str) -> Result<Items<CaseD
     asked(cases(alloc, interface, &props, &Some(listing)))
 }
 
-/// The cases that the text of a list gives or its fault, or the cases of a program.
+/// Appends the cases of a program or of a list, or the error's message for an invalid list.
 pub fn answer(out: &mut Answer, row: &Row<'_>) -> Result<()> {
     if let Some(word) = row.text("program") {
         return push_cases(out, row, program_cases(out.alloc, row, word)?);

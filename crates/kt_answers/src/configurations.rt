@@ -6,7 +6,7 @@ use crate::row::{Line, Result, Row, RowFault, both, halves, pair_of};
 use kt_base::Text;
 use kt_config::{Config, ConfigFault, SuiteVariables};
 
-/// Appends the variables of a suite in their order, `a=1 b=2`, or how many they are.
+/// Appends the variables of a suite, as `a=1 b=2`, or their number if `word` is `count`.
 fn push_suite(out: &mut Answer, config: &Config, word: &str, suite: &str) -> Result<()> {
     let suite = config.suite_vars(&text_of(out.alloc, suite)?);
     match &suite.map(SuiteVariables::copy).transpose()? {
@@ -17,7 +17,7 @@ fn push_suite(out: &mut Answer, config: &Config, word: &str, suite: &str) -> Res
     Ok(())
 }
 
-/// The value of a variable of a suite, or what there is none of.
+/// Returns the value of a suite's variable, or a text if the suite or the variable isn't defined.
 fn value_of<'a>(config: &'a Config, suite: &Text, name: &Text) -> &'a str {
     match config.suite_vars(suite) {
         None => "no suite",
@@ -26,7 +26,7 @@ fn value_of<'a>(config: &'a Config, suite: &Text, name: &Text) -> &'a str {
     }
 }
 
-/// The answer to `value SUITE NAME`.
+/// Parses `SUITE NAME`, and appends the value of this suite's variable.
 fn push_value(out: &mut Answer, config: &Config, text: &str) -> Result<()> {
     let (suite, name) = halves(text, " ", "no suite and name")?;
     let (suite, name) = both(text_of(out.alloc, suite), text_of(out.alloc, name))?;
@@ -34,7 +34,7 @@ fn push_value(out: &mut Answer, config: &Config, text: &str) -> Result<()> {
     Ok(())
 }
 
-/// The answer to `set NAME=VALUE`.
+/// Sets the variable `NAME=VALUE` of a configuration, and appends `set` or the error's message.
 fn set(out: &mut Answer, config: &mut Config, text: &str) -> Result<()> {
     let pair = pair_of(out.alloc, text)?;
     match retried!(ConfigFault, config.set(&pair.name, &pair.value)) {
@@ -44,7 +44,7 @@ fn set(out: &mut Answer, config: &mut Config, text: &str) -> Result<()> {
     Ok(())
 }
 
-/// Appends the answer to one line of a row.
+/// Executes one line of an example on a configuration, and appends its output.
 fn push_told(out: &mut Answer, config: &mut Config, line: &Line<'_>) -> Result<()> {
     out.separate("\n");
     match line.word {
@@ -59,7 +59,7 @@ fn push_told(out: &mut Answer, config: &mut Config, line: &Line<'_>) -> Result<(
     Ok(())
 }
 
-/// Appends the answers to the lines of a row.
+/// Executes the lines of an example on a configuration, and appends their outputs.
 fn push_answers(out: &mut Answer, mut config: Config, row: &Row<'_>) -> Result<()> {
     for line in row.entries.as_slice() {
         if !matches!(line.word, "file" | "numbered") {
@@ -69,8 +69,9 @@ fn push_answers(out: &mut Answer, mut config: Config, row: &Row<'_>) -> Result<(
     Ok(())
 }
 
-/// The answers to the lines of a row of a new configuration, or that of `file TEXT` with the statements of `numbered` after
-/// it; or why the file is refused.
+/// Executes the lines of an example on a new configuration, or on the configuration in `file TEXT`.
+/// The lines `numbered COUNT STATEMENT` add statements to the file. If the file is rejected, only
+/// the error's message is appended.
 pub fn answer(out: &mut Answer, row: &Row<'_>) -> Result<()> {
     let Some(file) = row.text("file") else {
         return push_answers(out, Config::new(out.alloc), row);

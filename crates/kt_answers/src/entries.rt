@@ -1,4 +1,4 @@
-//! Entries as rows have them: what their lines say, and what is shown of them.
+//! Recorded entries: parsed from the lines of an example, and shown in its output.
 
 ghost use Rattle.std.specs.Prelude.{◌≤◌, IfOk};
 
@@ -9,17 +9,24 @@ use crate::verdicts::push_verdict;
 use kt_base::{Bytes, Entry, Items, Kind, LATEST_MOMENT, Output, Run, Verdict};
 use std::alloc::Global;
 
-/// The bytes after a word among these lines; none if the word isn't there.
+/// Returns the decoded bytes after the keyword `word` in `lines`, or no bytes without such a line.
 fn bytes_in(alloc: Global, lines: &[Line<'_>], word: &str) -> Result<Bytes> {
     unescaped(alloc, text_in(lines, word).unwrap_or("")).map(Bytes::from_vec)
 }
 
+/// Returns the standard output and standard error that follow the keywords `out` and `err` in
+/// `lines`.
 fn output_in(alloc: Global, lines: &[Line<'_>], out: &str, err: &str) -> Result<Output> {
     let (out, err) = both(bytes_in(alloc, lines, out), bytes_in(alloc, lines, err))?;
     Ok(Output { out, err })
 }
 
-/// The kind of a word.
+/// Parses a verdict's kind: `passed`, `skipped`, `expected_failure`, `failed` or `broken`.
+/// Allocates nothing.
+///
+/// # Errors
+///
+/// - `Misspelled`: `word` isn't one of these kinds.
 pub fn kind_of(word: &str) -> Result<Kind> {
     match word {
         "passed" => Ok(Kind::Passed),
@@ -31,7 +38,7 @@ pub fn kind_of(word: &str) -> Result<Kind> {
     }
 }
 
-/// The kinds of these words.
+/// Parses the kinds of verdicts in `words`, which are separated by white space.
 pub fn kinds_of(alloc: Global, words: &str) -> Result<Vec<Kind>> {
     let mut kinds = Vec::new(alloc);
     for word in words.split_whitespace() {
@@ -40,15 +47,16 @@ pub fn kinds_of(alloc: Global, words: &str) -> Result<Vec<Kind>> {
     Ok(kinds)
 }
 
-/// The verdict of a text such as `failed: x`.
+/// Parses a verdict such as `failed: x`. The reason is empty without `: `.
 fn verdict_of(alloc: Global, text: &str) -> Result<Verdict> {
     let (word, reason) = text.split_once(": ").unwrap_or((text, ""));
     Ok(Verdict::of(kind_of(word)?, lossy_of(alloc, reason)?))
 }
 
-/// The entry with a verdict, and what the lines below it say: `program TEXT`, `case TEXT`, `started MILLISECONDS`,
-/// `took MILLISECONDS`, the outputs `out TEXT`, `err TEXT`, `cleanup-out TEXT` and `cleanup-err TEXT`; and a line `meta
-/// NAME=VALUE` for each pair.
+/// Creates the entry at `position` with the verdict `verdict` from the lines that describe the
+/// entry. These lines are `program TEXT`, `case TEXT`, `started MILLISECONDS`, `took MILLISECONDS`,
+/// `out TEXT`, `err TEXT`, `cleanup-out TEXT`, `cleanup-err TEXT`, and `meta NAME=VALUE` for each
+/// property.
 fn entry_of(alloc: Global, content: &[Line<'_>], verdict: &str, position: u32) -> Result<Entry> {
     let program = lossy_of(alloc, text_in(content, "program").unwrap_or("a"));
     let case_name = lossy_of(alloc, text_in(content, "case").unwrap_or("main"));
@@ -74,7 +82,13 @@ fn entry_of(alloc: Global, content: &[Line<'_>], verdict: &str, position: u32) -
     })
 }
 
-/// An entry that a store takes: its times lie within the years up to 9999.
+/// Creates an entry that a store accepts: its start time and its duration are at most
+/// `LATEST_MOMENT`. The entry has the position `at`, and `lines` describe it.
+///
+/// # Errors
+///
+/// - `Misspelled`: the verdict or a line is invalid.
+/// - `NoMemory`: an allocation failed.
 pub fn storable_entry(alloc: Global, lines: &[Line<'_>], verdict: &str, at: u32) -> Result<Entry>
     ensures { IfOk result (λ e. (e.started ≤ 253402300799999) × (e.millis ≤ 253402300799999)) }
 {
@@ -84,7 +98,7 @@ pub fn storable_entry(alloc: Global, lines: &[Line<'_>], verdict: &str, at: u32)
     Ok(entry)
 }
 
-/// Whether a line says what the entry above it holds.
+/// Returns `true` if a line describes the entry above it.
 pub fn is_content(line: &Line<'_>) -> bool {
     match line.word {
         "program" | "case" | "started" | "took" | "meta" | "times" => true,
@@ -93,18 +107,19 @@ pub fn is_content(line: &Line<'_>) -> bool {
     }
 }
 
-/// The lines below a place that say what its entry holds.
+/// Returns the lines directly below the entry at index `place` that describe the entry.
 pub fn content_at<'a, 'b>(lines: &'b [Line<'a>], place: usize) -> &'b [Line<'a>] {
     let (_, rest) = lines.split_at(place.saturating_add(1).min(lines.len()));
     let length = rest.iter().take_while(|line| is_content(*line)).count();
     rest.split_at(length.min(rest.len())).0
 }
 
+/// Returns the number of entries, which must be below 2^32.
 fn count_of(entries: &Items<Entry>) -> Result<u32> {
     due(u32::try_from(entries.len()).ok(), "too many entries")
 }
 
-/// Appends an entry as often as `times N` among its lines says.
+/// Appends an entry N times if its lines contain `times N`, and once otherwise.
 fn add(alloc: Global, entries: &mut Items<Entry>, lines: &[Line<'_>], verdict: &str) -> Result<()> {
     for _ in 0..number_in(lines, "times", 1)? {
         let position = count_of(entries)?;
@@ -113,7 +128,7 @@ fn add(alloc: Global, entries: &mut Items<Entry>, lines: &[Line<'_>], verdict: &
     Ok(())
 }
 
-/// The entries among lines: `entry VERDICT` each.
+/// Returns the entries of the lines `entry VERDICT`, in order.
 fn entries_in(alloc: Global, lines: &[Line<'_>]) -> Result<Items<Entry>> {
     let mut entries = Items::new(alloc);
     for (place, line) in lines.iter().enumerate() {
@@ -124,7 +139,8 @@ fn entries_in(alloc: Global, lines: &[Line<'_>]) -> Result<Items<Entry>> {
     Ok(entries)
 }
 
-/// The run of a row: `run NUMBER`, `at MILLISECONDS`, `unfinished`, and its entries.
+/// Creates the run of an example from the lines `run NUMBER`, `at MILLISECONDS`, `unfinished` and
+/// `entry VERDICT`.
 pub fn run_of(alloc: Global, row: &Row<'_>) -> Result<Run> {
     let (number, started) = both(row.number("run", 1), row.number("at", 0))?;
     let entries = entries_in(alloc, row.entries.as_slice())?;
@@ -137,7 +153,7 @@ pub fn run_of(alloc: Global, row: &Row<'_>) -> Result<Run> {
     })
 }
 
-/// The four outputs of a case.
+/// Appends the four outputs of a case: standard output and standard error of its body and cleanup.
 fn push_outputs(out: &mut Answer, entry: &Entry) {
     out.push("out=");
     out.bytes(entry.body.out.as_slice());
@@ -149,7 +165,8 @@ fn push_outputs(out: &mut Answer, entry: &Entry) {
     out.bytes(entry.cleanup.err.as_slice());
 }
 
-/// Six digits: 1 where the start and the time of a case are not 0, and how many bytes are kept of its four outputs.
+/// Appends a space and six marks: for the start time, the duration and the length of each output.
+/// The first two are `1` if the value isn't 0, the others `0`, `1`, or `+` for more than one byte.
 fn push_marks(out: &mut Answer, entry: &Entry) {
     let (body, cleanup) = (&entry.body, &entry.cleanup);
     out.push(" ");
@@ -165,7 +182,8 @@ fn push_marks(out: &mut Answer, entry: &Entry) {
     }
 }
 
-/// What a word shows of an entry, but for its pairs: `cases`, `outputs`, `marks`, or else its verdict.
+/// Appends the part of an entry that `word` selects: `cases`, `outputs`, `marks`, or else its
+/// verdict.
 fn push_entry(out: &mut Answer, word: &str, entry: &Entry) {
     if word == "outputs" {
         return push_outputs(out, entry);
@@ -183,7 +201,7 @@ fn push_entry(out: &mut Answer, word: &str, entry: &Entry) {
     }
 }
 
-/// The pairs of entries, a line each after the position of its entry.
+/// Appends the properties of entries, one per line after the position of its entry.
 fn push_pairs(out: &mut Answer, entries: &[Entry]) {
     let mut separator = "";
     for entry in entries {
@@ -195,7 +213,8 @@ fn push_pairs(out: &mut Answer, entries: &[Entry]) {
     }
 }
 
-/// What a word shows of entries, each on a line of its own.
+/// Appends the part of each entry that `word` selects, one entry per line. The parts are `cases`,
+/// `outputs`, `marks`, `pairs`, and for any other word the verdict.
 pub fn push_entries(out: &mut Answer, word: &str, entries: &[Entry]) {
     if word == "pairs" {
         return push_pairs(out, entries);

@@ -1,4 +1,4 @@
-//! The rows of a file, the text of an answer, and the answers to rows about what needs neither suites nor the scheduler.
+//! Parses `.rows` files of examples, and runs the examples that need no suite, process or store.
 #![tactic(auto)]
 
 mod answer;
@@ -30,7 +30,13 @@ pub use row_file::read_rows;
 pub use scripted_writer::{ScriptedWriter, WriteFault};
 pub use verdicts::{ending_of, push_reason, push_verdict};
 
-/// Appends the answer to a row of a subject that needs neither suites nor the scheduler.
+/// Executes the example `row` of `subject`, and appends its output to `out`.
+///
+/// # Errors
+///
+/// - `Misspelled`: this crate has no such subject, or `row` doesn't have the format of its subject.
+/// - `NoMemory`: an allocation failed. A failed append to `out` is returned by [`Answer::end`]
+///   instead.
 pub fn push_answer(out: &mut Answer, subject: &str, row: &Row<'_>) -> Result<()> {
     match subject {
         "claims" => streams::answer(out, row, "file"),

@@ -3,22 +3,36 @@ ghost use Rattle.std.specs.Prelude.{IfOk, ◌≤◌};
 use crate::row::{Result, Row, RowFault, append, asked, due, halves, push_made};
 use std::alloc::Global;
 
+/// Parses a number from 0 to 2^64 - 1. Allocates nothing.
+///
+/// # Errors
+///
+/// - `Misspelled`: `text` isn't such a number.
 pub fn number(text: &str) -> Result<u64> {
     due(text.parse::<u64>().ok(), "a number is due")
 }
 
-/// A number of at most 32 bits.
+/// Parses a number from 0 to 2^32 - 1. Allocates nothing.
+///
+/// # Errors
+///
+/// - `Misspelled`: `text` isn't such a number.
 pub fn count(text: &str) -> Result<u32> {
     due(text.parse::<u32>().ok(), "a number below 2^32 is due")
 }
 
-/// Takes a number.
+/// Parses a number from 0 to 2^64 - 1, and stores it in `place`.
 pub fn set_number(place: &mut Option<u64>, text: &str) -> Result<()> {
     *place = Some(number(text)?);
     Ok(())
 }
 
-/// Numbers with spaces between them.
+/// Parses the numbers in `text`, which are separated by white space.
+///
+/// # Errors
+///
+/// - `Misspelled`: an element isn't a number from 0 to 2^64 - 1.
+/// - `NoMemory`: an allocation failed.
 pub fn numbers_of(alloc: Global, text: &str) -> Result<Vec<u64>> {
     let mut numbers = Vec::new(alloc);
     for word in text.split_whitespace() {
@@ -27,13 +41,19 @@ pub fn numbers_of(alloc: Global, text: &str) -> Result<Vec<u64>> {
     Ok(numbers)
 }
 
-/// A text with a number in place of each `#`.
+/// Returns `text` with each `#` replaced by `number`.
 fn numbered_text(alloc: Global, text: &str, number: u32) -> Result<String> {
     let number = number.to_string(alloc)?;
     asked(text.replace(alloc, "#", number.as_str()))
 }
 
-/// The texts of `COUNT TEXT`: the text this many times, with the number in place of each `#`, from 0.
+/// Parses `COUNT TEXT`, and returns COUNT copies of the text. Each `#` in a copy is replaced by the
+/// copy's number, from 0.
+///
+/// # Errors
+///
+/// - `Misspelled`: `raw` has no space, or COUNT isn't a number from 0 to 2^32 - 1.
+/// - `NoMemory`: an allocation failed.
 pub fn numbered(alloc: Global, raw: &str) -> Result<Vec<String>> {
     let (times, text) = halves(raw, " ", "a text stands after a number")?;
     let mut texts = Vec::new(alloc);
@@ -43,7 +63,7 @@ pub fn numbered(alloc: Global, raw: &str) -> Result<Vec<String>> {
     Ok(texts)
 }
 
-/// Appends the texts of `COUNT TEXT`.
+/// Parses `COUNT TEXT`, and appends the numbered copies of the text, with their escapes decoded.
 fn append_numbered(alloc: Global, bytes: &mut Vec<u8>, raw: &str) -> Result<()> {
     for text in numbered(alloc, raw)?.as_slice() {
         append(alloc, bytes, text.as_str())?;
@@ -51,7 +71,7 @@ fn append_numbered(alloc: Global, bytes: &mut Vec<u8>, raw: &str) -> Result<()> 
     Ok(())
 }
 
-/// Bytes, and after them the texts of a row's lines `numbered COUNT TEXT`.
+/// Returns `bytes` with the numbered copies of each line `numbered COUNT TEXT` appended.
 pub fn with_numbered(alloc: Global, bytes: Result<Vec<u8>>, row: &Row<'_>) -> Result<Vec<u8>> {
     let mut bytes = bytes?;
     for line in row.entries.as_slice() {
@@ -62,7 +82,11 @@ pub fn with_numbered(alloc: Global, bytes: Result<Vec<u8>>, row: &Row<'_>) -> Re
     Ok(bytes)
 }
 
-/// A number from 1 to another one, 1 where the row has none.
+/// Returns the number in `text`, from 1 to `most`, or 1 without a text. Allocates nothing.
+///
+/// # Errors
+///
+/// - `Misspelled`: the text isn't a number from 1 to `most`.
 pub fn number_to(text: Option<&str>, most: u32) -> Result<u32>
     ensures { IfOk result (λ n. (1 ≤ n) × (n ≤ most)) }
 {

@@ -9,7 +9,8 @@ use kt_config::{Config, ConfigFault};
 use kt_metadata::{Host, Need, PropFault, Props, is_kyuafile_property, property_of_key, unmet};
 use std::alloc::Global;
 
-/// What a row has said so far: the properties of a program and of its case, the configuration and the host.
+/// The state of an example: the properties of a program and of its case, a configuration and a
+/// host.
 #[derive(Drop)]
 struct Example {
     program: Props,
@@ -18,7 +19,7 @@ struct Example {
     host: Host,
 }
 
-/// Sets a property, and appends the fault if it is refused.
+/// Sets the property `NAME=VALUE`, and appends the error's message if it is rejected.
 fn set_property(out: &mut Answer, props: &mut Props, raw: &str) -> Result<()> {
     let pair = pair_of(out.alloc, raw)?;
     if let Err(fault) = retried!(PropFault, props.set(&pair.name, &pair.value)) {
@@ -28,14 +29,14 @@ fn set_property(out: &mut Answer, props: &mut Props, raw: &str) -> Result<()> {
     Ok(())
 }
 
-/// Sets a property that there is: `NAME=VALUE`.
+/// Sets the property `NAME=VALUE`, which must be valid.
 pub fn set_known(alloc: Global, props: &mut Props, raw: &str) -> Result<()> {
     let pair = pair_of(alloc, raw)?;
     let set = retried!(PropFault, props.set(&pair.name, &pair.value)).ok();
     due(set, "there is no such property or value")
 }
 
-/// Sets the properties of `COUNT NAME=VALUE`.
+/// Sets the properties of `COUNT NAME=VALUE`, in which `#` is the number. All must be valid.
 fn set_numbered(alloc: Global, props: &mut Props, raw: &str) -> Result<()> {
     for text in numbered(alloc, raw)?.as_slice() {
         set_known(alloc, props, text.as_str())?;
@@ -43,13 +44,17 @@ fn set_numbered(alloc: Global, props: &mut Props, raw: &str) -> Result<()> {
     Ok(())
 }
 
-/// The value of a name among pairs.
+/// Returns the value of the pair with the name `name`, or `None` without such a pair.
 fn value_in<'a>(pairs: &'a Variables, name: &str) -> Option<&'a str> {
     let mut pairs = pairs.as_slice().iter();
     Some(pairs.find(|pair| pair.name.is_word(name))?.value.as_str())
 }
 
-/// Appends the properties that differ from the defaults: ` timeout=20`.
+/// Appends the properties that differ from their defaults, each as ` timeout=20`.
+///
+/// # Errors
+///
+/// - `NoMemory`: an allocation failed.
 pub fn push_props(out: &mut Answer, props: &Props) -> Result<()> {
     let defaults = Props::new(out.alloc).listing()?;
     for pair in props.listing()?.as_slice() {
@@ -60,14 +65,15 @@ pub fn push_props(out: &mut Answer, props: &Props) -> Result<()> {
     Ok(())
 }
 
-/// Sets a variable of the configuration.
+/// Sets the variable `NAME=VALUE` of a configuration, which must be valid.
 fn set_variable(alloc: Global, config: &mut Config, raw: &str) -> Result<()> {
     let pair = pair_of(alloc, raw)?;
     let set = retried!(ConfigFault, config.set(&pair.name, &pair.value)).ok();
     due(set, "there is no such variable")
 }
 
-/// Appends what a word asks of the pairs that are listed.
+/// Executes the query `show`, `count` or `listing` on the listed properties, and appends its
+/// output.
 fn push_of_listing(out: &mut Answer, word: &str, name: &str, pairs: &Variables) -> Result<()> {
     match word {
         "show" => out.push(value_in(pairs, name).unwrap_or("-")),
@@ -79,7 +85,7 @@ fn push_of_listing(out: &mut Answer, word: &str, name: &str, pairs: &Variables) 
 }
 
 impl Example {
-    /// Appends why the case isn't run, in the suite `s`.
+    /// Appends the first unmet requirement of a case in the suite `s`, or `met`.
     fn push_unmet(&self, out: &mut Answer, props: &Props) -> Result<()> {
         let suite = Text::from_str(out.alloc, "s")?;
         let meta = props.effective()?;
@@ -90,11 +96,12 @@ impl Example {
         Ok(())
     }
 
+    /// Records that the host has the required file or program `raw`.
     fn note(&mut self, alloc: Global, need: Need, raw: &str) -> Result<()> {
         asked(self.host.note(need, &text_of(alloc, raw)?))
     }
 
-    /// Takes a line that says something, and appends what is refused; or appends what the line asks.
+    /// Executes a line, which changes the state or is a query, and appends its output.
     fn take(&mut self, out: &mut Answer, line: &Line<'_>) -> Result<()> {
         let (alloc, text) = (out.alloc, line.text);
         match line.word {
@@ -112,7 +119,8 @@ impl Example {
         Ok(())
     }
 
-    /// Appends what a line asks.
+    /// Executes a query, and appends its output. The query reads the properties of the case, or of
+    /// the program if the case doesn't set a property.
     fn push_asked(&self, out: &mut Answer, line: &Line<'_>) -> Result<()> {
         out.separate("\n");
         let props = asked(Props::overlay(&self.program, &self.case));
@@ -120,7 +128,7 @@ impl Example {
         self.push_told(out, line.word, &name, &props)
     }
 
-    /// Appends what a word asks of a name, or of the properties together.
+    /// Executes the query `word` about `name`, or about all properties, and appends its output.
     fn push_told(&self, out: &mut Answer, word: &str, name: &Text, props: &Props) -> Result<()> {
         match word {
             "key" => {
@@ -137,7 +145,8 @@ impl Example {
     }
 }
 
-/// What the lines of a row ask of properties and requirements, in their order, or what is refused of what they say.
+/// Executes the lines of an example about properties and requirements in order, and appends the
+/// outputs.
 pub fn answer(out: &mut Answer, row: &Row<'_>) -> Result<()> {
     let mut example = Example {
         program: Props::new(out.alloc),

@@ -6,14 +6,15 @@ use kt_base::Run;
 use kt_report::ReportFault;
 use std::alloc::Global;
 
-/// Appends the moment at which a run began, as its text report has it.
+/// Appends the start time in a text report, or the whole report if it has none.
 fn push_moment(out: &mut Answer, report: &str) {
     let rest = report.split_once("started ");
     let moment = rest.and_then(|(_, rest)| rest.split_once('\n'));
     out.push(moment.unwrap_or((report, "")).0);
 }
 
-/// Prints the text report, with the sections of `kinds WORDS` or of all kinds; `verbose` shows what the cases declared.
+/// Prints the text report of a run to `page`. `kinds WORDS` selects the sections, by default all of
+/// them. `verbose` adds the properties that the cases declare.
 fn print_text(alloc: Global, row: &Row<'_>, run: &Run, page: &mut ScriptedWriter) -> Result<()> {
     let all = "failed broken expected_failure skipped passed";
     let kinds = kinds_of(alloc, row.text("kinds").unwrap_or(all))?;
@@ -21,7 +22,7 @@ fn print_text(alloc: Global, row: &Row<'_>, run: &Run, page: &mut ScriptedWriter
     Ok(())
 }
 
-/// Prints the JUnit report, and appends why it ends early, by `Display`.
+/// Prints the JUnit report of a run to `page`, and appends the message of an error to `out`.
 fn print_junit(out: &mut Answer, run: &Run, page: &mut ScriptedWriter) {
     match kt_report::junit(out.alloc, run, page) {
         Ok(()) => {}
@@ -30,7 +31,8 @@ fn print_junit(out: &mut Answer, run: &Run, page: &mut ScriptedWriter) {
     }
 }
 
-/// Prints a report, and appends why it ends early.
+/// Prints the report that the example selects to `page`, and appends the message of an error to
+/// `out`.
 fn print(out: &mut Answer, row: &Row<'_>, run: &Run, page: &mut ScriptedWriter) -> Result<()> {
     match row.text("report") {
         Some("line") => {
@@ -49,7 +51,7 @@ fn print(out: &mut Answer, row: &Row<'_>, run: &Run, page: &mut ScriptedWriter) 
     Ok(())
 }
 
-/// Appends a report of a run.
+/// Appends the report that the example selects, or only the start time in it for `report moment`.
 fn push_report(out: &mut Answer, row: &Row<'_>, run: &Run) -> Result<()> {
     let mut page = ScriptedWriter::new(out.alloc);
     print(out, row, run, &mut page)?;
@@ -61,8 +63,8 @@ fn push_report(out: &mut Answer, row: &Row<'_>, run: &Run) -> Result<()> {
     Ok(())
 }
 
-/// A report of the run in the row: `report line`, `report text`, `report junit`, `report moment` or `report fault`, whose
-/// first write fails.
+/// Appends a report of the run that an example describes: `report line`, `report text`,
+/// `report junit` or `report moment`. `report fault` is a JUnit report whose first write fails.
 pub fn answer(out: &mut Answer, row: &Row<'_>) -> Result<()> {
     push_report(out, row, &run_of(out.alloc, row)?)
 }

@@ -1,4 +1,5 @@
-/// The value of a call, which is made once more if memory ran out, since that must have changed nothing.
+/// Returns the result of a call, which is repeated once if an allocation failed. The failed call
+/// must have changed nothing.
 #[macro_export]
 macro_rules! retried {
     ($fault:ident, $call:expr) => {

@@ -3,34 +3,38 @@ use std::alloc::Global;
 use std::io;
 use std::io::{ErrorKind, Write};
 
-/// How a write fails.
+/// A way in which a write fails.
 #[derive(Clone, Copy)]
 pub enum WriteFault {
+    /// The write fails with `BrokenPipe`.
     Broken,
+    /// The write fails with `Interrupted`.
     Interrupted,
-    /// It takes no byte.
+    /// The write returns 0.
     Nothing,
 }
 
-/// A writer that keeps what it is given, takes a few bytes at a time, and fails from one of its writes on.
+/// A `Write` that stores the bytes, limits the bytes of a write, and can fail from some write on.
 #[derive(Drop)]
 pub struct ScriptedWriter {
+    /// The bytes that were written.
     kept: Vec<u8>,
-    /// The refusal of memory for a write, if there was one.
+    /// The last failed allocation of a write, if any.
     refusal: Option<NoMemory>,
-    /// How many bytes a write takes at the most.
+    /// The maximum number of bytes that a write accepts.
     pub at_most: usize,
-    /// How many writes there were.
+    /// The number of writes so far, including the failed writes.
     pub writes: u64,
-    /// The first write that fails, counted from 1; 0 for none.
+    /// The number of the first write that fails, counted from 1, or 0 for none.
     pub failing: u64,
+    /// The way in which writes fail.
     pub fault: WriteFault,
-    /// Whether a flush fails.
+    /// `true` if a flush fails.
     pub flush_fails: bool,
 }
 
 impl ScriptedWriter {
-    /// A writer that takes all.
+    /// Creates a writer that accepts all bytes.
     pub fn new(alloc: Global) -> ScriptedWriter {
         ScriptedWriter {
             kept: Vec::new(alloc),
@@ -43,7 +47,11 @@ impl ScriptedWriter {
         }
     }
 
-    /// What was written, unless there was no memory for a part of it.
+    /// Returns the bytes that were written. Allocates nothing.
+    ///
+    /// # Errors
+    ///
+    /// - `NoMemory`: the allocation of a write failed.
     pub fn kept(&self) -> Result<&[u8], NoMemory> {
         match self.refusal {
             None => Ok(self.kept.as_slice()),
@@ -51,7 +59,11 @@ impl ScriptedWriter {
         }
     }
 
-    /// Its text. What isn't UTF-8 in it is replaced.
+    /// Returns the bytes that were written as text, with invalid UTF-8 replaced by U+FFFD.
+    ///
+    /// # Errors
+    ///
+    /// - `NoMemory`: the allocation of a write or of the text failed.
     pub fn text(&self, alloc: Global) -> Result<String, NoMemory> {
         Ok(String::from_utf8_lossy(alloc, self.kept()?)?)
     }

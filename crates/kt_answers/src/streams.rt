@@ -1,4 +1,4 @@
-//! The claims of result files and the results of TAP streams, read whole and in pieces.
+//! Reads result files and TAP streams at once and in pieces, and checks that the results are equal.
 
 use crate::answer::Answer;
 use crate::escapes::unescaped;
@@ -7,10 +7,10 @@ use kt_base::NoMemory;
 use kt_claim::{Claim, ClaimReader, Tap, TapReader, read_claim, read_tap};
 use std::alloc::Global;
 
-/// Bytes past this length aren't cut at each place.
+/// The maximum length, in bytes, of an input that is split at each position.
 const LONG: usize = 1_000;
 
-/// A reader of bytes that come in pieces.
+/// A reader of a result file or of a TAP stream that comes in pieces.
 #[derive(Drop)]
 enum Reader {
     Claim(ClaimReader),
@@ -18,7 +18,7 @@ enum Reader {
 }
 
 impl Reader {
-    /// The reader of a `tap`, or else of a `file`.
+    /// Creates a reader of a TAP stream if `word` is `tap`, and of a result file otherwise.
     fn new(alloc: Global, word: &str) -> Reader {
         match word {
             "tap" => Reader::Tap(TapReader::new(alloc)),
@@ -26,6 +26,7 @@ impl Reader {
         }
     }
 
+    /// Reads the next piece of a result file or a TAP stream.
     fn take(&mut self, piece: &[u8]) -> Result<(), NoMemory> {
         match self {
             Reader::Claim(reader) => reader.feed(piece),
@@ -33,7 +34,7 @@ impl Reader {
         }
     }
 
-    /// Takes bytes in pieces of this length after a first one.
+    /// Reads `bytes` in pieces: the first has `first` bytes, the others have at most `length`.
     fn take_pieces(&mut self, bytes: &[u8], first: usize, length: usize) -> Result<(), NoMemory> {
         let (front, back) = bytes.split_at(first.min(bytes.len()));
         self.take(front)?;
@@ -43,7 +44,7 @@ impl Reader {
         Ok(())
     }
 
-    /// Appends what was read, in the form of a row.
+    /// Appends the claim or the TAP result that was read.
     fn push_read(self, out: &mut Answer) {
         match self {
             Reader::Claim(reader) => push_claim(out, reader.finish()),
@@ -52,6 +53,7 @@ impl Reader {
     }
 }
 
+/// Appends the claim of a result file, or records that an allocation failed.
 fn push_claim(out: &mut Answer, claim: Result<Claim, NoMemory>) {
     match claim {
         Ok(claim) => push_parts(out, &claim),
@@ -59,7 +61,7 @@ fn push_claim(out: &mut Answer, claim: Result<Claim, NoMemory>) {
     }
 }
 
-/// Appends the parts of a claim: its name, its number if it has one, and its reason.
+/// Appends the name of a claim, its number if it has one, and its reason.
 fn push_parts(out: &mut Answer, claim: &Claim) {
     out.name(claim);
     match claim {
@@ -78,7 +80,7 @@ fn push_parts(out: &mut Answer, claim: &Claim) {
     }
 }
 
-/// Appends the result of a stream.
+/// Appends the result of a TAP stream, or records that an allocation failed.
 fn push_tap(out: &mut Answer, tap: Result<Tap, NoMemory>) {
     match tap {
         Ok(Tap::Invalid(fault)) => write!(out, "invalid: {fault:?}"),
@@ -89,7 +91,7 @@ fn push_tap(out: &mut Answer, tap: Result<Tap, NoMemory>) {
     }
 }
 
-/// What is read of whole bytes.
+/// Returns the output for `bytes` that are read at once.
 fn whole_text(alloc: Global, word: &str, bytes: &[u8]) -> Result<String> {
     let mut out = Answer::new(alloc);
     match word {
@@ -99,7 +101,8 @@ fn whole_text(alloc: Global, word: &str, bytes: &[u8]) -> Result<String> {
     asked(out.end())
 }
 
-/// What is read of bytes in pieces of this length after a first one.
+/// Returns the output for `bytes` that are read in pieces: the first has `first` bytes, the others
+/// have at most `rest`.
 fn cut_text(alloc: Global, word: &str, bytes: &[u8], first: usize, rest: usize) -> Result<String> {
     let mut reader = Reader::new(alloc, word);
     reader.take_pieces(bytes, first, rest)?;
@@ -108,7 +111,8 @@ fn cut_text(alloc: Global, word: &str, bytes: &[u8], first: usize, rest: usize) 
     asked(out.end())
 }
 
-/// Appends what is read of two pieces if it isn't this text, and says whether it is.
+/// Returns `true` if reading `bytes` in two pieces, split at `cut`, gives the output `whole`.
+/// Appends the output if it differs.
 fn push_cut(out: &mut Answer, word: &str, bytes: &[u8], cut: usize, whole: &str) -> Result<bool> {
     let other = cut_text(out.alloc, word, bytes, cut, bytes.len())?;
     let agrees = other.as_str() == whole;
@@ -118,7 +122,9 @@ fn push_cut(out: &mut Answer, word: &str, bytes: &[u8], cut: usize, whole: &str)
     Ok(agrees)
 }
 
-/// Appends what is read byte by byte, if this text is read of any two pieces too, for short bytes.
+/// Appends the output for `bytes` that are read byte by byte, if each split into two pieces gives
+/// the output `whole`. Otherwise appends the first output that differs. Input of more than 1,000
+/// bytes is split only at its beginning.
 fn push_agreed(out: &mut Answer, word: &str, bytes: &[u8], whole: &str) -> Result<()> {
     let cuts = if bytes.len() > LONG { 1 } else { bytes.len() };
     for cut in 0..cuts {
@@ -134,7 +140,7 @@ fn push_agreed(out: &mut Answer, word: &str, bytes: &[u8], whole: &str) -> Resul
     Ok(())
 }
 
-/// Appends what is read of the pieces of a row.
+/// Appends the output for the pieces of an example, which follow the keyword `piece`.
 fn push_pieces(out: &mut Answer, row: &Row<'_>, word: &str) -> Result<()> {
     let mut reader = Reader::new(out.alloc, word);
     for line in row.entries.as_slice() {
@@ -146,8 +152,8 @@ fn push_pieces(out: &mut Answer, row: &Row<'_>, word: &str) -> Result<()> {
     Ok(())
 }
 
-/// The claim of a result file, `file TEXT`, or the result of a TAP stream, `tap TEXT`; or what is read of its pieces,
-/// `piece TEXT` each.
+/// Appends the claim of a result file (`file TEXT`) or the result of a TAP stream (`tap TEXT`).
+/// Without such a line, the input consists of the pieces in the lines `piece TEXT`.
 pub fn answer(out: &mut Answer, row: &Row<'_>, word: &str) -> Result<()> {
     let Some(bytes) = row.bytes(out.alloc, word)? else {
         return push_pieces(out, row, word);
