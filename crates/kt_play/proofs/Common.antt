@@ -1,4 +1,4 @@
--- The names that most proofs of this crate cite, passed on from one place. Declares nothing.
+-- Re-exports the names that most proofs of this crate cite. Declares nothing.
 pub use Rattle.kt_base.specs.declared.child.Role.{Role}
 pub use Rattle.kt_sched.specs.Plan.{IsFit, IsPlan}
 pub use Rattle.kt_sched.specs.declared.job.Job.{Job}

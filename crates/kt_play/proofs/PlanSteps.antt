@@ -1,10 +1,10 @@
--- A plan with one job more.
+-- Appending a job to a plan.
 use Rattle.std.proofs.Common.{slice_get, Some, refl, ◌≡◌, ℕ, zero, suc, ◌+◌, ◌⊎◌, List, [], ◌∷◌, ◌++◌, length, inl, inr, sym, ◌∙◌, ap, subst, arith}
 use Rattle.kt_play.proofs.Common.{Job, IsPlan, IsFit}
 use Rattle.kt_sched.proofs.Lists.{in_append}
 use Rattle.std.proofs.lemmas.Option.{same_Some}
 
--- a plan with one job more is a plan
+-- A plan with a fitting job appended is a plan if the job's position is the plan's length.
 pub plan_more : (jobs : List Job) (job : Job) → IsPlan jobs → job.position ≡ length jobs → IsFit job → IsPlan (jobs ++ job ∷ [])
 plan_more jobs job h p f = record {
   placed = λ i j g. placed i j (in_append jobs (job ∷ []) i j g);

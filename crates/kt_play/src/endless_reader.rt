@@ -1,17 +1,18 @@
 use std::io;
 use std::io::{ErrorKind, Read};
 
-/// A file that never ends: it gives this many bytes at a time, and its reads fail after some.
+/// A `Read` that never reaches an end, and whose reads fail after a set number of reads.
 #[derive(Drop)]
 pub struct EndlessReader {
+    /// The maximum number of bytes that a read returns.
     pub piece: usize,
-    /// How many reads are left before the first that fails.
+    /// The number of remaining reads before the first that fails.
     pub reads: u64,
-    /// Whether they are interrupted, else they fail for another cause.
+    /// `true` if reads fail with `Interrupted`, `false` if they fail with `Other`.
     pub interrupted: bool,
-    /// How many bytes were given.
+    /// The number of bytes that were returned.
     pub given: usize,
-    /// How many reads failed.
+    /// The number of reads that failed.
     pub failed: u64,
 }
 

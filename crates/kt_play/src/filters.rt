@@ -5,27 +5,27 @@ use kt_base::Text;
 use kt_suite::{Filter, FilterFault, Item, check_disjoint, select};
 use std::alloc::Global;
 
-/// What a row has said so far: the cases and the filters.
+/// The state of an example: its cases and its filters.
 #[derive(Drop)]
 struct Example {
     items: Vec<Item>,
     filters: Vec<Filter>,
 }
 
-/// `PATH CASE`, cut at the first space.
+/// Parses a case from `PATH CASE`, split at the first space.
 fn item_of(alloc: Global, raw: &str) -> Result<Item> {
     let (path, case_name) = halves(raw, " ", "a case stands after a path")?;
     let (path, case_name) = both(text_of(alloc, path), text_of(alloc, case_name))?;
     Ok(Item { path, case_name })
 }
 
-/// A filter that is accepted.
+/// Parses a filter, which must be valid.
 fn filter_of(alloc: Global, raw: &str) -> Result<Filter> {
     let filter = Filter::parse(alloc, &text_of(alloc, raw)?).ok();
     due(filter, "a filter that is refused is asked for by `read`")
 }
 
-/// Appends what a text says as a filter, `d/b, case main`, or why it is refused.
+/// Parses a filter, and appends its parts, as `d/b, case main`, or the error's message.
 fn push_read(out: &mut Answer, raw: &str) -> Result<()> {
     match Filter::parse(out.alloc, &text_of(out.alloc, raw)?) {
         Ok(filter) => {
@@ -39,7 +39,7 @@ fn push_read(out: &mut Answer, raw: &str) -> Result<()> {
     Ok(())
 }
 
-/// Appends a word, and positions with a space before each.
+/// Appends `word` and then the positions, each after a space, or ` none` without positions.
 fn push_places(out: &mut Answer, word: &str, places: &[usize]) {
     out.push(word);
     for place in places {
@@ -50,7 +50,7 @@ fn push_places(out: &mut Answer, word: &str, places: &[usize]) {
     }
 }
 
-/// Appends whether no filter matches what another one does.
+/// Checks that filters are disjoint, and appends `disjoint` or the error with its position.
 fn push_disjoint(out: &mut Answer, filters: &[Filter]) {
     match check_disjoint(filters) {
         Ok(()) => out.push("disjoint"),
@@ -61,7 +61,7 @@ fn push_disjoint(out: &mut Answer, filters: &[Filter]) {
 }
 
 impl Example {
-    /// Adds a filter or a case.
+    /// Adds a filter or a case to the example.
     fn add(&mut self, alloc: Global, word: &str, raw: &str) -> Result<()> {
         match word {
             "filter" | "filters" => push_made(&mut self.filters, filter_of(alloc, raw)),
@@ -69,7 +69,8 @@ impl Example {
         }
     }
 
-    /// Takes a line that says something, or appends the answer to one that asks.
+    /// Executes a line, which adds filters or cases or is a query, and appends the output of a
+    /// query.
     fn take(&mut self, out: &mut Answer, line: &Line<'_>) -> Result<()> {
         match line.word {
             "filter" | "item" => self.add(out.alloc, line.word, line.text),
@@ -83,8 +84,8 @@ impl Example {
         }
     }
 
-    /// Appends for each filter whether it matches this case, or if there is none whether it may match a case of this
-    /// program.
+    /// Appends `yes` or `no` for each filter, which is compared with a case or with a program.
+    /// Without `case_name`, `yes` means that the filter may match a case of the program.
     fn push_matches(&self, out: &mut Answer, path: &Text, case_name: Option<&Text>) {
         let mut separator = "";
         for filter in self.filters.as_slice() {
@@ -97,7 +98,8 @@ impl Example {
         }
     }
 
-    /// Appends the positions that were selected, or how many: `cases 0 2, unmatched none` or `2 cases, 0 unmatched`.
+    /// Appends the positions of the selected cases and of the filters that match no case. The
+    /// output is `cases 0 2, unmatched none`, or `2 cases, 0 unmatched` if `brief` is set.
     fn push_selected(&self, out: &mut Answer, brief: bool) {
         match select(out.alloc, &self.items, &self.filters) {
             Ok(found) if brief => {
@@ -112,7 +114,7 @@ impl Example {
         }
     }
 
-    /// Appends the answer to a line that asks.
+    /// Executes the query in a line, and appends its output as a new line.
     fn push_told(&self, out: &mut Answer, line: &Line<'_>) -> Result<()> {
         out.separate("\n");
         match line.word {
@@ -131,7 +133,7 @@ impl Example {
     }
 }
 
-/// What filters are read as, match and select, a line for each question.
+/// Executes the lines of an example about filters in order, and appends a line for each query.
 pub fn answer(out: &mut Answer, row: &Row<'_>) -> Result<()> {
     let mut example = Example {
         items: Vec::new(out.alloc),

@@ -1,9 +1,9 @@
 use kt_answers::Answer;
 
-/// How many lines a block has at the most that is folded.
+/// The maximum number of lines of a folded block, plus 1.
 const LONGEST: usize = 12;
 
-/// How often the block at a place stands there one after the other.
+/// Returns the number of consecutive copies of the block of `length` lines at index `at`.
 fn times_at(lines: &[&str], at: usize, length: usize) -> usize {
     let (_, rest) = lines.split_at(at.min(lines.len()));
     let (first, _) = rest.split_at(length.min(rest.len()));
@@ -12,7 +12,8 @@ fn times_at(lines: &[&str], at: usize, length: usize) -> usize {
         .count()
 }
 
-/// The shortest block at a place that is worth folding, with how often it stands there.
+/// Returns the length of the shortest block at index `at` that repeats, and the number of its
+/// copies. A single line must occur at least twice, a longer block three times.
 fn block_at(lines: &[&str], at: usize) -> (usize, usize) {
     for length in 1..LONGEST {
         let times = times_at(lines, at, length);
@@ -23,7 +24,7 @@ fn block_at(lines: &[&str], at: usize) -> (usize, usize) {
     (1, 1)
 }
 
-/// Appends a block, and how often it stands there.
+/// Appends the lines of a block, and the number of its copies if there are several.
 fn push_block(out: &mut Answer, block: &[&str], times: usize) {
     let mut separator = if block.len() > 1 { "(" } else { "" };
     for line in block {
@@ -36,8 +37,8 @@ fn push_block(out: &mut Answer, block: &[&str], times: usize) {
     }
 }
 
-/// Appends lines with commas between them. What stands there several times one after the other is
-/// written once: `poll 0 x100`, or `(poll 0, pause) x99`.
+/// Appends lines with commas between them, and consecutive copies of a block only once:
+/// `poll 0 x100`, or `(poll 0, pause) x99`.
 pub fn push_folded(out: &mut Answer, lines: &[&str]) {
     let mut at: usize = 0;
     for _ in 0..lines.len() {

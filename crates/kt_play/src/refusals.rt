@@ -4,16 +4,17 @@ use kt_base::NoMemory;
 use kt_store::{FailedStatement, StoreFault};
 use std::alloc::Global;
 
-/// Which calls of a store are refused.
+/// A counter of the calls on a results store, which makes a range of the calls fail.
 #[derive(Drop)]
 pub struct Refusals {
-    /// How many calls there were.
+    /// The number of calls so far.
     calls: u64,
-    /// The calls from the first number on, counted from 1, up to the second one are refused.
+    /// The numbers of the first and the last call that fail, counted from 1.
     refused: (u64, u64),
-    /// Why they are refused, if memory doesn't run out.
+    /// The error of the calls in the range of `refused`.
     failed: FailedStatement,
-    /// Why memory ran out, if they are refused for that.
+    /// The error of the calls in the range of `refused-memory`, or `None` for the range of
+    /// `refused`.
     shortage: Option<NoMemory>,
 }
 
@@ -21,7 +22,15 @@ impl Refusals {
     ghost use Rattle.std.specs.Prelude.{IfErr};
     ghost use Rattle.kt_store.specs.Ask.{IsStoreFault};
 
-    /// Those of a row: `refused CALLS`, or `refused-memory CALLS`, of `N` or `N M`, counted from 1.
+    /// Parses the line `refused CALLS` or `refused-memory CALLS` of an example. CALLS is `N` for
+    /// one call or `N M` for the calls from `N` to `M`, counted from 1. Without such a line no call
+    /// fails.
+    ///
+    /// # Errors
+    ///
+    /// - `Misspelled`: CALLS isn't one or two numbers, or the real error for the calls can't be
+    ///   provoked.
+    /// - `NoMemory`: an allocation failed.
     pub fn of(alloc: Global, row: &Row<'_>) -> Result<Refusals> {
         let (calls, shortage) = match row.text("refused-memory") {
             Some(calls) => (calls, Some(shortage(alloc)?)),
@@ -36,7 +45,13 @@ impl Refusals {
         })
     }
 
-    /// Lets the next call go on, or refuses it.
+    /// Counts a call on the store, and fails if the call is in the range that must fail. Allocates
+    /// nothing.
+    ///
+    /// # Errors
+    ///
+    /// - `NoMemory`: the call is in the range of `refused-memory`.
+    /// - `Store`: the call is in the range of `refused`.
     pub fn ask(&mut self) -> Result<(), StoreFault>
         ensures { IfErr result IsStoreFault }
     {

@@ -3,21 +3,55 @@ use kt_store::{ResultStore, Results, RunHead, StoreFault};
 use sqlite::Alter;
 use std::alloc::Global;
 
-/// What rows ask of a store of runs.
+/// An interface to a results store, with the calls that examples make.
 pub trait RunCalls {
     ghost use Rattle.kt_base.specs.Moments.{IsMoment, IsStorable};
 
+    /// Adds an unfinished run of `total` cases, and returns its number. `moment` is its start time,
+    /// in milliseconds since 1970 in UTC.
+    ///
+    /// # Errors
+    ///
+    /// - `StoreFull`: the store has the maximum number of runs.
+    /// - `NoMemory`, `Store`: an allocation or the store failed.
     fn begin(&mut self, total: u32, moment: u64) -> Result<u64, StoreFault>
         requires { IsMoment moment };
 
+    /// Adds an entry with its properties to the run number `run`.
+    ///
+    /// # Errors
+    ///
+    /// - `NoRun`: no run has the number.
+    /// - `RunClosed`: the run is finished.
+    /// - `BadPosition`: the position is not below the run's total.
+    /// - `RepeatedPosition`: the run has an entry at the position.
+    /// - `NoMemory`, `Store`: an allocation or the store failed.
     fn put(&mut self, run: u64, entry: &Entry) -> Result<(), StoreFault>
         requires { IsStorable entry.now };
 
+    /// Finishes the run number `run`.
+    ///
+    /// # Errors
+    ///
+    /// - `NoRun`: no run has the number.
+    /// - `RunClosed`: the run is finished.
+    /// - `Incomplete`: the run has fewer entries than its total.
+    /// - `NoMemory`, `Store`: an allocation or the store failed.
     fn finish(&mut self, run: u64) -> Result<(), StoreFault>;
 
+    /// Returns all runs without their entries, by number.
+    ///
+    /// # Errors
+    ///
+    /// - `NoMemory`, `Store`: an allocation or the store failed.
     fn runs(&mut self) -> Result<Vec<RunHead>, StoreFault>;
 
-    /// The entries of a run with their pairs and their outputs.
+    /// Returns the entries of a run by position, with their properties and outputs.
+    ///
+    /// # Errors
+    ///
+    /// - `NoRun`: no run has the number.
+    /// - `NoMemory`, `Store`: an allocation or the store failed.
     fn entries(&mut self, run: u64) -> Result<Vec<Entry>, StoreFault>;
 }
 
@@ -43,15 +77,17 @@ impl<S: Alter> RunCalls for Results<S> {
     }
 }
 
-/// A store whose entries are read in parts, as reports read them: without their pairs and their outputs, and then those of
-/// each.
+/// A results store whose entries are read in parts, as reports read them: the properties and
+/// outputs are read for one entry at a time.
 #[derive(Drop)]
 pub struct InParts<'a, R: ResultStore> {
+    /// The store.
     pub store: &'a mut R,
+    /// The allocator of the entries.
     pub alloc: Global,
 }
 
-/// Adds an entry of an outline with its pairs and its outputs.
+/// Reads the properties and outputs of `entry`, and appends the completed entry to `entries`.
 fn add_whole<R: ResultStore>(
     entries: &mut Vec<Entry>,
     store: &mut R,

@@ -2,58 +2,68 @@ use kt_base::NoMemory;
 use kt_child::Polled;
 use std::alloc::Global;
 
-/// How a child lives: how often it is reported to be running, and then how it ended.
+/// The life of a scripted child: how long it runs, and its outcome.
 #[derive(Clone, Copy)]
 pub struct Life {
+    /// The number of polls that find the child running.
     pub running: u32,
+    /// The status that later polls return.
     pub ending: Polled,
 }
 
-/// What goes wrong when a file is read in parts, by a system that breaks its promise.
+/// A fault of the scripted system in reading a file in parts, which a real system never has.
 #[derive(Clone, Copy)]
 pub enum PartFault {
+    /// Parts are read without a fault.
     None,
-    /// Behind the first part comes one without bytes, and more follow.
+    /// Each part after the first is empty, although more bytes follow.
     EmptyPart,
-    /// Behind the first part the file is gone.
+    /// After the first part the file is missing.
     Gone,
 }
 
-/// A file of a scripted system or machine. A star in its path stands for any one name.
+/// A file of a scripted system or machine.
 #[derive(Drop)]
 pub struct Holding {
+    /// The path, in which the first `*` represents any text without `/`.
     pub path: String,
+    /// The contents of the file.
     pub bytes: Vec<u8>,
 }
 
-/// What a scripted system does, and what a scripted machine has.
+/// A script of a system and a machine: their files, children, timestamps and failing calls.
 #[derive(Drop)]
 pub struct Scene {
+    /// The allocator of the scene and of the test doubles that follow it.
     pub alloc: Global,
-    /// The lives of the children in the order of their starts. Further children live as the last one.
+    /// The lives of the children, in the order of their starts. Later children have the last life.
     pub lives: Vec<Life>,
     /// The files that can be read.
     pub files: Vec<Holding>,
-    /// What every other file holds, if there are others.
+    /// The contents of every other file, or `None` if other files are missing.
     pub others: Option<Vec<u8>>,
-    /// The calls of the system from the first number on, counted from 0, and below the second one fail.
+    /// The calls of the system that fail, counted from 0: the first of them, and the last plus 1.
     pub failing: (u32, u32),
-    /// Why memory runs out, if they fail for that.
+    /// The failed allocation that is the error of these calls, or `None` for another error.
     pub shortage: Option<NoMemory>,
+    /// The fault of reading a file in parts.
     pub part_fault: PartFault,
-    /// The moments that the system answers, in milliseconds since 1970 in UTC.
+    /// The timestamps that the system returns, in milliseconds since 1970 in UTC.
     pub moments: Vec<u64>,
-    /// How much later each moment after those is.
+    /// The difference, in milliseconds, between two later timestamps of the system.
     pub step: u64,
-    /// The moments that the machine answers; the last one stays.
+    /// The timestamps that the machine returns, in milliseconds since 1970 in UTC. The last is
+    /// repeated.
     pub clock: Vec<u64>,
-    /// Paths behind a word that says what there is: a `program` of the tree, a `locked` file that can't be read, a `dear` one
-    /// that can't be read for want of memory, a required `found-file` or `found-program`.
+    /// Keywords with paths. `program`: the test program exists. `locked`: the file can't be read.
+    /// `dear`: an allocation fails when the file is read. `found-file`, `found-program`: the
+    /// required file or program exists.
     pub paths: Vec<(String, String)>,
 }
 
 impl Scene {
-    /// A machine that has nothing, and a system whose children exit with 0 and whose moments are 1, 2 and so on.
+    /// Creates a scene without files, whose children exit with 0 and whose timestamps are 1, 2 and
+    /// so on.
     pub fn new(alloc: Global) -> Scene {
         Scene {
             alloc,
@@ -70,7 +80,7 @@ impl Scene {
         }
     }
 
-    /// The bytes of a file.
+    /// Returns the contents of the file at `path`, or `None` if the file is missing.
     pub fn bytes_at(&self, path: &str) -> Option<&[u8]> {
         for file in self.files.as_slice() {
             if is_path_of(file.path.as_str(), path) {
@@ -80,14 +90,14 @@ impl Scene {
         self.others.as_deref()
     }
 
-    /// Whether a path is one of those behind a word.
+    /// Returns `true` if the scene has `path` with the keyword `word`.
     pub fn has(&self, word: &str, path: &str) -> bool {
         let mut paths = self.paths.as_slice().iter();
         paths.any(|(known, pattern)| known.as_str() == word && is_path_of(pattern.as_str(), path))
     }
 }
 
-/// Whether a path is the one of a file.
+/// Returns `true` if `path` is `pattern`, in which the first `*` represents any text without `/`.
 fn is_path_of(pattern: &str, path: &str) -> bool {
     let Some((front, back)) = pattern.split_once('*') else {
         return pattern == path;
@@ -97,7 +107,11 @@ fn is_path_of(pattern: &str, path: &str) -> bool {
     name.is_some_and(|name| !name.contains('/'))
 }
 
-/// Asks for more memory than any machine has, so that the allocator refuses it.
+/// Requests an allocation that no machine can satisfy, to provoke its error.
+///
+/// # Errors
+///
+/// - `NoMemory`: the allocation failed.
 pub fn ask_too_much(alloc: Global) -> Result<(), NoMemory> {
     let _bytes: Vec<u8> = Vec::with_capacity(alloc, usize::MAX)?;
     Ok(())

@@ -1,4 +1,4 @@
-//! The scripted machine, system and store of a row.
+//! Parses the lines of an example into a scene, the script of a machine and a system.
 
 use crate::scene::{Holding, Life, PartFault};
 use crate::{Scene, ask_too_much};
@@ -12,12 +12,21 @@ use kt_store::{FailedStatement, Results, StoreFault};
 use sqlite::Connection;
 use std::alloc::Global;
 
-/// A refusal of memory.
+/// Returns the error of a real allocation that failed.
+///
+/// # Errors
+///
+/// - `Misspelled`: the allocation didn't fail.
 pub fn shortage(alloc: Global) -> Result<NoMemory> {
     due(ask_too_much(alloc).err(), "this machine has all memory")
 }
 
-/// A statement of a store that failed: its tables are looked for where another table stands.
+/// Returns the error of a real statement that failed, in a database that lacks the results tables.
+///
+/// # Errors
+///
+/// - `Misspelled`: no statement failed.
+/// - `NoMemory`: the allocation of the database failed.
 pub fn failure(alloc: Global) -> Result<FailedStatement> {
     let mut conn = Connection::open_in_memory(alloc)?;
     let _ = conn.execute("CREATE TABLE other (id INTEGER)", &[]);
@@ -28,7 +37,7 @@ pub fn failure(alloc: Global) -> Result<FailedStatement> {
     }
 }
 
-/// A life: an ending, or `running x99, ` and an ending.
+/// Parses the life of a scripted child: an outcome, or `running xN, ` and an outcome.
 fn life_of(text: &str) -> Result<Life> {
     let (running, ending) = match text.strip_prefix("running x") {
         None => ("0", text),
@@ -45,7 +54,7 @@ fn life_of(text: &str) -> Result<Life> {
     })
 }
 
-/// Takes a file: its path, and what it holds behind a beginning.
+/// Adds a file to a scene. Its contents are `beginning` and then `raw` with its escapes decoded.
 fn take_file(scene: &mut Scene, path: &str, beginning: &str, raw: &str) -> Result<()> {
     let path = text_of(scene.alloc, path)?.into_string();
     let mut bytes = beginning.as_bytes().to_vec(scene.alloc)?;
@@ -53,7 +62,7 @@ fn take_file(scene: &mut Scene, path: &str, beginning: &str, raw: &str) -> Resul
     asked(scene.files.push(Holding { path, bytes }))
 }
 
-/// Appends a line to the last file.
+/// Appends `raw` with its escapes decoded, and a newline, to the last file of a scene.
 fn take_line(scene: &mut Scene, raw: &str) -> Result<()> {
     let alloc = scene.alloc;
     let file = due(scene.files.last_mut(), "a line without a file")?;
@@ -61,20 +70,22 @@ fn take_line(scene: &mut Scene, raw: &str) -> Result<()> {
     asked(file.bytes.push(b'\n'))
 }
 
-/// Adds a path behind its word.
+/// Adds the path in a line to a scene, with the line's keyword.
 fn take_path(scene: &mut Scene, line: &Line<'_>) -> Result<()> {
     let word = asked(String::from_str(scene.alloc, line.word));
     let path = text_of(scene.alloc, line.text).map(Text::into_string);
     push_made(&mut scene.paths, both(word, path))
 }
 
-/// The calls that fail: `N` alone, or `N M` for those from `N` to `M`.
+/// Parses the calls that fail: `N` for one call, or `N M` for the calls from `N` to `M`. Returns
+/// the first number, and the last number plus 1.
 pub fn failing_of(text: &str) -> Result<(u32, u32)> {
     let (first, last) = text.split_once(' ').unwrap_or((text, text));
     Ok((count(first)?, count(last)?.saturating_add(1)))
 }
 
-/// Takes a line that says something of the machine or the system.
+/// Adds the part of a machine or a system that a line describes to a scene. Other lines are
+/// ignored.
 fn take(scene: &mut Scene, line: &Line<'_>) -> Result<()> {
     let text = line.text;
     let (path, rest) = text.split_once(' ').unwrap_or((text, ""));
@@ -90,7 +101,8 @@ fn take(scene: &mut Scene, line: &Line<'_>) -> Result<()> {
     }
 }
 
-/// Takes a line that says what calls answer, and which fail.
+/// Adds the timestamps or the failing calls that a line describes to a scene. Other lines are
+/// ignored.
 fn take_calls(scene: &mut Scene, word: &str, text: &str) -> Result<()> {
     let alloc = scene.alloc;
     match word {
@@ -112,7 +124,13 @@ fn take_calls(scene: &mut Scene, word: &str, text: &str) -> Result<()> {
     Ok(())
 }
 
-/// The scene of a row, by what its lines say of a machine and a system (docs/formats/rows.md).
+/// Parses the lines of an example into a scene, and ignores lines that aren't about a machine or
+/// system.
+///
+/// # Errors
+///
+/// - `Misspelled`: the text after one of the keywords is invalid, or a line `|` precedes all files.
+/// - `NoMemory`: an allocation failed.
 pub fn scene_of(alloc: Global, row: &Row<'_>) -> Result<Scene> {
     let mut scene = Scene::new(alloc);
     scene.others = row.bytes(alloc, "others")?;

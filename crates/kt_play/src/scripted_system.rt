@@ -6,31 +6,38 @@ use kt_answers::Answer;
 use kt_base::{Bytes, Items, NoMemory, Role, Text};
 use kt_child::{Child, EnvPlan, FileRead, Os, OsFault, Polled};
 
-/// A system that does what a scene says. It keeps a line for each call, which ends in `failed` for
-/// a failed one. A call is done even if there is no memory for its line; then there is no log.
+/// An `Os` that follows a scene and logs each call in a line. The line of a failed call ends in
+/// `failed`. If the allocation for a line fails, the call is executed, and the log returns the
+/// error.
 #[derive(Drop)]
 pub struct ScriptedSystem<'a> {
+    /// The script.
     scene: &'a Scene,
-    /// How many calls there were.
+    /// The number of calls so far that the scene can make fail.
     calls: u32,
-    /// The children that were started, and how often each has answered that it runs.
+    /// The children in the order of their starts, each with the number of polls that found it
+    /// running.
     children: Vec<(Child, u32)>,
-    /// How many moments of the scene were answered, and which was last.
+    /// The number of the scene's timestamps that were returned.
     told: usize,
+    /// The last timestamp that was returned, in milliseconds since 1970 in UTC.
     moment: u64,
+    /// The calls, one per line.
     pub log: Answer,
-    /// A line for each program that was started: its words, its directory and its variables.
+    /// A line for each started program: path, arguments, directory, variables, and removed
+    /// variables.
     pub spawned: Answer,
 }
 
-/// The life of the child that was started as this one.
+/// Returns the scripted life of the child with index `number` in the order of starts.
 fn life_of(lives: &[Life], number: usize) -> Life {
     let ending = Polled::Exited(0);
     let life = lives.get(number).or(lives.last());
     life.copied().unwrap_or(Life { running: 0, ending })
 }
 
-/// How a child stands.
+/// Returns the status of a child in a poll, and counts the poll if the child runs. A child that
+/// wasn't started has exited with 99.
 fn status_of(lives: &[Life], children: &mut [(Child, u32)], child: Child) -> Polled {
     for (number, (known, told)) in children.iter_mut().enumerate() {
         if *known == child {
@@ -45,8 +52,8 @@ fn status_of(lives: &[Life], children: &mut [(Child, u32)], child: Child) -> Pol
     Polled::Exited(99)
 }
 
-/// What a file holds from a byte on, of as many bytes as the limit says; behind the first part perhaps what a system that
-/// breaks its promise gives in its place.
+/// Returns at most `limit` bytes of a scripted file, from the byte at index `from` on. Parts after
+/// the first have the scene's `PartFault`.
 fn read(scene: &Scene, path: &Text, from: u64, limit: u64) -> Result<FileRead, OsFault>
     ensures { IsReadWithin limit result }
 {
@@ -69,7 +76,7 @@ fn read(scene: &Scene, path: &Text, from: u64, limit: u64) -> Result<FileRead, O
     }
 }
 
-/// Appends texts with a space before each.
+/// Appends texts, each after a space.
 fn push_texts(line: &mut Answer, texts: &[Text]) {
     for text in texts {
         write!(line, " {}", text.as_str());
@@ -77,6 +84,7 @@ fn push_texts(line: &mut Answer, texts: &[Text]) {
 }
 
 impl<'a> ScriptedSystem<'a> {
+    /// Creates a system that follows `scene`, without calls and children.
     pub fn new(scene: &'a Scene) -> ScriptedSystem<'a> {
         ScriptedSystem {
             scene,
@@ -89,7 +97,7 @@ impl<'a> ScriptedSystem<'a> {
         }
     }
 
-    /// Ends the line of the next call, and returns whether it is done.
+    /// Ends the log line of a call, and fails if the scene makes this call fail.
     fn end_call(&mut self) -> Result<(), OsFault> {
         let call = self.calls;
         self.calls = call.saturating_add(1);
@@ -105,13 +113,13 @@ impl<'a> ScriptedSystem<'a> {
         }
     }
 
-    /// Writes the line of the next call, and returns whether it is done.
+    /// Logs a call with its path, and fails if the scene makes this call fail.
     fn ask(&mut self, word: &str, path: &Text) -> Result<(), OsFault> {
         write!(self.log, "{word} {}", path.as_str());
         self.end_call()
     }
 
-    /// Writes a word and a child: its number, and whether it is a cleanup.
+    /// Appends `word` and a child to the log: its attempt number, after `cleanup` for a cleanup.
     fn push_child(&mut self, word: &str, child: Child) {
         let role = match child.role {
             Role::Body => "",
@@ -120,11 +128,13 @@ impl<'a> ScriptedSystem<'a> {
         write!(self.log, "{word} {role}{}", child.attempt);
     }
 
+    /// Logs a call with its child, and fails if the scene makes this call fail.
     fn ask_child(&mut self, word: &str, child: Child) -> Result<(), OsFault> {
         self.push_child(word, child);
         self.end_call()
     }
 
+    /// Returns the scene's next timestamp, or the last one plus the scene's step if none remains.
     fn next_moment(&mut self) -> u64 {
         match self.scene.moments.get(self.told) {
             Some(moment) => {

@@ -1,4 +1,4 @@
-//! Calls on a store of runs, and what they answer.
+//! Calls on a results store, and the output of each call.
 
 use crate::RunCalls;
 use kt_answers::{
@@ -7,7 +7,7 @@ use kt_answers::{
 use kt_base::LATEST_MOMENT;
 use kt_store::{RunHead, StoreFault};
 
-/// Appends whether a call was done.
+/// Appends `done`, or the name of the error of a call.
 fn push_done(out: &mut Answer, done: Result<(), StoreFault>) {
     match done {
         Ok(()) => out.push("done"),
@@ -15,7 +15,8 @@ fn push_done(out: &mut Answer, done: Result<(), StoreFault>) {
     }
 }
 
-/// Begins as many runs as `times N` says, and appends the number of the last one: `TOTAL MOMENT`.
+/// Parses `TOTAL MOMENT`, begins `times` runs, and appends the number of the last run or the error.
+/// The default of MOMENT is 0, in milliseconds since 1970 in UTC.
 fn begin<R: RunCalls>(out: &mut Answer, results: &mut R, text: &str, times: u64) -> Result<()> {
     let (total, moment) = text.split_once(' ').unwrap_or((text, "0"));
     let total = count(total)?;
@@ -33,7 +34,8 @@ fn begin<R: RunCalls>(out: &mut Answer, results: &mut R, text: &str, times: u64)
     Ok(())
 }
 
-/// Puts an entry, or as many as `times N` says from its position on: `RUN POSITION VERDICT`.
+/// Parses `RUN POSITION VERDICT`, and puts `times` entries from this position on. Appends `done` or
+/// the error of the first put that fails.
 fn put<R: RunCalls>(
     out: &mut Answer,
     results: &mut R,
@@ -57,7 +59,7 @@ fn put<R: RunCalls>(
     Ok(())
 }
 
-/// The last word of a run.
+/// Returns `finished` or `unfinished`, the state of a run.
 pub fn state_text(head: &RunHead) -> &'static str {
     if head.finished {
         "finished"
@@ -66,7 +68,7 @@ pub fn state_text(head: &RunHead) -> &'static str {
     }
 }
 
-/// Appends a run with the number of its entries: `run 1 at 500: 2 of 3, unfinished`.
+/// Appends a run with the number of its entries, as `run 1 at 500: 2 of 3, unfinished`.
 fn push_run<R: RunCalls>(out: &mut Answer, results: &mut R, head: &RunHead) {
     match results.entries(head.number) {
         Ok(entries) => {
@@ -78,7 +80,7 @@ fn push_run<R: RunCalls>(out: &mut Answer, results: &mut R, head: &RunHead) {
     }
 }
 
-/// Appends the runs of a store, a line each, or how many there are.
+/// Appends the runs of a store, one per line, or their number if `is_brief` is set.
 pub fn push_runs<R: RunCalls>(out: &mut Answer, results: &mut R, is_brief: bool) {
     let heads = match results.runs() {
         Ok(heads) => heads,
@@ -95,7 +97,7 @@ pub fn push_runs<R: RunCalls>(out: &mut Answer, results: &mut R, is_brief: bool)
     }
 }
 
-/// Appends what a word shows of the entries of a run, or how many they are.
+/// Appends the part of a run's entries that `word` selects, or their number if `word` is `count`.
 fn push_run_entries<R: RunCalls>(out: &mut Answer, results: &mut R, word: &str, run: u64) {
     match results.entries(run) {
         Ok(found) if word == "count" => write!(out, "{} entries", found.len()),
@@ -104,7 +106,14 @@ fn push_run_entries<R: RunCalls>(out: &mut Answer, results: &mut R, word: &str, 
     }
 }
 
-/// Appends what a call on a store of runs answers, whose line has others below it.
+/// Executes the call of a line on a results store, and appends its output. The lines `content`
+/// below it have the number of repetitions and describe the entry of a put. An error of the store
+/// is part of the output.
+///
+/// # Errors
+///
+/// - `Misspelled`: the line isn't a call on a store, or an argument is invalid.
+/// - `NoMemory`: an allocation outside the store failed.
 pub fn push_call<R: RunCalls>(
     out: &mut Answer,
     results: &mut R,

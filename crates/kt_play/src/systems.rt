@@ -1,4 +1,4 @@
-//! What is asked of a scripted system: the cases of a plan, the list of a program, the bytes of a file.
+//! Examples of a scripted system: the cases of a plan, the list of a program, the bytes of a file.
 
 ghost use Rattle.kt_sched.specs.Plan.{IsPlan, IsWidth};
 
@@ -20,18 +20,22 @@ use kt_sched::{Job, MAX_TIMEOUT, MAX_WIDTH, RunFault, SinkFault};
 use kt_suite::Program;
 use std::alloc::Global;
 
-/// How many bytes of a file a machine reads at the most: one more than a script may have.
+/// The maximum number of bytes that a machine reads of a file: one more than a script may have.
 const MACHINE_LIMIT: usize = 1_048_577;
 
-/// What a run leaves: its system, its entries in the order of recording, and why it ended early, if it did.
+/// The result of a run over a driver.
 #[derive(Drop)]
 struct Driven<O: Drop> {
+    /// The system after the run.
     os: O,
+    /// The recorded entries, in the order of their puts.
     entries: Vec<Entry>,
+    /// The message of the error that ended the run early, if any.
     fault: Option<&'static str>,
 }
 
-/// What is shown of a call: all of it, its first word for `words`, nothing for `watching` if it isn't for a child that runs.
+/// Returns the part of a log line that `shown` selects, or `None`. `words` selects the first word,
+/// `watching` the line of a poll, a kill or a pause, and any other value the whole line.
 fn call_of<'a>(shown: &str, line: &'a str) -> Option<&'a str> {
     let (word, _) = line.split_once(' ').unwrap_or((line, ""));
     match shown {
@@ -41,7 +45,12 @@ fn call_of<'a>(shown: &str, line: &'a str) -> Option<&'a str> {
     }
 }
 
-/// Appends the calls of a log, folded: all of `calls`, their first `words`, or those for `watching` children.
+/// Appends the calls of a log, with repetitions folded. `shown` is `calls` for whole lines, `words`
+/// for their first words, or `watching` for polls, kills and pauses.
+///
+/// # Errors
+///
+/// - `NoMemory`: an allocation failed.
 pub fn push_calls(out: &mut Answer, shown: &str, log: &str) -> Result<()> {
     let mut lines = Vec::new(out.alloc);
     for line in log.lines() {
@@ -53,7 +62,7 @@ pub fn push_calls(out: &mut Answer, shown: &str, log: &str) -> Result<()> {
     Ok(())
 }
 
-/// Appends how many cases passed, and the verdict of the first that didn't.
+/// Appends the number of cases that passed, and the verdict of the first other case.
 fn push_totals(out: &mut Answer, entries: &[Entry]) {
     let (mut passed, mut other) = (0usize, None);
     for entry in entries {
@@ -69,8 +78,9 @@ fn push_totals(out: &mut Answer, entries: &[Entry]) {
     }
 }
 
-/// Appends how many children were killed, and how many of the directories that were made aren't removed: `1 killed, 0
-/// left`. Work directories lie in others.
+/// Appends the number of kills, and the number of directories that were made but not removed, as
+/// `1 killed, 0 left`. A failed kill or removal counts as done. Directories with the name `work`
+/// don't count, because they are inside other directories.
 fn push_left(out: &mut Answer, log: &str) {
     let (mut killed, mut left) = (0usize, 0usize);
     for line in log.lines() {
@@ -85,7 +95,7 @@ fn push_left(out: &mut Answer, log: &str) {
     write!(out, "{killed} killed, {left} left");
 }
 
-/// Appends what is shown of a run by a word.
+/// Appends the part of a run that `word` selects.
 fn push_shown(out: &mut Answer, word: &str, run: &Driven<ScriptedSystem<'_>>) -> Result<()> {
     let (log, spawned) = (run.os.log.so_far()?, run.os.spawned.so_far()?);
     match word {
@@ -99,13 +109,13 @@ fn push_shown(out: &mut Answer, word: &str, run: &Driven<ScriptedSystem<'_>>) ->
     Ok(())
 }
 
-/// Two texts of the crates.
+/// Copies two strings into `Text` values.
 fn texts_of(alloc: Global, first: &str, second: &str) -> Result<(Text, Text)> {
     let first = Text::from_str(alloc, first)?;
     Ok((first, Text::from_str(alloc, second)?))
 }
 
-/// Runs a plan over a driver of its own.
+/// Executes a plan by a new driver over `os`. Returns the system, the entries and the error.
 fn drive<O: Os + Drop>(
     alloc: Global,
     os: O,
@@ -139,7 +149,7 @@ fn drive<O: Os + Drop>(
     }
 }
 
-/// Runs the plan of a row over a scripted system.
+/// Executes the plan of an example over a scripted system.
 fn run_plan<'a>(row: &Row<'_>, scene: &'a Scene) -> Result<Driven<ScriptedSystem<'a>>> {
     let alloc = scene.alloc;
     let width = number_to(row.text("width"), MAX_WIDTH)?;
@@ -158,7 +168,8 @@ fn run_plan<'a>(row: &Row<'_>, scene: &'a Scene) -> Result<Driven<ScriptedSystem
     Ok(drive(alloc, os, plan, width, &base, source, sink))
 }
 
-/// Appends what `show WORDS` names of a run, or else its entries, and why it ended early, if it did.
+/// Executes the plan of an example once. Appends what `show WORDS` selects, by default the entries,
+/// and the error that ended the run early.
 fn push_run(out: &mut Answer, row: &Row<'_>, scene: &Scene) -> Result<()> {
     let run = run_plan(row, scene)?;
     for word in row.text("show").unwrap_or("entries").split_whitespace() {
@@ -171,7 +182,7 @@ fn push_run(out: &mut Answer, row: &Row<'_>, scene: &Scene) -> Result<()> {
     Ok(())
 }
 
-/// What becomes of the cases of a plan, for each line `fails CALLS` if there are some.
+/// Executes the plan of an example once for each line `fails CALLS`, or once without such a line.
 fn plan(out: &mut Answer, row: &Row<'_>, mut scene: Scene) -> Result<()> {
     if row.text("fails").is_none() {
         return push_run(out, row, &scene);
@@ -185,7 +196,8 @@ fn plan(out: &mut Answer, row: &Row<'_>, mut scene: Scene) -> Result<()> {
     Ok(())
 }
 
-/// Asks a driver of its own for the list of a program; there is none without a driver.
+/// Lists the cases of a program by a new driver over `os`. Returns the system and the listing, or
+/// `None` if the driver can't be created.
 fn asked_for_list<O: Os + Drop>(
     alloc: Global,
     os: O,
@@ -203,7 +215,8 @@ fn asked_for_list<O: Os + Drop>(
     }
 }
 
-/// Appends how a list ended, and how long it is or why it isn't read; or why it was refused.
+/// Appends the result of a listing: its outcome with the length of the list or the error, or the
+/// cause of a failed start.
 fn push_listing(out: &mut Answer, listing: &Option<Listing>) {
     match listing {
         None => out.push("no driver"),
@@ -215,7 +228,7 @@ fn push_listing(out: &mut Answer, listing: &Option<Listing>) {
     }
 }
 
-/// A program `d/p` of ATF cases.
+/// Creates an ATF test program with the path `d/p`.
 fn program_of(alloc: Global) -> Result<Program> {
     let (path, suite) = texts_of(alloc, "d/p", "s")?;
     Ok(Program {
@@ -226,7 +239,8 @@ fn program_of(alloc: Global) -> Result<Program> {
     })
 }
 
-/// Asks for the list of a program, by `base PATH` and `variable NAME=VALUE` each.
+/// Lists the cases of a program over a scripted system. The example has the directory of the driver
+/// (`base PATH`) and the variables of the configuration (`variable NAME=VALUE`).
 fn listed<'a>(row: &Row<'_>, scene: &'a Scene) -> Result<(ScriptedSystem<'a>, Option<Listing>)> {
     let alloc = scene.alloc;
     let variables = pairs_of(alloc, row.entries.as_slice(), "variable");
@@ -236,7 +250,8 @@ fn listed<'a>(row: &Row<'_>, scene: &'a Scene) -> Result<(ScriptedSystem<'a>, Op
     Ok(asked_for_list(alloc, os, &base, source, &program, &variables))
 }
 
-/// The words of the calls that ask for a list, and what came of it; with `show spawns` what was started, too.
+/// Lists the cases of a program, and appends the first words of the calls and the result. With
+/// `show spawns`, also appends the programs that were started.
 fn list(out: &mut Answer, row: &Row<'_>, scene: &Scene) -> Result<()> {
     let (os, listing) = listed(row, scene)?;
     push_calls(out, "words", os.log.so_far()?)?;
@@ -248,8 +263,8 @@ fn list(out: &mut Answer, row: &Row<'_>, scene: &Scene) -> Result<()> {
     Ok(())
 }
 
-/// How many bytes of a file that never ends a system reads up to a limit, and whether more follow, or how many a machine
-/// reads; nothing where it fails.
+/// Returns the number of bytes that are read of an endless file, and `true` if more bytes follow. A
+/// system reads up to `limit`; without a limit, a machine reads. Returns `None` if the read fails.
 fn front(alloc: Global, file: &mut EndlessReader, limit: Option<u64>) -> Option<(usize, bool)> {
     let Some(limit) = limit else {
         let bytes = read_start(alloc, file, MACHINE_LIMIT).ok()?;
@@ -261,7 +276,8 @@ fn front(alloc: Global, file: &mut EndlessReader, limit: Option<u64>) -> Option<
     }
 }
 
-/// What is read of a file that never ends: by a system up to `limit BYTES`, or by a machine.
+/// Reads an endless file, and appends the result. The line `limit BYTES` makes a system read the
+/// file. Without that line, a machine reads the file.
 fn read(out: &mut Answer, row: &Row<'_>) -> Result<()> {
     let mut file = EndlessReader {
         piece: row.number("piece", 1)? as usize,
@@ -283,7 +299,7 @@ fn read(out: &mut Answer, row: &Row<'_>) -> Result<()> {
     Ok(())
 }
 
-/// What is asked of a scripted system, and what comes of it: the first line is `plan LETTERS`, `list` or `reader`.
+/// Executes an example of a scripted system. Its first line is `plan LETTERS`, `list` or `reader`.
 pub fn answer(out: &mut Answer, row: &Row<'_>) -> Result<()> {
     let scene = scene_of(out.alloc, row)?;
     match row.first()?.word {
