@@ -6,10 +6,10 @@ use std::io::Eprint;
 use std::rt::{Files, Runtime};
 use std::{env, fs, io};
 
-/// How many bytes of an answer are printed, unless the first argument says that all of it is.
+/// The maximum number of bytes that are printed of an output, unless `--whole` precedes the file.
 const SHOWN: usize = 1_000;
 
-/// Where the first line begins in which two answers differ.
+/// Returns the index of the first byte of the first line in which two outputs differ.
 fn differing_line(wanted: &[u8], found: &[u8]) -> usize {
     let mut line = 0usize;
     for (place, (due, told)) in wanted.iter().zip(found).enumerate() {
@@ -23,15 +23,15 @@ fn differing_line(wanted: &[u8], found: &[u8]) -> usize {
     line
 }
 
-/// The front of what an answer has from a place on.
+/// Returns at most `shown` bytes of an output as text, from index `from` on.
 fn part(alloc: Global, answer: &[u8], from: usize, shown: usize) -> Result<String> {
     let rest = answer.get(from..).unwrap_or(&[]);
     let part = rest.get(..shown).unwrap_or(rest);
     asked(String::from_utf8_lossy(alloc, part))
 }
 
-/// Where a row is, with the wanted answer and the given one from the first line that differs; nothing if they are the
-/// same.
+/// Executes an example, and returns `None` if its output is as expected. Otherwise returns a
+/// message with the file, the line and both outputs from the first line that differs.
 fn mismatch(alloc: Global, file: &str, row: &Row<'_>, shown: usize) -> Result<Option<String>> {
     let subject = file.strip_suffix(".rows").unwrap_or(file);
     let (wanted, found) = both(row.wanted(alloc), answer(alloc, subject, row))?;
@@ -51,13 +51,14 @@ fn mismatch(alloc: Global, file: &str, row: &Row<'_>, shown: usize) -> Result<Op
     asked(text).map(Some)
 }
 
-/// Prints why a line of a file has no answer.
+/// Prints the error of an example that has no output, with its file and line.
 fn print_fault<R: Eprint>(rt: &R, file: &str, line: u64, fault: RowFault) -> io::Result<()> {
     let text = fault.text();
     eprintln!(rt; "{file}:{line}: {text}")
 }
 
-/// Checks the rows of a file, and prints how many there are.
+/// Checks the examples of a file, prints their number, and returns `true` if each output is as
+/// expected.
 fn check_rows<R: Runtime + AllocGlobal>(
     rt: &R,
     file: &str,
@@ -78,6 +79,8 @@ fn check_rows<R: Runtime + AllocGlobal>(
     Ok(is_good)
 }
 
+/// Checks the examples in the file with the name `file`. Returns `true` if the file is valid and
+/// each output is as expected.
 fn check_file<R: Runtime + Files<File = File> + AllocGlobal>(
     rt: &R,
     file: &str,
@@ -93,8 +96,12 @@ fn check_file<R: Runtime + Files<File = File> + AllocGlobal>(
     }
 }
 
-/// Checks the files that the arguments name, and returns whether each row has the answer that it wants. Behind `--whole`
-/// answers that differ are printed to their ends.
+/// Checks the examples in the files that the arguments name. Returns `true` if each file is valid
+/// and each output is as expected. After `--whole`, outputs that differ are printed to their ends.
+///
+/// # Errors
+///
+/// - The error of the system if the arguments or a file can't be read, or if a write fails.
 pub fn check_files<R: Runtime + Files<File = File> + AllocGlobal>(rt: &R) -> io::Result<bool> {
     let mut is_good = true;
     let mut shown = SHOWN;

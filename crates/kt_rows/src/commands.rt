@@ -1,4 +1,4 @@
-//! Command lines over a platform, a machine and a system that answer as the row says.
+//! Command lines over a scripted platform, machine and system.
 
 use crate::disk_tests;
 use crate::played::Played;
@@ -13,10 +13,10 @@ use kt_play::{InParts, Scene, failure, push_call, push_calls, push_runs, scene_o
 use kt_store::StoreFault;
 use std::alloc::Global;
 
-/// The most writes that fail in turn.
+/// The maximum number of writes that fail in turn, plus 1.
 const LIMIT: u64 = 10_000;
 
-/// Why a store refuses.
+/// Parses the error of a results store: `no-memory`, `failed` or `unknown-schema`.
 fn store_fault(alloc: Global, fault: &str) -> Result<StoreFault> {
     match fault {
         "no-memory" => Ok(StoreFault::from(shortage(alloc)?)),
@@ -26,7 +26,7 @@ fn store_fault(alloc: Global, fault: &str) -> Result<StoreFault> {
     }
 }
 
-/// Why there is no driver.
+/// Parses the error of creating a driver: `no-memory` or `no-work-directory`.
 fn driver_fault(alloc: Global, fault: &str) -> Result<DriverFault> {
     match fault {
         "no-memory" => Ok(DriverFault::NoMemory(shortage(alloc)?)),
@@ -35,7 +35,8 @@ fn driver_fault(alloc: Global, fault: &str) -> Result<DriverFault> {
     }
 }
 
-/// The results of a row, in memory, into which its lines `begin`, `put` and `finish` have put some.
+/// Creates the results store of an example, in memory, and executes the lines `begin`, `put` and
+/// `finish`.
 fn results_of(alloc: Global, row: &Row<'_>) -> Result<RefusingStore> {
     let mut results = RefusingStore::of(alloc, row)?;
     let mut unread = Answer::new(alloc);
@@ -53,7 +54,7 @@ fn results_of(alloc: Global, row: &Row<'_>) -> Result<RefusingStore> {
     Ok(results)
 }
 
-/// Takes a line of a row that says something of the platform.
+/// Sets an error or a variable of a platform as a line requires. Other lines are ignored.
 fn take(platform: &mut ScriptedPlatform<RefusingStore>, line: &Line<'_>) -> Result<()> {
     let alloc = platform.calls.alloc;
     match line.word {
@@ -67,7 +68,7 @@ fn take(platform: &mut ScriptedPlatform<RefusingStore>, line: &Line<'_>) -> Resu
     Ok(())
 }
 
-/// The platform of a row.
+/// Creates the platform of an example.
 fn platform_of(alloc: Global, row: &Row<'_>) -> Result<ScriptedPlatform<RefusingStore>> {
     let mut platform = ScriptedPlatform::new(alloc, results_of(alloc, row)?);
     for line in row.entries.as_slice() {
@@ -76,8 +77,10 @@ fn platform_of(alloc: Global, row: &Row<'_>) -> Result<ScriptedPlatform<Refusing
     Ok(platform)
 }
 
-/// Carries out the lines of a row. Of standard output the write with this number fails and all after it, or `flush
-/// fails`; of standard error `error N`.
+/// Executes the command lines of an example, and returns the state after them. Writes to standard
+/// output fail from number `failing` on, and its flushes fail for the line `flush fails`. Writes to
+/// standard error fail from number N on for the line `error N`. The line `takes BYTES` limits the
+/// bytes of a write to standard output.
 fn played_by(row: &Row<'_>, scene: &Scene, failing: u64) -> Result<Played<RefusingStore>> {
     let alloc = scene.alloc;
     let mut played = Played::new(alloc, platform_of(alloc, row)?);
@@ -89,7 +92,7 @@ fn played_by(row: &Row<'_>, scene: &Scene, failing: u64) -> Result<Played<Refusi
     Ok(played)
 }
 
-/// Appends the runs that were closed.
+/// Appends the runs of the results store, or `open` if the store isn't closed.
 fn push_closed(out: &mut Answer, played: &mut Played<RefusingStore>) {
     match &mut played.platform.results {
         Some(store) => {
@@ -100,8 +103,8 @@ fn push_closed(out: &mut Answer, played: &mut Played<RefusingStore>) {
     }
 }
 
-/// Appends what was written, the exits, and what `show WORDS` names: the `runs` that were closed, the calls of the
-/// `system` of each line.
+/// Appends the outputs, the exit statuses, and what `show WORDS` selects: `runs` of the store, or
+/// the calls on the `system`.
 fn push_played(out: &mut Answer, row: &Row<'_>, played: &mut Played<RefusingStore>) -> Result<()> {
     played.push_ended(out)?;
     for word in row.text("show").unwrap_or("").split_whitespace() {
@@ -114,7 +117,8 @@ fn push_played(out: &mut Answer, row: &Row<'_>, played: &mut Played<RefusingStor
     Ok(())
 }
 
-/// What is wrong where a write failed: the page is no beginning, the last exit isn't 2, or the runs are others.
+/// Returns what is wrong after a failed write: the output isn't a proper prefix, the last exit
+/// status isn't 2, or the runs differ. Returns `None` if all is right.
 fn wrong(
     alloc: Global,
     whole: &mut Played<RefusingStore>,
@@ -136,7 +140,8 @@ fn wrong(
     Ok(None)
 }
 
-/// Makes each write fail in turn, until there is no such write or something is wrong, and appends what was written then.
+/// Executes command lines without a failure, and then with each write failing in turn. Appends the
+/// output without a failure, and the output of the first execution in which something is wrong.
 fn push_each_failing(out: &mut Answer, row: &Row<'_>, scene: &Scene) -> Result<()> {
     let mut whole = played_by(row, scene, 0)?;
     push_played(out, row, &mut whole)?;
@@ -154,8 +159,9 @@ fn push_each_failing(out: &mut Answer, row: &Row<'_>, scene: &Scene) -> Result<(
     Ok(())
 }
 
-/// Appends what was written, the exits and what is shown of command lines, and what the platform was asked for before
-/// it if that `is_asked`.
+/// Executes the command lines of an example, and appends the outputs and exit statuses. If
+/// `is_asked` is set, the calls on the platform precede them. With `writes each`, each write fails
+/// in turn, and the calls aren't appended.
 fn done(out: &mut Answer, row: &Row<'_>, is_asked: bool) -> Result<()> {
     let scene = scene_of(out.alloc, row)?;
     let writes = row.text("writes").unwrap_or("0");
@@ -171,7 +177,8 @@ fn done(out: &mut Answer, row: &Row<'_>, is_asked: bool) -> Result<()> {
     push_played(out, row, &mut played)
 }
 
-/// Appends the directory of a Kyuafile, seen from another one: `HERE KYUAFILE`.
+/// Parses `HERE KYUAFILE`, and appends the Kyuafile's absolute directory for the working directory
+/// HERE.
 fn push_source(out: &mut Answer, text: &str) -> Result<()> {
     let (here, kyuafile) = halves(text, " ", "a directory and a Kyuafile are due")?;
     let kyuafile = Text::from_str(out.alloc, kyuafile)?;
@@ -179,8 +186,8 @@ fn push_source(out: &mut Answer, text: &str) -> Result<()> {
     Ok(())
 }
 
-/// What command lines write, how they end, and what they leave; or what a writer of lines does with pieces, or where a
-/// Kyuafile lies.
+/// Executes the command lines of an example, and appends the outputs and exit statuses. Examples
+/// with `disk`, `piece TEXT` or `source HERE KYUAFILE` try a disk, a line buffer or a path.
 pub fn answer(out: &mut Answer, row: &Row<'_>) -> Result<()> {
     if let Some(disk) = row.text("disk") {
         return disk_tests::answer(out, row, disk);
@@ -193,7 +200,7 @@ pub fn answer(out: &mut Answer, row: &Row<'_>) -> Result<()> {
     }
 }
 
-/// The same, after the calls on the platform on one line.
+/// Executes the command lines of an example, and appends the calls on the platform and the outputs.
 pub fn opening(out: &mut Answer, row: &Row<'_>) -> Result<()> {
     done(out, row, true)
 }

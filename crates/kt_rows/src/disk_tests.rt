@@ -1,4 +1,4 @@
-//! The command `test` over a store whose disk fails at a call, and what the store then holds.
+//! The command `test` on a disk that fails at a call, and the runs that a crash then leaves.
 
 use crate::disks::{Work, empty_files, fused, is_cut, left_by, old_files, work_over};
 use crate::played::Played;
@@ -9,51 +9,60 @@ use kt_store::{ResultStore, Results, RunsFile, StoreFault};
 use sqlite::{Alter, Connection};
 use sqlite_disk::{Files, Fuse, Memory};
 
-/// The most calls of the disk that fail in turn.
+/// The maximum number of executions with a disk that fails.
 const LIMIT: u64 = 400;
 
-/// What ends the output of a command whose store failed.
+/// The last line of a command's output if its store failed.
 const LINE: &str = "kyua: E: results store failed\n";
 
-/// What ends it if memory ran out.
+/// The last line of a command's output if an allocation failed.
 const MEMORY: &str = "kyua: E: out of memory\n";
 
-/// What is wrong where the store holds something else.
+/// The output if the runs that are left are neither those before nor those after the failed call.
 const NEITHER: &str = ", and then the runs are neither from before the call nor from after it";
 
-/// What `test` did.
+/// The outcome of the command `test`.
 #[derive(Drop)]
 struct Tested {
+    /// The text on standard output.
     page: String,
+    /// The exit status.
     status: u8,
-    /// Whether a child was spawned.
+    /// `true` if a child was started.
     spawned: bool,
 }
 
-/// What `test` did, if its store could be had, and what a crash then leaves of that store.
+/// An execution on a disk that fails, and what a crash after it leaves.
 #[derive(Drop)]
 struct Attempt {
+    /// The outcome, or `None` if the results tables couldn't be attached.
     tested: Option<Tested>,
+    /// The schema number after the crash, or 0 without one.
     schema: i64,
+    /// The runs after the crash.
     left: Vec<String>,
 }
 
-/// A command whose disk never failed, and what the store held before it and after it. Its calls of the store are numbered:
-/// 1 is `begin`, then comes a `put` for each entry, and then `finish`. As call 0 its tables are taken.
+/// An execution on a disk that doesn't fail. Its store calls have numbers: 0 attaches the tables, 1
+/// is `begin`, then comes a `put` for each entry, and then `finish`.
 #[derive(Drop)]
 struct Whole {
+    /// The outcome.
     tested: Tested,
+    /// The runs before the execution.
     before: Vec<String>,
+    /// The runs after the execution and a crash.
     left: Vec<String>,
 }
 
 impl Whole {
-    /// The number of `finish`.
+    /// Returns the number of the store call `finish`.
     fn last(&self) -> usize {
         self.left.len().saturating_sub(self.before.len())
     }
 
-    /// The last call that was done where this is left, if a call leaves it.
+    /// Returns the number of the last store call that was completed, or `None` if no call leaves
+    /// the runs `left`.
     fn done_by(&self, left: &[String]) -> Option<usize> {
         let (before, whole) = (self.before.as_slice(), self.left.as_slice());
         if left == before {
@@ -65,8 +74,9 @@ impl Whole {
         (1..self.last()).find(|done| is_cut(left, whole, before.len(), *done))
     }
 
-    /// The call that stopped a command, by what was printed and spawned: behind the last if none did; or why that can't be
-    /// told.
+    /// Returns the number of the store call that stopped a command, derived from its output and its
+    /// children. The number after `finish` means that no call stopped the command. The error
+    /// describes an output that fits no call, or a failed allocation.
     fn stop_by(&self, cut: &Tested) -> Result<usize, &'static str> {
         let (page, whole) = (cut.page.as_str(), self.tested.page.as_str());
         let memory = page.strip_suffix(MEMORY);
@@ -89,8 +99,9 @@ impl Whole {
         }
     }
 
-    /// Appends where a command was stopped, if what is left is from before that call or from after it: ` attach 1`, ` begin`,
-    /// ` put 1` or ` finish`; or behind a comma why no other disk is tried.
+    /// Appends the store call that stopped a command, as ` attach 1`, ` begin`, ` put 1` or
+    /// ` finish`. The runs that are left must be those before or after the call. A text that begins
+    /// with a comma ends the trial.
     fn push_stop(&self, out: &mut Answer, cut: &Attempt) {
         let stop = match &cut.tested {
             None => Ok(0),
@@ -110,7 +121,7 @@ impl Whole {
     }
 }
 
-/// Appends what was printed, and what a crash leaves of the store, a line each.
+/// Appends `word`, the output of a command, and the runs that a crash left, each on a new line.
 fn push_tested(out: &mut Answer, word: &str, tested: Option<&Tested>, left: &[String]) {
     out.line(word);
     if let Some(tested) = tested {
@@ -121,19 +132,24 @@ fn push_tested(out: &mut Answer, word: &str, tested: Option<&Tested>, left: &[St
     }
 }
 
-/// A row whose commands are done over disks on which the log or the database file fails, with a store that may be of
-/// schema 1 and a log of this many frames.
+/// A trial of an example's command lines on disks whose log or database file fails.
 #[derive(Clone, Copy)]
 struct Trial<'a> {
+    /// The example.
     row: &'a Row<'a>,
+    /// The script of the machine and the systems.
     scene: &'a Scene,
+    /// `true` if the log fails, `false` if the database file fails.
     in_log: bool,
+    /// `true` if the store has schema 1 at first, `false` if the files are empty.
     is_old: bool,
+    /// The number of frames from which on the log is copied into the database file.
     frames: usize,
 }
 
 impl Trial<'_> {
-    /// Carries out the lines over a store, and returns how the last one ended, and the store.
+    /// Executes the command lines over a store. Returns the outcome of the last of them, and the
+    /// store.
     fn done_over<R: ResultStore + Drop>(self, results: R) -> Result<(Tested, R)> {
         let mut played = Played::new(
             self.scene.alloc,
@@ -149,7 +165,8 @@ impl Trial<'_> {
         Ok((tested, played.into_results()?))
     }
 
-    /// Does the commands over files that fail, and looks at what a crash leaves of them; nothing if they do not open.
+    /// Executes the command lines on `files`, and returns the outcome and what a crash leaves.
+    /// Returns `None` if the files can't be opened.
     fn tried(self, files: Files<Fuse<Memory>>) -> Result<Option<Attempt>> {
         let (alloc, frames) = (self.scene.alloc, self.frames);
         let Some((tested, files)) = work_over(alloc, files, frames, self)? else {
@@ -163,7 +180,7 @@ impl Trial<'_> {
         }))
     }
 
-    /// The files that the commands begin with, which fail after this many calls: empty ones, or those of an older store.
+    /// Creates the files on which the command lines begin, and which fail after `calls` calls.
     fn files(self, calls: u64) -> Result<Files<Fuse<Memory>>> {
         let files = match self.is_old {
             true => old_files(self.scene.alloc, self.frames)?,
@@ -172,7 +189,8 @@ impl Trial<'_> {
         Ok(fused(files, self.in_log, calls))
     }
 
-    /// The commands over a disk that fails at no call.
+    /// Executes the command lines on a disk that doesn't fail, and returns the runs before and
+    /// after it.
     fn whole(self) -> Result<Whole> {
         let (_, before) = left_by(self.scene.alloc, self.files(u64::MAX)?, self.frames)?;
         let whole = due(self.tried(self.files(u64::MAX)?)?, "there is no store")?;
@@ -183,8 +201,10 @@ impl Trial<'_> {
         })
     }
 
-    /// Appends where the disk that fails at each call in turn stops the command, each place once, until none is refused or
-    /// something is wrong: then what the command did without a failure and with it.
+    /// Executes the command lines with each call of the disk failing in turn, and appends the store
+    /// calls that stopped them, each only once. The trial ends if no call stopped a command, or if
+    /// something is wrong. If the output or the runs are wrong, appends them without and with the
+    /// failure.
     fn push_stops(self, out: &mut Answer, whole: &Whole) -> Result<()> {
         out.push("stopped in");
         let mut last = String::new(self.scene.alloc);
@@ -210,7 +230,8 @@ impl Trial<'_> {
         Ok(())
     }
 
-    /// Appends what comes of a disk that is sound, or that fails at each call in turn.
+    /// Appends the output on a disk that doesn't fail if `is_sound` is set. Otherwise appends the
+    /// store calls at which a failing disk stops the command.
     fn push(self, out: &mut Answer, is_sound: bool) -> Result<()> {
         let whole = self.whole()?;
         if !is_sound {
@@ -225,7 +246,8 @@ impl Trial<'_> {
     }
 }
 
-/// Carries out the lines over a database, unless its tables are not taken.
+/// Executes the command lines over a database. The outcome is `None` if the results tables can't be
+/// attached.
 impl Work for Trial<'_> {
     type Made = Option<Tested>;
 
@@ -249,8 +271,9 @@ impl Work for Trial<'_> {
     }
 }
 
-/// Commands, the last of them `test`, over a store whose disk fails at each call in turn until none is refused: where it
-/// was stopped, each place once. Of a `sound` one: what was printed, the last exit, and what a crash leaves of the store.
+/// Executes command lines, the last of them `test`, on a disk that fails at each of its calls in
+/// turn. Appends the store calls at which the disk stopped `test`. For a `sound` disk, appends the
+/// output, the exit status and the runs that a crash leaves.
 pub fn answer(out: &mut Answer, row: &Row<'_>, disk: &str) -> Result<()> {
     let scene = scene_of(out.alloc, row)?;
     let trial = Trial {

@@ -1,4 +1,4 @@
-//! Files in memory that fail after some calls, and what is done over a database in them.
+//! Database files in memory that fail after some calls, and operations on a database in such files.
 
 use kt_answers::{Answer, Result, RowFault, asked, both, due, push_entries, push_made};
 use kt_base::Entry;
@@ -8,20 +8,28 @@ use sqlite::{Alter, Connection, Options};
 use sqlite_disk::{Crash, Disk, Files, Fuse, Memory};
 use std::alloc::Global;
 
-/// What an earlier version made: the tables of schema 1, and a finished run with one entry.
+/// The SQL statements that create a store of schema 1: the tables, and a finished run with one
+/// entry.
 const SCHEMA_1: &str =
     "CREATE TABLE meta (name TEXT PRIMARY KEY, value INTEGER NOT NULL) STRICT; CREATE TABLE runs (id INTEGER PRIMARY KEY, started INTEGER NOT NULL, total INTEGER NOT NULL, finished INTEGER NOT NULL CHECK (finished IN (0, 1))) STRICT; CREATE TABLE entries (run INTEGER NOT NULL REFERENCES runs (id), position INTEGER NOT NULL, program TEXT NOT NULL, case_name TEXT NOT NULL, kind INTEGER NOT NULL CHECK (kind BETWEEN 0 AND 4), reason TEXT NOT NULL, started INTEGER NOT NULL, millis INTEGER NOT NULL, body_out BLOB NOT NULL, body_err BLOB NOT NULL, clean_out BLOB NOT NULL, clean_err BLOB NOT NULL, PRIMARY KEY (run, position)) STRICT; INSERT INTO meta (name, value) VALUES ('schema', 1); INSERT INTO runs (started, total, finished) VALUES (5, 1, 1); INSERT INTO entries VALUES (1, 0, 'a', 'main', 3, 'x<y', 1700000000123, 12, X'68690A', X'', X'', X'')";
 
-/// What is done over a database.
+/// An interface to an operation on a database.
 pub trait Work {
+    /// The result of the operation.
     type Made;
 
-    /// Does it, and hands the store back.
+    /// Executes the operation on a database, and returns its result and the store.
+    ///
+    /// # Errors
+    ///
+    /// - `Misspelled`: the operation fails in a way that no example expects.
+    /// - `NoMemory`: an allocation outside the database failed.
     fn over<S: Alter + Drop>(self, conn: Connection<S>) -> Result<(Self::Made, S)>;
 }
 
-/// Does a work over files whose log is copied into the database file once it has this many frames, and closes them; nothing
-/// if they do not open.
+/// Executes an operation on the database in `files`, and closes the files. Returns the result and
+/// the files, or `None` if the files can't be opened. The log is copied into the database file once
+/// it has `frames` frames.
 pub fn work_over<D: Disk + Drop, W: Work + Drop>(
     alloc: Global,
     files: Files<D>,
@@ -42,7 +50,7 @@ pub fn work_over<D: Disk + Drop, W: Work + Drop>(
     }
 }
 
-/// Makes a store of schema 1 in an empty database.
+/// A `Work` that creates a store of schema 1 in an empty database.
 #[derive(Clone, Copy)]
 struct OldStore;
 
@@ -57,7 +65,7 @@ impl Work for OldStore {
     }
 }
 
-/// A file in memory with these bytes.
+/// Creates a file in memory with the contents `bytes`.
 fn file_of(alloc: Global, bytes: &[u8]) -> Result<Memory> {
     let mut file = Memory::new(alloc);
     if file.write_at(0, bytes).is_err() || file.sync().is_err() {
@@ -66,7 +74,7 @@ fn file_of(alloc: Global, bytes: &[u8]) -> Result<Memory> {
     Ok(file)
 }
 
-/// Empty files.
+/// Creates an empty log and an empty database file, both in memory.
 pub fn empty_files(alloc: Global) -> Files<Memory> {
     Files {
         log: Memory::new(alloc),
@@ -74,7 +82,7 @@ pub fn empty_files(alloc: Global) -> Files<Memory> {
     }
 }
 
-/// Files with a store of schema 1.
+/// Creates database files in memory that contain a store of schema 1.
 pub fn old_files(alloc: Global, frames: usize) -> Result<Files<Memory>> {
     let empty = fused(empty_files(alloc), true, u64::MAX);
     let made = work_over(alloc, empty, frames, OldStore)?;
@@ -84,7 +92,7 @@ pub fn old_files(alloc: Global, frames: usize) -> Result<Files<Memory>> {
     Ok(Files { log, db })
 }
 
-/// Files of which the log or the database file fails after this many calls.
+/// Makes either the log or the database file fail after `calls` calls, and returns both files.
 pub fn fused(files: Files<Memory>, in_log: bool, calls: u64) -> Files<Fuse<Memory>> {
     Files {
         log: Fuse::new(files.log, if in_log { calls } else { u64::MAX }),
@@ -92,7 +100,7 @@ pub fn fused(files: Files<Memory>, in_log: bool, calls: u64) -> Files<Fuse<Memor
     }
 }
 
-/// All that is shown of an entry, one of a list of its own.
+/// Returns the line, the outputs and the properties of the only entry in the list `entry`.
 fn whole_text(alloc: Global, entry: &[Entry]) -> Result<String> {
     let mut out = Answer::new(alloc);
     for word in ["cases", "outputs", "pairs"] {
@@ -102,7 +110,7 @@ fn whole_text(alloc: Global, entry: &[Entry]) -> Result<String> {
     asked(out.end())
 }
 
-/// Appends all that is shown of a run: its head, its entries, and whether it is finished.
+/// Appends the head, the entries and the state of a run to `told`.
 fn push_told<S: Alter>(
     alloc: Global,
     told: &mut Vec<String>,
@@ -123,7 +131,7 @@ fn push_told<S: Alter>(
     push_made(told, asked(String::from_str(alloc, state_text(head))))
 }
 
-/// All that a store holds: of each run its head, its entries, and whether it is finished.
+/// Returns the head, the entries and the state of each run of a store.
 fn told<S: Alter>(alloc: Global, results: &mut Results<S>) -> Result<Vec<String>> {
     let Ok(heads) = results.runs() else {
         return Err(RowFault::Misspelled("its runs can not be told"));
@@ -135,14 +143,14 @@ fn told<S: Alter>(alloc: Global, results: &mut Results<S>) -> Result<Vec<String>
     Ok(told)
 }
 
-/// The number of the schema, if there is one.
+/// Returns the schema number of a database, or `None` if the query fails.
 fn asked_schema<S: Alter>(conn: &mut Connection<S>) -> Option<i64> {
     let row = conn.query_row("SELECT value FROM meta WHERE name = 'schema'", &[]);
     row.ok()?.get(0).ok()
 }
 
-/// Tells the schema of the tables of a store, 0 where there is none, and all that it holds. The schema is asked for twice,
-/// since memory may run out once.
+/// A `Work` that returns the schema number of a database, or 0 without one, and all its runs. The
+/// query for the number is repeated once if it fails, because an allocation may fail once.
 #[derive(Clone, Copy)]
 struct Telling {
     alloc: Global,
@@ -167,7 +175,7 @@ impl Work for Telling {
     }
 }
 
-/// What a crash leaves of files: the schema of their tables, and all that a store then holds.
+/// Simulates a crash, and returns the schema number and the runs that are left in the files.
 pub fn left_by<D: Crash + Drop>(
     alloc: Global,
     mut files: Files<D>,
@@ -180,7 +188,8 @@ pub fn left_by<D: Crash + Drop>(
     Ok(left)
 }
 
-/// Whether this is what was shown first, then this many lines of the next run, without its end.
+/// Returns `true` if `left` consists of the first `first` + `lines` lines of `whole` and the line
+/// `unfinished`.
 pub fn is_cut(left: &[String], whole: &[String], first: usize, lines: usize) -> bool {
     left.split_last().is_some_and(|(last, front)| {
         last.as_str() == "unfinished"

@@ -1,4 +1,4 @@
-//! Command lines, each carried out as a process of its own carries it out, over a scripted platform, machine and system.
+//! Executes each command line as a process over a scripted platform, machine and system.
 
 use crate::printing::push_page;
 use crate::scripted_machine::ScriptedMachine;
@@ -12,14 +12,17 @@ use kt_words::{Command, CommandFault};
 use std::alloc::Global;
 use std::io::Write;
 
-/// What command lines leave.
+/// The state after command lines: the platform, both outputs and the exit statuses.
 pub struct Played<R: ResultStore + Drop> {
+    /// The platform, which has the results store.
     pub platform: ScriptedPlatform<R>,
-    /// Standard output and standard error.
+    /// Standard output.
     pub page: ScriptedWriter,
+    /// Standard error.
     pub errors: ScriptedWriter,
+    /// The exit statuses of the command lines, in order.
     pub exits: Vec<u8>,
-    /// The calls of their systems.
+    /// The calls of the command lines on their systems, one per line.
     pub log: Answer,
 }
 
@@ -35,8 +38,8 @@ impl<R: ResultStore + Drop> Drop for Played<R> {
     }
 }
 
-/// Carries out a command line: returns its exit status and the machine as it is left, and appends the calls of its
-/// system.
+/// Executes a command over a new system, and returns its exit status and the machine. The calls on
+/// the system are appended to `log`.
 fn carried<'a, R: ResultStore + Drop, W: Write, E: Write>(
     log: &mut Answer,
     scene: &'a Scene,
@@ -55,7 +58,7 @@ fn carried<'a, R: ResultStore + Drop, W: Write, E: Write>(
     Ok((exit.status, outside.machine))
 }
 
-/// Appends what was written on standard error, of a usage that word alone.
+/// Appends `error: ` and the text on standard error, or only `error: usage` for a usage message.
 fn push_errors(out: &mut Answer, errors: &ScriptedWriter) -> Result<()> {
     let mut page = Answer::new(out.alloc);
     push_page(&mut page, errors)?;
@@ -69,7 +72,7 @@ fn push_errors(out: &mut Answer, errors: &ScriptedWriter) -> Result<()> {
 }
 
 impl<R: ResultStore + Drop> Played<R> {
-    /// Nothing was carried out yet.
+    /// Creates the state in which no command line was executed yet.
     pub fn new(alloc: Global, platform: ScriptedPlatform<R>) -> Played<R> {
         Played {
             platform,
@@ -80,7 +83,13 @@ impl<R: ResultStore + Drop> Played<R> {
         }
     }
 
-    /// Carries out the command lines among these: `do WORDS` or `line WORDS`, or `words no-memory` for none.
+    /// Executes the command lines among `lines`. `do WORDS` and `line WORDS` have the arguments.
+    /// For `words no-memory` the allocation of the arguments fails.
+    ///
+    /// # Errors
+    ///
+    /// - `Misspelled`: an argument has an invalid escape.
+    /// - `NoMemory`: an allocation outside the command failed.
     pub fn play(&mut self, lines: &[Line<'_>], scene: &Scene) -> Result<()> {
         let alloc = self.log.alloc;
         let mut machine = ScriptedMachine { scene, told: 0 };
@@ -99,7 +108,11 @@ impl<R: ResultStore + Drop> Played<R> {
         Ok(())
     }
 
-    /// Appends what was written, and how each line ended.
+    /// Appends both outputs, and the exit statuses of the command lines.
+    ///
+    /// # Errors
+    ///
+    /// - `NoMemory`: an allocation failed.
     pub fn push_ended(&self, out: &mut Answer) -> Result<()> {
         push_page(out, &self.page)?;
         push_errors(out, &self.errors)?;
@@ -110,7 +123,11 @@ impl<R: ResultStore + Drop> Played<R> {
         Ok(())
     }
 
-    /// The results as they were closed last.
+    /// Returns the results store that was closed last.
+    ///
+    /// # Errors
+    ///
+    /// - `Misspelled`: the store isn't closed.
     pub fn into_results(mut self) -> Result<R> {
         due(self.platform.results.take(), "there is no store")
     }

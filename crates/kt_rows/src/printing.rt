@@ -4,7 +4,9 @@ use kt_cli::LineOutput;
 use std::alloc::Global;
 use std::io::Write;
 
-/// A writer that takes this many bytes at a time. From this write on, counted from 1, all fail so; 0 for none.
+/// Creates a writer that accepts `at_most` bytes per write and fails from write number `failing`
+/// on. Writes are counted from 1, and with 0 no write fails. `fault` is the way in which writes
+/// fail.
 pub fn writer(alloc: Global, at_most: usize, failing: u64, fault: WriteFault) -> ScriptedWriter {
     let mut writer = ScriptedWriter::new(alloc);
     writer.at_most = at_most;
@@ -13,7 +15,8 @@ pub fn writer(alloc: Global, at_most: usize, failing: u64, fault: WriteFault) ->
     writer
 }
 
-/// Prints pieces, also after a failure, and flushes them: whether all went well.
+/// Prints all pieces, even after a failed write, and flushes them if `flushes` is set. Returns
+/// `true` if nothing failed.
 fn print<W: Write>(pieces: &[Vec<u8>], out: &mut W, flushes: bool) -> bool {
     let mut well = true;
     for piece in pieces {
@@ -22,7 +25,8 @@ fn print<W: Write>(pieces: &[Vec<u8>], out: &mut W, flushes: bool) -> bool {
     (!flushes || out.flush().is_ok()) && well
 }
 
-/// Prints pieces, perhaps to lines before the writer: whether all went well.
+/// Prints and flushes pieces, through a line buffer if `to_lines` is set. Returns `true` if nothing
+/// failed.
 fn print_whole(pieces: &[Vec<u8>], to_lines: bool, out: &mut ScriptedWriter) -> bool {
     if to_lines {
         print(pieces, &mut LineOutput::new(out, true), true)
@@ -31,7 +35,7 @@ fn print_whole(pieces: &[Vec<u8>], to_lines: bool, out: &mut ScriptedWriter) -> 
     }
 }
 
-/// What is wrong with a writer after one of its writes failed.
+/// Returns what is wrong with a writer after one of its writes failed, or `None`.
 fn wrong(whole: &[u8], cut: &ScriptedWriter, well: bool) -> Result<Option<&'static str>, NoMemory> {
     let kept = cut.kept()?;
     if well {
@@ -46,8 +50,9 @@ fn wrong(whole: &[u8], cut: &ScriptedWriter, well: bool) -> Result<Option<&'stat
     Ok(None)
 }
 
-/// Appends what is wrong with pieces that are printed into a writer that takes this many bytes at a time: another text than
-/// the whole one, or where one of the first hundred writes fails no beginning of it.
+/// Prints pieces into writers that accept `at_most` bytes per write, and appends what is wrong.
+/// Without a failure, a writer must get the text `whole`. If one of the first 100 writes fails, it
+/// must get a proper prefix.
 fn push_wrong(
     out: &mut Answer,
     pieces: &[Vec<u8>],
@@ -76,8 +81,9 @@ fn push_wrong(
     Ok(())
 }
 
-/// Appends the text of pieces that are printed, perhaps to lines before the writer, or what is wrong: it is the same into a
-/// writer that takes all at a time, seven bytes or one, and one that fails at one of its first writes gets a beginning.
+/// Prints pieces into several writers, and appends the text after a line for each error. The
+/// writers accept all bytes, 7 bytes or 1 byte per write, and may fail at one of the first writes.
+/// If `to_lines` is set, a line buffer precedes each writer.
 pub fn push_printed(out: &mut Answer, pieces: &[Vec<u8>], to_lines: bool) -> Result<()> {
     let mut page = ScriptedWriter::new(out.alloc);
     print_whole(pieces, to_lines, &mut page);
@@ -89,8 +95,9 @@ pub fn push_printed(out: &mut Answer, pieces: &[Vec<u8>], to_lines: bool) -> Res
     Ok(())
 }
 
-/// Appends what is written of pieces before a writer of lines, `piece TEXT` each; with `unflushed` before the flush, and
-/// with `held` too if lines are held.
+/// Prints the pieces of an example, `piece TEXT` each, to a line buffer, and appends the written
+/// text. With `unflushed` the buffer isn't flushed, and with `held` it doesn't write complete lines
+/// either.
 pub fn push_pieces(out: &mut Answer, row: &Row<'_>) -> Result<()> {
     let mut pieces = Vec::new(out.alloc);
     for line in row.entries.as_slice() {
@@ -108,7 +115,7 @@ pub fn push_pieces(out: &mut Answer, row: &Row<'_>) -> Result<()> {
     Ok(())
 }
 
-/// Appends what was written on a page. One that doesn't end in a newline was cut.
+/// Appends the text that was written to `page`, and `(cut)` if its last line is incomplete.
 pub fn push_page(out: &mut Answer, page: &ScriptedWriter) -> Result<()> {
     let bytes = page.kept()?;
     out.bytes(bytes);

@@ -6,6 +6,7 @@ use kt_answers::{
 use kt_base::{Bytes, NoMemory, Reason, Text, Verdict, emit_number, emit_wide_number, lossy, send};
 use std::alloc::Global;
 
+/// Appends a verdict's kind, and `good` or `bad`.
 fn push_kind(out: &mut Answer, word: &str) -> Result<()> {
     let kind = kind_of(word)?;
     let quality = if kind.good() { "good" } else { "bad" };
@@ -13,7 +14,7 @@ fn push_kind(out: &mut Answer, word: &str) -> Result<()> {
     Ok(())
 }
 
-/// Bytes as a text, after they were joined of two halves and copied.
+/// Decodes bytes as text, after splitting, joining and copying them to exercise these calls.
 fn text_of_bytes(alloc: Global, bytes: &[u8]) -> Result<Text, NoMemory> {
     let (front, back) = bytes.split_at(bytes.len() / 2);
     let mut joined = Bytes::from_slice(alloc, front)?;
@@ -22,7 +23,7 @@ fn text_of_bytes(alloc: Global, bytes: &[u8]) -> Result<Text, NoMemory> {
     lossy(alloc, copied.as_slice())?.copy()
 }
 
-/// Appends a number as it is printed.
+/// Appends a number of at most 128 bits, as kt_base prints it.
 fn push_number(out: &mut Answer, text: &str) -> Result<()> {
     let mut page = ScriptedWriter::new(out.alloc);
     if let Ok(n) = text.parse::<u64>() {
@@ -36,7 +37,8 @@ fn push_number(out: &mut Answer, text: &str) -> Result<()> {
     Ok(())
 }
 
-/// Appends how much of a text reaches a writer that takes `taking N` bytes a write and fails from `failing WRITE` on.
+/// Sends bytes to a writer, and appends the numbers of sent bytes and of writes. The writer accepts
+/// `taking N` bytes per write, and fails from write number `failing WRITE` on.
 fn push_sent(out: &mut Answer, row: &Row<'_>, bytes: &[u8]) -> Result<()> {
     let at_most = row.number("taking", 1)? as usize;
     let failing = row.number("failing", 0)?;
@@ -48,7 +50,7 @@ fn push_sent(out: &mut Answer, row: &Row<'_>, bytes: &[u8]) -> Result<()> {
     Ok(())
 }
 
-/// Appends what is asked by a word of a text without its escapes.
+/// Executes the example of the keyword `word` with decoded bytes, and appends its output.
 fn push_told(out: &mut Answer, row: &Row<'_>, word: &str, bytes: Vec<u8>) -> Result<()> {
     match word {
         "words" => {
@@ -65,8 +67,9 @@ fn push_told(out: &mut Answer, row: &Row<'_>, word: &str, bytes: Vec<u8>) -> Res
     }
 }
 
-/// The text of a reason, of a kind, of a number or of bytes: `kind WORD`, `number N`, `words TEXT` or `nothing`, `bytes
-/// TEXT`, `send TEXT` or `emit TEXT`.
+/// Executes an example of a kind, a number, a reason or bytes, and appends the text. It has one of
+/// the lines `kind WORD`, `number N`, `words TEXT`, `nothing`, `bytes TEXT`, `send TEXT` and
+/// `emit TEXT`.
 pub fn answer(out: &mut Answer, row: &Row<'_>) -> Result<()> {
     let Line { word, text } = row.first()?;
     match word {

@@ -5,7 +5,7 @@ use kt_play::Refusals;
 use kt_store::{CaseOutputs, Keeping, ResultStore, RunHead, StoreFault};
 use std::alloc::Global;
 
-/// Runs in memory, some of whose calls are refused.
+/// A `ResultStore` in memory, some of whose calls fail.
 #[derive(Drop)]
 pub struct RefusingStore {
     runs: MemRuns,
@@ -13,7 +13,14 @@ pub struct RefusingStore {
 }
 
 impl RefusingStore {
-    /// No runs, and the calls that a row refuses.
+    /// Creates a store without runs, whose calls fail as the lines `refused CALLS` and
+    /// `refused-memory CALLS` of an example require.
+    ///
+    /// # Errors
+    ///
+    /// - `Misspelled`: CALLS isn't one or two numbers, or the real error for the calls can't be
+    ///   provoked.
+    /// - `NoMemory`: an allocation failed.
     pub fn of(alloc: Global, row: &Row<'_>) -> kt_answers::Result<RefusingStore> {
         Ok(RefusingStore {
             runs: MemRuns::new(alloc),
@@ -26,7 +33,7 @@ impl Keeping for RefusingStore {
     ghost use Rattle.std.specs.Prelude.{⊤};
     ghost use Rattle.kt_cli.specs.MemoryRuns.{StandsInMemory};
 
-    // What each call answers is its own clause.
+    // The contract of each call states its result, so the relation is trivial.
     ghost answers = { λ _ _ _. Unit {0} };
 
     ghost stands = { λ s runs. StandsInMemory s.runs runs };

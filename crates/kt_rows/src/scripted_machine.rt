@@ -7,18 +7,19 @@ use kt_play::{Scene, ask_too_much};
 use kt_suite::ReadFault;
 use std::alloc::Global;
 
-/// How many bytes of a file are read at the most.
+/// The maximum number of bytes that are read of a file.
 const READ_LIMIT: usize = 1_048_577;
 
-/// A machine of files in memory, with a clock of its own.
+/// A `Machine` with the files, programs and clock of a scene.
 #[derive(Drop)]
 pub struct ScriptedMachine<'a> {
+    /// The script.
     pub scene: &'a Scene,
-    /// How many moments were answered.
+    /// The number of timestamps that were returned.
     pub told: usize,
 }
 
-/// The front of these bytes.
+/// Returns a copy of the first `READ_LIMIT` bytes, or of all bytes if they are fewer.
 fn front_of(alloc: Global, bytes: &[u8]) -> Result<Bytes, ReadFault>
     ensures { IfOk result (λ bytes. length bytes ≤ read_limit) }
 {
@@ -30,7 +31,7 @@ fn front_of(alloc: Global, bytes: &[u8]) -> Result<Bytes, ReadFault>
 }
 
 impl Machine for ScriptedMachine<'_> {
-    // What each question is answered is its script's.
+    // The script decides each result, so the relation is trivial.
     ghost answers = { λ _ _ _. Unit {0} };
 
     fn front(&mut self, path: &str) -> Result<Bytes, ReadFault> {

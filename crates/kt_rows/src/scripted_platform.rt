@@ -5,27 +5,27 @@ use kt_cli::{Platform, Surroundings};
 use kt_store::{Access, ResultStore, StoreFault};
 use std::alloc::Global;
 
-/// A platform with one file of results, whatever its name, that keeps a line of its calls.
+/// A `Platform` that opens one results store for any file name, and logs its calls.
 #[derive(Drop)]
 pub struct ScriptedPlatform<R: ResultStore + Drop> {
-    /// The results while they are closed.
+    /// The results store while it is closed.
     pub results: Option<R>,
-    /// Why results aren't opened.
+    /// The error of opening the results store, if it fails.
     pub not_opened: Option<StoreFault>,
-    /// Why results can't be closed.
+    /// The error of closing the results store, if it fails.
     pub not_closed: Option<StoreFault>,
-    /// Why nothing is found around the process.
+    /// The error of reading the surroundings, if it fails.
     pub not_found: Option<DriverFault>,
     /// The value of `PATH`, if it is set.
     pub path: Option<Text>,
     /// The value of `USER`, if it is set.
     pub user: Option<Text>,
-    /// The calls, with commas between them: `open FILE`, `surroundings` and `close`.
+    /// The calls, separated by commas: `open FILE`, `surroundings` and `close`.
     pub calls: Answer,
 }
 
 impl<R: ResultStore + Drop> ScriptedPlatform<R> {
-    /// A platform with these results in its file; none of its calls fails.
+    /// Creates a platform with the results store `results`, whose calls don't fail.
     pub fn new(alloc: Global, results: R) -> ScriptedPlatform<R> {
         ScriptedPlatform {
             results: Some(results),
@@ -38,7 +38,7 @@ impl<R: ResultStore + Drop> ScriptedPlatform<R> {
         }
     }
 
-    /// Keeps the word of a call, or the refusal of memory for it, which is told once.
+    /// Logs a call, and fails if the log's allocation fails for the first time.
     fn note(&mut self, word: &str, file: &str) -> Result<(), NoMemory> {
         let was_refused = self.calls.so_far().is_err();
         self.calls.separate(", ");
@@ -49,7 +49,8 @@ impl<R: ResultStore + Drop> ScriptedPlatform<R> {
         Ok(())
     }
 
-    /// What is found around the process: a directory, and nothing in the environment but two variables.
+    /// Returns the surroundings of the process: the directory `/here`, and the variables `PATH` and
+    /// `USER`.
     fn around(&self) -> Result<Surroundings, NoMemory> {
         let here = Text::from_str(self.calls.alloc, "/here")?;
         let path = self.path.as_ref().map(Text::copy).transpose()?;
@@ -61,7 +62,7 @@ impl<R: ResultStore + Drop> ScriptedPlatform<R> {
 impl<R: ResultStore + Drop> Platform for ScriptedPlatform<R> {
     type Results = R;
 
-    // What each call answers is its script's.
+    // The script decides the result of each call, so the relation is trivial.
     ghost provides = { λ _ _ _. Unit {0} };
 
     fn open(&mut self, file: &Text, _access: Access) -> Result<R, StoreFault> {

@@ -7,15 +7,19 @@ use kt_store::{ResultStore, Results, RunsFile};
 use sqlite::{Alter, Connection};
 use std::alloc::Global;
 
-/// A database whose tables were taken or not, or are read and written by their trees.
+/// A database with a results store, and the way in which the store is used.
 #[derive(Drop)]
 enum Store<S: Alter + Drop> {
+    /// The results tables aren't attached.
     Open(Connection<S>),
+    /// The results tables are read and written by SQL.
     Attached(Results<S>),
+    /// The results tables are read and written through their B-trees.
     ByTrees(RunsFile<S>),
 }
 
-/// The connection of a database, without its tables. One that is worked with by its trees has none.
+/// Detaches the results tables of a database, and returns its connection. A store that is used
+/// through its trees can't be detached.
 fn detached<S: Alter + Drop>(store: Store<S>) -> Result<Connection<S>> {
     match store {
         Store::Open(connection) => Ok(connection),
@@ -24,7 +28,7 @@ fn detached<S: Alter + Drop>(store: Store<S>) -> Result<Connection<S>> {
     }
 }
 
-/// The same results by their trees.
+/// Converts a store that is used by SQL into a store that is used through its trees.
 fn by_trees<S: Alter + Drop>(results: Results<S>) -> Result<RunsFile<S>> {
     match RunsFile::of(results) {
         Ok(file) => Ok(file),
@@ -32,7 +36,7 @@ fn by_trees<S: Alter + Drop>(results: Results<S>) -> Result<RunsFile<S>> {
     }
 }
 
-/// Takes the tables, and appends whether that was refused.
+/// Attaches the results tables of a database, and appends `attached` or the error.
 fn attach<S: Alter + Drop>(
     out: &mut Answer,
     connection: Connection<S>,
@@ -56,7 +60,8 @@ fn attach<S: Alter + Drop>(
     }
 }
 
-/// Appends what a call on runs answers, or a command line over them its page and its exit, and hands the runs back.
+/// Executes a store call, or a command line over the store, and appends its output. Returns the
+/// store.
 fn ask<R: ResultStore + Drop>(
     out: &mut Answer,
     mut results: R,
@@ -74,7 +79,8 @@ fn ask<R: ResultStore + Drop>(
     played.into_results()
 }
 
-/// The same of results that are asked by SQL. From a command line on they are asked by their trees.
+/// Executes a store call by SQL, and appends its output. A command line uses the store through its
+/// trees, and so do the lines after it.
 fn ask_by_sql<S: Alter + Drop>(
     out: &mut Answer,
     mut results: Results<S>,
@@ -89,7 +95,7 @@ fn ask_by_sql<S: Alter + Drop>(
     Ok(Store::Attached(results))
 }
 
-/// Does a line of a row over a store, and appends the answer.
+/// Executes a line of an example over a database, and appends its output.
 fn step<S: Alter + Drop>(
     out: &mut Answer,
     store: Store<S>,
@@ -116,7 +122,7 @@ fn step<S: Alter + Drop>(
     }
 }
 
-/// The answers to the lines of a row over a database in memory, by SQL or by its trees.
+/// Returns the outputs of lines over a new database in memory, used by SQL or through its trees.
 fn over(alloc: Global, lines: &[Line<'_>], is_by_trees: bool) -> Result<String> {
     let mut out = Answer::new(alloc);
     let mut store = Store::Open(Connection::open_in_memory(alloc)?);
@@ -128,19 +134,21 @@ fn over(alloc: Global, lines: &[Line<'_>], is_by_trees: bool) -> Result<String> 
     asked(out.end())
 }
 
-/// Whether the lines ask for the connection again once the tables were taken: then there is no way by the trees.
+/// Returns `true` if lines use the connection after the first `attach`. A store that is used
+/// through its trees can't return it.
 fn are_taken_again(lines: &[Line<'_>]) -> bool {
     let mut later = lines.iter().skip_while(|line| line.word != "attach");
     later.next();
     later.any(|line| line.word == "attach" || line.word == "sql")
 }
 
-/// Whether an answer says that memory ran out.
+/// Returns `true` if an output contains the error of a failed allocation.
 fn is_short(answer: &str) -> bool {
     answer.contains("NoMemory") || answer.contains("out of memory")
 }
 
-/// Appends what both ways answer, or each answer if they differ. Where memory was refused, that was to one of them.
+/// Appends the common output of both ways, or both outputs if they differ. If one output reports a
+/// failed allocation, only that output is appended, because the other one must differ.
 fn push_both(out: &mut Answer, by_sql: &str, by_trees: &str) {
     if by_sql == by_trees || is_short(by_sql) {
         out.push(by_sql);
@@ -153,7 +161,7 @@ fn push_both(out: &mut Answer, by_sql: &str, by_trees: &str) {
     }
 }
 
-/// The answers to the lines of a row over runs in memory.
+/// Executes the lines of an example over a store in memory, and appends their outputs.
 fn over_memory(out: &mut Answer, lines: &[Line<'_>], mut runs: RefusingStore) -> Result<()> {
     for (place, line) in lines.iter().enumerate() {
         if !is_content(line) {
@@ -164,8 +172,8 @@ fn over_memory(out: &mut Answer, lines: &[Line<'_>], mut runs: RefusingStore) ->
     Ok(())
 }
 
-/// What calls on a store answer, one after the other: over a database in memory, by SQL and by its trees, which answer
-/// alike, or after `memory` over runs in memory.
+/// Executes store calls over a database in memory, by SQL and through its trees, and appends the
+/// common output. After the line `memory`, the calls are executed over a store in memory alone.
 pub fn answer(out: &mut Answer, row: &Row<'_>) -> Result<()> {
     let lines = row.entries.as_slice();
     if let Some((first, calls)) = lines.split_first() {

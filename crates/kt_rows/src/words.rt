@@ -4,7 +4,7 @@ use kt_words::{CaseOptions, Command, CommandFault, ReportOptions, read_command};
 use std::alloc::Global;
 use std::slice;
 
-/// The words of a line, which have spaces between them.
+/// Splits a command line into arguments at white space, and decodes the escapes of each argument.
 pub fn words_of(alloc: Global, line: &str) -> Result<Vec<String>> {
     let mut words = Vec::new(alloc);
     for word in line.split_whitespace() {
@@ -13,20 +13,21 @@ pub fn words_of(alloc: Global, line: &str) -> Result<Vec<String>> {
     Ok(words)
 }
 
-/// The command that a line spells, or why it is none.
+/// Parses a command line, and returns the command or the error in its arguments.
 pub fn read_line(alloc: Global, line: &str) -> Result<Result<Command, CommandFault>> {
     let words = words_of(alloc, line)?;
     Ok(read_command(alloc, words.as_slice()))
 }
 
-/// Appends the values of an option.
+/// Appends each value of an option after `name`.
 fn push_values(out: &mut Answer, name: &str, values: &[Text]) {
     for value in values {
         write!(out, "{name}{}", value.as_str());
     }
 }
 
-/// Appends a command over test cases: its Kyuafile, its directory, its results file if it has one, and what it is given.
+/// Appends a command over test cases: Kyuafile, work directory, results file, configuration,
+/// variables and filters.
 fn push_cases(out: &mut Answer, name: &str, options: &CaseOptions, results: &[Text]) {
     let (kyuafile, work) = (options.kyuafile.as_str(), options.work.as_str());
     write!(out, "{name} {kyuafile}, work {work}");
@@ -36,7 +37,7 @@ fn push_cases(out: &mut Answer, name: &str, options: &CaseOptions, results: &[Te
     push_values(out, ", filter ", options.filters.as_slice());
 }
 
-/// Appends the run of a report, its results file and what it is given.
+/// Appends a report: its run, results file, configuration and variables.
 fn push_report(out: &mut Answer, name: &str, options: &ReportOptions) {
     match options.run {
         Some(run) => write!(out, "{name} {run}"),
@@ -47,6 +48,7 @@ fn push_report(out: &mut Answer, name: &str, options: &ReportOptions) {
     push_values(out, ", variable ", options.variables.as_slice());
 }
 
+/// Appends a command and the values of its options.
 fn push_command(out: &mut Answer, command: &Command) {
     match command {
         Command::List(options) => push_cases(out, "list", options, &[]),
@@ -70,7 +72,7 @@ fn push_command(out: &mut Answer, command: &Command) {
     }
 }
 
-/// Appends why words are no command. A usage has a text.
+/// Appends the error of arguments that are rejected. A usage message is reduced to `usage`.
 fn push_fault(out: &mut Answer, fault: &CommandFault) {
     match fault {
         CommandFault::Usage(text) if text.as_str().is_empty() => out.push("usage without a text"),
@@ -79,7 +81,7 @@ fn push_fault(out: &mut Answer, fault: &CommandFault) {
     }
 }
 
-/// The words of a row's line, and after them N times the word of `times N WORD`.
+/// Returns the arguments of the line `line WORDS`, and then N times the argument of `times N WORD`.
 fn all_words(alloc: Global, row: &Row<'_>) -> Result<Vec<String>> {
     let line = due(row.text("line"), "the row has no command line")?;
     let mut words = words_of(alloc, line)?;
@@ -91,7 +93,8 @@ fn all_words(alloc: Global, row: &Row<'_>) -> Result<Vec<String>> {
     Ok(words)
 }
 
-/// What a command line is read as: `line WORDS`, with spaces between the words, and perhaps `times N WORD`.
+/// Parses the command line of an example, and appends the command or the error. The example has
+/// `line WORDS`, and may have `times N WORD` for N more arguments.
 pub fn answer(out: &mut Answer, row: &Row<'_>) -> Result<()> {
     match read_command(out.alloc, all_words(out.alloc, row)?.as_slice()) {
         Ok(command) => push_command(out, &command),
