@@ -1,4 +1,5 @@
-//! The child driver: what it asks of the system for each child, and what the answers mean.
+//! The driver of child processes: the calls that it makes to the system, and the outcomes that it
+//! derives from their results.
 #![tactic(auto)]
 
 mod driving;

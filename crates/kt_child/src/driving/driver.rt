@@ -14,19 +14,20 @@ use kt_sched::{Ended, Job, Launcher, StartAnswer};
 use std::alloc::Global;
 use thiserror::Error;
 
-/// Why there is no driver. `Display` prints the words of the fault's line.
+/// Errors returned by [`Driver::new`]. `Display` prints the text of [`DriverFault::words`].
 #[derive(Clone, Copy, Debug, Error)]
 #[error("{}", self.words())]
 pub enum DriverFault {
+    /// An allocation failed.
     NoMemory(NoMemory),
-    /// None of the 1,000 root directories could be made.
+    /// None of the 1,000 root directories could be created.
     NoWorkDirectory,
 }
 
 impl DriverFault {
     ghost use Rattle.kt_child.specs.Common.{driver_words};
 
-    /// The words of the fault's line (this profile).
+    /// Returns the text of the error message (this profile).
     pub fn words(self) -> &'static str
         ensures { result.now ≡ driver_words self }
     {
@@ -45,18 +46,21 @@ impl From<NoMemory> for DriverFault {
     }
 }
 
-/// Starts children in directories below its own root directory, watches them and cleans up after them.
+/// A driver of child processes. It starts them in directories below its root directory, polls them,
+/// and removes these directories.
 #[derive(Drop)]
 pub struct Driver<O: Drop> {
+    /// The system.
     pub(crate) os: O,
+    /// The allocator.
     pub(crate) alloc: Global,
     /// The absolute directory of the root Kyuafile.
     pub(crate) source: Text,
-    /// The root directory.
+    /// The root directory, which contains the directories of all attempts.
     pub(crate) root: Text,
-    /// The number of the next start of a body or a list.
+    /// The number of the next attempt, which is a body or a list.
     pub(crate) next: u64,
-    /// What runs and what is owed.
+    /// The running children and the cases with a pending cleanup.
     pub(crate) running: RunningChildren,
 }
 
@@ -71,8 +75,11 @@ impl<O: Os + Drop> Launcher for Driver<O> {
 
     ghost waits = { DriverWaits O.leads };
 
-    /// All memory of a start is taken before its first call, so one that finds none has asked nothing, but that a refused
-    /// cleanup has its body's directory removed. The attempts of bodies and lists have different numbers.
+    /// Starts the body or the cleanup of a case.
+    ///
+    /// The driver allocates before its first call to the system. If its allocation fails, it makes
+    /// no call, except that it removes the directory of a refused cleanup. The bodies and lists of
+    /// a driver have different attempt numbers.
     fn start(&mut self, job: &Job, role: Role) -> StartAnswer {
         match role {
             Role::Body => self.start_body(job),
@@ -80,9 +87,12 @@ impl<O: Os + Drop> Launcher for Driver<O> {
         }
     }
 
-    /// The end of the first child, polled in the order of their starts, that is over: it has ended, by itself or killed at
-    /// its limit, a poll or the kill failed, or it still ran 500 polls after the kill. If all run, a pause follows.
-    /// Evidence and outputs that can't be read for want of memory count as not read.
+    /// Waits until a child has finished, and returns its record.
+    ///
+    /// The children are polled in turns, in the order of their start. A pause follows each turn
+    /// without a finished child. A child has finished if it has ended, if a poll or the kill at its
+    /// timeout fails, or if it is still running 500 polls after the kill. Evidence for which an
+    /// allocation fails counts as unreadable, and such an output as empty.
     fn wait(&mut self) -> Ended {
         self.running.wait(self.alloc, &mut self.os)
     }
@@ -93,9 +103,18 @@ impl<O: Os + Drop> Driver<O> {
     ghost use Rattle.kt_child.specs.Common.{Chain, Call, RemoveTree, FindsRoot, idle_state, MayStart, running_after_start, HasMoment, IsFit, count_in, Begun, case_of, limit_of, spawned, state_after_start, is_among, shown_in, spawning_of, IsStart};
     ghost use Rattle.kt_base.specs.declared.child.Role.{Role as Part};
 
-    /// Makes a root directory in `base`: the first of `kyua.0` to `kyua.999` that can be made. One that is there, such as
-    /// that of a runner that was killed, is never used. `source` is the absolute directory of the root Kyuafile, in which
-    /// the programs lie. An error returns `os`: `NoWorkDirectory` if none of the thousand can be made.
+    /// Creates a driver with a new root directory below `base` (this profile).
+    ///
+    /// The root directory is the first of `kyua.0` to `kyua.999` that can be created. An existing
+    /// directory, such as that of a killed runner, is never used. `source` is the absolute
+    /// directory of the root Kyuafile, which contains the programs.
+    ///
+    /// # Errors
+    ///
+    /// Each error returns `os`, too.
+    ///
+    /// - `NoMemory`: an allocation fails.
+    /// - `NoWorkDirectory`: none of the 1,000 directories can be created.
     pub fn new(
         alloc: Global,
         os: O,
@@ -121,7 +140,7 @@ impl<O: Os + Drop> Driver<O> {
         }
     }
 
-    /// Asks for the removal of the root directory, once, and returns the system. Whether it is gone is not looked at.
+    /// Removes the root directory once, and returns the system. A failed removal is ignored.
     pub fn close(self) -> O
         ensures { (done : Bool) × O.leads self.os (RemoveTree self.root done) result }
     {
@@ -130,7 +149,8 @@ impl<O: Os + Drop> Driver<O> {
         os
     }
 
-    /// Starts a child of a job's case, by the number and the paths of its body's start.
+    /// Starts a child of a job's case. `attempt` and `paths` are the number and the paths of its
+    /// body.
     fn begin(&mut self, job: &Job, role: Role, attempt: u64, paths: Paths) -> StartAnswer
         requires fit { IsFit job.now }
         requires free { count_in job.now.position self.old.running ≡ 0 }
@@ -168,7 +188,8 @@ impl<O: Os + Drop> Driver<O> {
         }
     }
 
-    /// Starts the body of a job with the next number.
+    /// Starts the body of a job with the next attempt number. The start is refused if no number is
+    /// left.
     pub(crate) fn start_body(&mut self, job: &Job) -> StartAnswer
         requires fit { IsFit job.now }
         requires may { MayStart (shown_in self.old.running)
@@ -184,7 +205,7 @@ impl<O: Os + Drop> Driver<O> {
         }
     }
 
-    /// Starts the cleanup of a job, which is owed, with the number and the paths of its body.
+    /// Starts the pending cleanup of a job, with the attempt number and the paths of its body.
     pub(crate) fn start_cleanup(&mut self, job: &Job) -> StartAnswer
         requires fit { IsFit job.now }
         requires may { MayStart (shown_in self.old.running)
@@ -196,15 +217,16 @@ impl<O: Os + Drop> Driver<O> {
     }
 }
 
-/// A root directory by its number.
+/// Returns the path of the root directory with a number: `BASE/kyua.NUMBER`.
 pub(crate) fn root_path(alloc: Global, base: &Text, number: u64) -> Result<Text, NoMemory>
     ensures { IfOk result (λ path. path ≡ root_of base.now number) }
 {
     numbered_path(alloc, base, "/kyua.", number)
 }
 
-/// Makes the root directory of a driver: the first of `kyua.0` to `kyua.999` below `base` that can be made (this
-/// profile). One that exists, such as that of a runner that was killed, is never used again.
+/// Creates the root directory of a driver (this profile): the first of `kyua.0` to `kyua.999` below
+/// `base` that can be created. An existing directory, such as that of a killed runner, is never
+/// used.
 fn find_root<O: Os>(alloc: Global, os: &mut O, base: &Text) -> Result<Text, DriverFault>
     ensures { (calls : List Call) × Chain O.leads os.old calls os.new
         × FindsRoot base.now calls result }

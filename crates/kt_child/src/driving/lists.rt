@@ -11,10 +11,11 @@ use kt_base::{Interface, NoMemory, Outcome, Refused, Role, Text, Variables};
 use kt_suite::Program;
 use std::alloc::Global;
 
-/// The limit of a list, in seconds (this profile).
+/// The timeout of a list, in seconds (this profile).
 const LIST_LIMIT: u64 = 300;
 
-/// Waits for a list that was started, reads it, and removes its directory.
+/// Waits for the end of a started list, reads its output and removes its directory. Returns the
+/// outcome and the output.
 fn watch_list<O: Os>(os: &mut O, plan: &Spawning, case: Case) -> (Outcome, ListBytes)
     requires { IsOn (spawned plan.now.limit case) }
     ensures { (calls : List Call) × Chain O.leads os.old calls os.new
@@ -27,6 +28,7 @@ fn watch_list<O: Os>(os: &mut O, plan: &Spawning, case: Case) -> (Outcome, ListB
     (first.outcome, bytes)
 }
 
+/// Starts a program that lists its test cases, waits for its end and returns the result.
 fn run_list<O: Os>(os: &mut O, plan: &Spawning, case: Case) -> Listing
     requires { IsOn (spawned plan.now.limit case) }
     ensures { (calls : List Call) × Chain O.leads os.old calls os.new
@@ -41,7 +43,8 @@ fn run_list<O: Os>(os: &mut O, plan: &Spawning, case: Case) -> Listing
     }
 }
 
-/// The case of a list, and what the list is started with. `source` is the absolute directory of the root Kyuafile.
+/// Returns the case of a list and the plan of its start. `source` is the absolute directory of the
+/// root Kyuafile.
 fn plan_list(
     alloc: Global,
     source: &Text,
@@ -79,9 +82,20 @@ impl<O: Os + Drop> Driver<O> {
     ghost use Rattle.std.specs.Prelude.{◌≡◌};
     ghost use Rattle.kt_child.specs.Common.{ListsBy};
 
-    /// Asks an ATF program for its list of test cases, with the variables of its suite. It runs in a directory of its own,
-    /// like a body, for 300 seconds at the most (this profile), and the directory is removed. A list that can't be read for
-    /// want of memory is `Unreadable`.
+    /// Lists the test cases of an ATF program by running it with the variables of its suite
+    /// (atf-test-program(1)).
+    ///
+    /// The program runs in a new directory for at most 300 seconds (this profile). The directory is
+    /// then removed. A list is `Unreadable` if a read of it fails.
+    ///
+    /// # Errors
+    ///
+    /// The result is `Listing::Refused` with one of these causes:
+    ///
+    /// - `Directory`: no attempt number is left, or a directory can't be created.
+    /// - `Output`: an output file can't be created.
+    /// - `Spawn`: the system can't start the program.
+    /// - `Memory`: an allocation fails.
     pub fn list(&mut self, program: &Program, variables: &Variables) -> Listing
         ensures listed { ListsBy O.leads self.old program.now.path variables.now result self.new }
         ensures running { self.new.running ≡ self.old.running }

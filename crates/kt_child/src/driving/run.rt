@@ -5,8 +5,17 @@ use kt_base::Items;
 use kt_sched::{Job, Launcher, RunFault, Sink, Totals, run_cases};
 use std::alloc::Global;
 
-/// Runs the cases of a plan over a driver, at most `width` at once, and puts the entry of each into a sink. A law of
-/// drivers: the program calls `run_cases` over its world.
+/// Runs the cases of a plan over a driver, at most `width` at once, and puts the entry of each into
+/// a sink.
+///
+/// The contract is a theorem about drivers. The program itself calls `run_cases` with a launcher
+/// that contains a driver.
+///
+/// # Errors
+///
+/// - `NoMemory`: an allocation fails before the first child is started.
+/// - `SinkFailed`: the sink can't record an entry. The running children are waited for, and pending
+///   cleanups are run.
 pub fn run_driver<O: Os + Drop, S: Sink>(
     alloc: Global,
     plan: Items<Job>,
@@ -27,19 +36,23 @@ pub fn run_driver<O: Os + Drop, S: Sink>(
     run_cases(alloc, plan, width, driver, sink)
 }
 
-/// The law of numbers: no two attempts of a driver (starts of bodies, and lists) have the same number.
+/// Theorem: no two attempts of a driver have the same number. An attempt is the start of a body, or
+/// a list.
 pub fn law_of_numbers<O: Os + Drop>()
     ensures { AttemptsDiffer O.leads }
 {}
 
-/// The law of names, if nothing runs or is owed at first: no two children that run have the same name.
+/// Theorem: no two running children have the same name, provided that none was running and no
+/// cleanup was pending at the start.
 pub fn law_of_names()
     ensures { NumbersDiffer }
 {}
 
-/// The law of traces: the calls are those of the answers, one after the other. Each poll and kill is heard by one child,
-/// and the outcome of a child is the row of the outcome table that all its answers are. Its start, the reads after its
-/// last poll and its removal are in its directory.
+/// Theorem: the calls of a driver to the system are the calls of its starts and waits, in order.
+///
+/// Each poll and kill concerns one child. The outcome of a child follows from all results of its
+/// polls and its kill, by the table of outcomes. The start, the reads and the removal of a child
+/// concern its own directory.
 pub fn law_of_traces<O: Os + Drop>()
     ensures { EndsFollow O.leads }
 {}

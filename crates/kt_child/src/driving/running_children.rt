@@ -18,10 +18,13 @@ use kt_sched::{Ended, StartAnswer};
 use std::alloc::Global;
 use std::marker::Model;
 
-/// The running children in the order of their start, and the cases whose cleanup is owed, with room for those to come.
+/// A list of the running children, in the order of their start, and a list of the cases with a
+/// pending cleanup. The second has spare capacity for the cases of all running children.
 #[derive(Drop)]
 pub(crate) struct RunningChildren {
+    /// The running children, in the order of their start.
     children: Vec<Watched>,
+    /// The cases with a pending cleanup.
     pending: Vec<Case>,
 }
 
@@ -42,7 +45,7 @@ impl Model for RunningChildren {
         × (vec_len r.children + vec_len r.pending ≤ vec_capacity r.pending) };
 }
 
-/// Takes the memory for one more child, and for its case's cleanup.
+/// Reserves capacity for one more child and for the pending cleanup of its case.
 fn make_room(children: &mut Vec<Watched>, pending: &mut Vec<Case>) -> Result<(), NoMemory>
     requires room { vec_len children.old + vec_len pending.old ≤ vec_capacity pending.old }
     ensures children { children.new.items ≡ children.old.items }
@@ -57,7 +60,8 @@ fn make_room(children: &mut Vec<Watched>, pending: &mut Vec<Case>) -> Result<(),
     Ok(())
 }
 
-/// The place of the case at this position.
+/// Returns the index of the case at a position of the plan. The caller guarantees that there is
+/// such a case.
 fn place_of(cases: &[Case], position: u32) -> usize
     requires { is_among cases.now position ≡ true }
     ensures within { result < length cases.now }
@@ -70,7 +74,7 @@ fn place_of(cases: &[Case], position: u32) -> usize
     place
 }
 
-/// Removes the child at this place. Its case is kept if its cleanup is still to come.
+/// Removes the child at an index. Keeps its case as pending if its cleanup must still run.
 fn forget(children: &mut Vec<Watched>, pending: &mut Vec<Case>, place: usize)
     requires child { place < vec_len children.old }
     requires room { vec_len children.old + vec_len pending.old ≤ vec_capacity pending.old }
@@ -86,7 +90,8 @@ fn forget(children: &mut Vec<Watched>, pending: &mut Vec<Case>, place: usize)
     pending.push_reserved(case);
 }
 
-/// Refuses a start for which memory ran out. The directory of a cleanup is removed, since it isn't started again.
+/// Returns the refusal of a start for which an allocation failed. Removes the directory of a
+/// cleanup, since a cleanup is not started again.
 pub(crate) fn refuse<O: Os>(os: &mut O, role: Role, dir: &Text, refusal: NoMemory) -> StartAnswer
     ensures refused { result ≡ StartAnswer.Refused Refused.Memory }
     ensures asked { (calls : List Call) × Chain O.leads os.old calls os.new
@@ -101,7 +106,7 @@ impl RunningChildren {
     ghost use Rattle.kt_child.specs.Common.{IsEvidence, running_after_end, pending_after_end, IsMoment, HasMoment, Chain, Call, IsOn, count_in, Waited, idle_state, is_among, shown_in, Begun, state_after_start, spawned, with_pending, board_of};
     ghost use Rattle.kt_sched.specs.Children.{Child as Shown};
 
-    /// No running children, which takes no memory.
+    /// Creates a state without children or pending cleanups. Nothing is allocated.
     pub(crate) fn new(alloc: Global) -> RunningChildren
         ensures { result ≡ idle_state }
     {
@@ -111,7 +116,7 @@ impl RunningChildren {
         }
     }
 
-    /// Takes a case whose cleanup is owed.
+    /// Removes the case at a position from those with a pending cleanup, and returns it.
     pub(crate) fn take_owed(&mut self, position: u32) -> Case
         requires { is_among self.old.pending position ≡ true }
         ensures taken { (place : ℕ) × (slice_get self.old.pending place ≡ Some result)
@@ -126,7 +131,8 @@ impl RunningChildren {
         self.pending.remove(place)
     }
 
-    /// Starts a child of this case: its body in a new directory, its cleanup in that of the body.
+    /// Starts a child of a case: a body in a new directory, or a cleanup in the directory of its
+    /// body. A child that was started is added to the running children.
     pub(crate) fn start<O: Os>(&mut self, os: &mut O, case: Case, plan: &Spawning) -> StartAnswer
         requires on { IsOn (spawned plan.now.limit case) }
         requires free { count_in case.position self.old ≡ 0 }
@@ -148,7 +154,8 @@ impl RunningChildren {
         }
     }
 
-    /// Waits for the first child that is over.
+    /// Waits for the first child that has finished, removes it from the running children and
+    /// returns its record.
     pub(crate) fn wait<O: Os>(&mut self, alloc: Global, os: &mut O) -> Ended
         requires { 0 < length self.old.children }
         ensures waited { (calls : List Call) × Chain O.leads os.old calls os.new

@@ -11,10 +11,11 @@ use kt_base::{Items, NoMemory, Refused, Role, Text};
 use kt_sched::{Job, StartAnswer};
 use std::alloc::Global;
 
-/// The limit of a cleanup, in seconds (this profile).
+/// The timeout of a cleanup, in seconds (this profile).
 const CLEANUP_LIMIT: u64 = 60;
 
-/// Takes the number of an attempt, if one is left.
+/// Returns the number of the next attempt and increments the counter. Returns `None` if the counter
+/// has reached 2^64 - 1.
 pub(crate) fn take_number(next: &mut u64) -> Option<u64>
     ensures { TakesNumber next.old result next.new }
 {
@@ -23,7 +24,7 @@ pub(crate) fn take_number(next: &mut u64) -> Option<u64>
     Some(number)
 }
 
-/// What a job's child is started for, and its limit in seconds.
+/// Returns the purpose of a job's child, and its timeout in seconds.
 pub(crate) fn want_and_limit(job: &Job, role: Role) -> (Want, u64)
     requires { IsFit job.now }
     ensures want { result.0 ≡ want_of role }
@@ -37,7 +38,7 @@ pub(crate) fn want_and_limit(job: &Job, role: Role) -> (Want, u64)
     }
 }
 
-/// Two texts, copied.
+/// Returns copies of two texts.
 fn copies(first: &Text, second: &Text) -> Result<(Text, Text), NoMemory>
     ensures first { IfOk result (λ two. two.0 ≡ first.now) }
     ensures second { IfOk result (λ two. two.1 ≡ second.now) }
@@ -46,7 +47,7 @@ fn copies(first: &Text, second: &Text) -> Result<(Text, Text), NoMemory>
     Ok((first, second.copy()?))
 }
 
-/// The words of a case's child, by the absolute path of its program.
+/// Returns the arguments of a case's child. `program` is the absolute path of its program.
 fn words_for(
     alloc: Global,
     program: &Text,
@@ -69,7 +70,7 @@ fn words_for(
     )
 }
 
-/// What the child of a case is started with. `source` is the absolute directory of the root Kyuafile.
+/// Returns the plan of a child's start. `source` is the absolute directory of the root Kyuafile.
 pub(crate) fn spawning(
     alloc: Global,
     source: &Text,
@@ -107,14 +108,16 @@ pub(crate) fn spawning(
     })
 }
 
-/// The cause of a start for which memory ran out. Nothing else returns that cause.
+/// Returns `Refused::Memory`, the cause of a start for which an allocation failed. No other
+/// function of this crate returns that cause.
 pub(crate) fn memory_refusal(_refusal: NoMemory) -> Refused
     ensures { result ≡ Refused.Memory }
 {
     Refused::Memory
 }
 
-/// The cause of a start that a failed call refuses: its own, unless the call was refused memory.
+/// Returns the cause of a start that a failed call refuses: `Memory` if an allocation of the call
+/// failed, and otherwise `cause`.
 fn cause_of(cause: Refused, fault: OsFault) -> Refused
     ensures { result ≡ cause_of cause fault }
 {
@@ -124,7 +127,8 @@ fn cause_of(cause: Refused, fault: OsFault) -> Refused
     }
 }
 
-/// The child of this case that was just spawned.
+/// Creates the state of a child that has just started and was not polled yet. `limit` is its
+/// timeout in seconds.
 pub(crate) fn spawned(limit: u64, case: Case) -> Watched
     ensures { result ≡ spawned limit case }
 {
@@ -136,7 +140,7 @@ pub(crate) fn spawned(limit: u64, case: Case) -> Watched
     Watched { case, limit, watch }
 }
 
-/// Opens the two outputs and spawns the child.
+/// Opens the two output files and spawns the child. The first failed call ends the start.
 fn open_and_spawn<O: Os>(os: &mut O, plan: &Spawning) -> Result<(), Refused>
     ensures { (calls : List Call) × Chain O.leads os.old calls os.new
         × Tried (child_asks plan.now) calls result }
@@ -159,7 +163,8 @@ fn open_and_spawn<O: Os>(os: &mut O, plan: &Spawning) -> Result<(), Refused>
     }
 }
 
-/// Makes the work directory, then opens the outputs and spawns the child.
+/// Creates the work directory, opens the output files and spawns the child. The first failed call
+/// ends the start.
 fn furnish<O: Os>(os: &mut O, plan: &Spawning) -> Result<(), Refused>
     ensures { (calls : List Call) × Chain O.leads os.old calls os.new
         × Tried (furnish_asks plan.now) calls result }
@@ -170,7 +175,8 @@ fn furnish<O: Os>(os: &mut O, plan: &Spawning) -> Result<(), Refused>
     open_and_spawn(os, plan)
 }
 
-/// Starts a body or a list in a new directory, which is removed if the start is refused after that.
+/// Starts a body or a list in a new directory. Removes the directory if a later call of the start
+/// fails.
 fn set_up_new<O: Os>(os: &mut O, plan: &Spawning) -> Result<(), Refused>
     ensures { (calls : List Call) × Chain O.leads os.old calls os.new
         × SetUpNew (furnish_asks plan.now) plan.now.dir calls result }
@@ -183,7 +189,8 @@ fn set_up_new<O: Os>(os: &mut O, plan: &Spawning) -> Result<(), Refused>
     tried
 }
 
-/// Starts a cleanup in the directory of its body, which is removed if the start is refused.
+/// Starts a cleanup in the directory of its body. Removes the directory if a call of the start
+/// fails.
 fn set_up_in<O: Os>(os: &mut O, plan: &Spawning) -> Result<(), Refused>
     ensures { (calls : List Call) × Chain O.leads os.old calls os.new
         × SetUpIn (child_asks plan.now) plan.now.dir calls result }
@@ -193,12 +200,12 @@ fn set_up_in<O: Os>(os: &mut O, plan: &Spawning) -> Result<(), Refused>
     tried
 }
 
-/// Starts a child, and asks for no moment.
+/// Sets the timeout of a child and starts the child, without reading the clock.
 pub(crate) fn set_up<O: Os>(os: &mut O, plan: &Spawning) -> Result<(), Refused>
     ensures { (calls : List Call) × Chain O.leads os.old calls os.new
         × SetUp plan.now calls result }
 {
-    // First, since the system keeps the child's time from its start on.
+    // Set the timeout first, since the system measures the child's time from its start.
     os.set_limit(plan.child, plan.limit);
     match plan.child.role {
         Role::Body => set_up_new(os, plan),
@@ -206,7 +213,8 @@ pub(crate) fn set_up<O: Os>(os: &mut O, plan: &Spawning) -> Result<(), Refused>
     }
 }
 
-/// Starts a child. The moment is in milliseconds since 1970 in UTC.
+/// Starts a child and returns the time of its start, in milliseconds since 1970 in UTC, or the
+/// cause of a refusal.
 pub(crate) fn start_child<O: Os>(os: &mut O, plan: &Spawning) -> StartAnswer
     ensures asked { (calls : List Call) × Chain O.leads os.old calls os.new
         × Started plan.now calls result }

@@ -10,13 +10,14 @@ use kt_base::{Bytes, Outcome, Output, Role, Text};
 use kt_sched::Ended;
 use std::alloc::Global;
 
-/// How many bytes are kept of an output (this profile).
+/// The greatest size of a recorded output, in bytes (this profile). Further bytes are dropped.
 const KEPT: u64 = 1_048_576;
 
-/// How many bytes a list has at the most (this profile).
+/// The greatest size of a list of test cases, in bytes (this profile).
 const LIST_LIMIT: u64 = 1_048_576;
 
-/// What is kept of an output: its first 1,048,576 bytes, none where they can't be read.
+/// Reads the first 1,048,576 bytes of an output. Returns no bytes if the file is missing or a read
+/// fails.
 pub(crate) fn read_kept<O: Os>(alloc: Global, os: &mut O, path: &Text) -> Bytes
     ensures asked { (answer : Result FileRead OsFault) × O.leads os.old (ReadFile path.now 1048576 answer) os.new
         × (result ≡ bytes_of answer) }
@@ -28,7 +29,7 @@ pub(crate) fn read_kept<O: Os>(alloc: Global, os: &mut O, path: &Text) -> Bytes
     }
 }
 
-/// The list that a program wrote to its output.
+/// Reads the list of test cases that a program wrote to its standard output.
 pub(crate) fn read_list<O: Os>(os: &mut O, path: &Text) -> ListBytes
     ensures asked { (answer : Result FileRead OsFault) × O.leads os.old (ReadFile path.now 1048576 answer) os.new
         × (result ≡ list_of answer) }
@@ -41,7 +42,7 @@ pub(crate) fn read_list<O: Os>(os: &mut O, path: &Text) -> ListBytes
     }
 }
 
-/// The files of a child's output and of its errors.
+/// Returns the paths of the files for a child's standard output and standard error.
 pub(crate) fn output_paths(role: Role, paths: &Paths) -> (&Text, &Text)
     ensures out { result.0.now ≡ out_of role paths.now }
     ensures err { result.1.now ≡ err_of role paths.now }
@@ -52,13 +53,14 @@ pub(crate) fn output_paths(role: Role, paths: &Paths) -> (&Text, &Text)
     }
 }
 
-/// Whether a case is over with the end of its child: no cleanup follows.
+/// Returns `true` if the case is finished when its current child ends, so no cleanup follows.
 pub(crate) fn is_over(case: &Case) -> bool
     ensures { result ≡ is_over case.now }
 {
     case.role == Role::Cleanup || !case.cleanup
 }
 
+/// Removes a directory if `removed` is `true`. A failed removal is ignored.
 pub(crate) fn remove_if<O: Os>(os: &mut O, removed: bool, dir: &Text)
     ensures { (calls : List Call) × Chain O.leads os.old calls os.new
         × Removes removed dir.now calls }
@@ -68,20 +70,21 @@ pub(crate) fn remove_if<O: Os>(os: &mut O, removed: bool, dir: &Text)
     }
 }
 
-/// Ends a child: asks for the moment, reads what it left, and removes the directory if its case is over.
+/// Creates the record of a finished child: reads the clock, the evidence and the outputs. Removes
+/// the directory of the attempt if no cleanup follows.
 pub(crate) fn leave<O: Os>(alloc: Global, os: &mut O, case: &Case, outcome: Outcome) -> Ended
     ensures left { (calls : List Call) × Chain O.leads os.old calls os.new
         × Leaves case.now calls outcome result }
     ensures moment { IsMoment result.moment }
     ensures evidence { IsEvidence case.now.interface result.role result.evidence }
 {
-    // First, so that the time of a case does not include our reading.
+    // Read the clock first, so that the time of a case does not include these reads.
     let moment = moment(os);
     let evidence = gather(alloc, os, case.interface, case.role, &case.paths);
     let (out, err) = output_paths(case.role, &case.paths);
     let out = read_kept(alloc, os, out);
     let err = read_kept(alloc, os, err);
-    // Last, since the files lie in that directory.
+    // Remove the directory last, since it contains the files that are read.
     remove_if(os, is_over(case), &case.paths.dir);
     Ended {
         position: case.position,

@@ -8,19 +8,20 @@ use kt_base::{Interface, Role, Text};
 use kt_claim::{Claim, ClaimFault, ClaimReader, Evidence, Tap, TapFault, TapReader};
 use std::alloc::Global;
 
-/// How many bytes of a result file are read at once (this profile).
+/// The size of a read of a result file, in bytes (this profile).
 const RESULT_PART: u64 = 4096;
 
-/// How many bytes a result file has at the most, as `LIMIT` of kt_claim (this profile).
+/// The greatest size of a result file, in bytes (this profile). It equals `LIMIT` of kt_claim.
 const RESULT_LIMIT: u64 = 65_536;
 
-/// How many bytes of a TAP stream are read at once (this profile).
+/// The size of a read of a TAP stream, in bytes (this profile).
 const STREAM_PART: u64 = 65_536;
 
-/// How many bytes a TAP stream has at the most (this profile).
+/// The greatest size of a TAP stream, in bytes (this profile).
 const STREAM_LIMIT: u64 = 16_777_216;
 
-/// Reads a result file, and returns its claim.
+/// Reads the result file of an ATF body and returns its claim. Returns `Unreadable` if a read or an
+/// allocation fails.
 fn read_claim<O: Os>(alloc: Global, os: &mut O, path: &Text) -> Claim
     ensures { (calls : List Call) × Chain O.leads os.old calls os.new
         × ReadsClaim path.now calls result }
@@ -37,7 +38,8 @@ fn read_claim<O: Os>(alloc: Global, os: &mut O, path: &Text) -> Claim
     }
 }
 
-/// Reads an output as a TAP stream, and returns what it says.
+/// Parses the output of a TAP body. Returns `TapFault::Unreadable` if the output is missing, or if
+/// a read or an allocation fails.
 fn read_tap<O: Os>(alloc: Global, os: &mut O, path: &Text) -> Tap
     ensures { (calls : List Call) × Chain O.leads os.old calls os.new
         × ReadsTap path.now calls result }
@@ -53,7 +55,8 @@ fn read_tap<O: Os>(alloc: Global, os: &mut O, path: &Text) -> Tap
     }
 }
 
-/// Reads the evidence that a child left: the body of an ATF program its result file, that of a TAP program its output.
+/// Reads the evidence of a finished child: the result file of an ATF body, or the output of a TAP
+/// body. Reads nothing for a plain program or a cleanup.
 pub(crate) fn gather<O: Os>(
     alloc: Global,
     os: &mut O,

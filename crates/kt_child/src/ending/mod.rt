@@ -1,18 +1,18 @@
-//! What is read of a child that is over, and what is removed.
+//! The reads and the removal after a child has finished.
 
 pub(crate) mod ends;
 pub(crate) mod gathering;
 pub(crate) mod parts;
 
-/// How the reading of a file in parts ended.
+/// A result of reading a file in parts.
 #[derive(Clone, Copy)]
 pub(crate) enum ReadEnd {
-    /// There is no such file.
+    /// The file is missing.
     Missing,
-    /// A read failed, or a part could not be kept.
+    /// A read failed, or an allocation for a part failed.
     Unreadable,
-    /// The limit was reached, and more followed.
+    /// The file has more bytes than the limit.
     TooLong,
-    /// The file was read whole.
+    /// The whole file was read.
     Complete,
 }

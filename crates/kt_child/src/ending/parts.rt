@@ -6,15 +6,19 @@ use crate::{FileRead, Os};
 use kt_base::{NoMemory, Text};
 use kt_claim::{ClaimReader, TapReader};
 
-/// What takes the bytes of a file part by part.
+/// An interface to a reader that parses a file part by part.
 pub(crate) trait PartReader {
     ghost use Rattle.std.specs.Prelude.{ℕ, List, OnOk};
     ghost use Rattle.kt_child.specs.Inner.Children.{TakesBytes};
 
-    /// Whether these bytes, and no others, were taken.
+    /// `has_taken reader bytes`: the parts that `reader` was given are, joined, exactly `bytes`.
     ghost has_taken: { Self → List ℕ → Type 0 };
 
-    /// Takes the next part.
+    /// Feeds the next part of the file to the reader.
+    ///
+    /// # Errors
+    ///
+    /// - `NoMemory`: an allocation fails.
     fn take(&mut self, part: &[u8]) -> Result<(), NoMemory>
         ensures { OnOk result (TakesBytes has_taken self.old self.new part.now) };
 }
@@ -39,7 +43,8 @@ impl PartReader for TapReader {
     }
 }
 
-/// Asks for the next part, passes its bytes to the reader and counts them. Returns how the reading ends with it, if it does.
+/// Reads the next part of a file, feeds it to the reader and adds its length to `got`. Returns how
+/// the read of the file ends, or `None` if more parts follow.
 fn read_next<O: Os, R: PartReader>(
     os: &mut O,
     path: &Text,
@@ -64,7 +69,7 @@ fn read_next<O: Os, R: PartReader>(
         Ok(FileRead::Missing) if *got == 0 => Some(ReadEnd::Missing),
         Ok(FileRead::Missing) => Some(ReadEnd::Unreadable),
         Ok(FileRead::Part(bytes, follows)) => {
-            // No bytes take no memory.
+            // An empty part must not allocate, so `take` is not called.
             if !bytes.is_empty() && reader.take(bytes.as_slice()).is_err() {
                 return Some(ReadEnd::Unreadable);
             }
@@ -84,7 +89,8 @@ fn read_next<O: Os, R: PartReader>(
     }
 }
 
-/// Reads a file in parts of at most `part` bytes, as far as `limit` bytes, into a reader that has taken none.
+/// Feeds a file to a new reader, in parts of at most `part` bytes, and returns how the read ends.
+/// At most `limit` bytes are read.
 pub(crate) fn read_in_parts<O: Os, R: PartReader>(
     os: &mut O,
     path: &Text,

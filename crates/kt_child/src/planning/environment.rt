@@ -6,7 +6,7 @@ use crate::planning::words::{joined, push_text};
 use kt_base::{Interface, Items, NoMemory, Text, Variable, Variables};
 use std::alloc::Global;
 
-/// The variables that choose a language.
+/// The names of the environment variables that choose a language.
 const LANGUAGE: [&str; 8] = [
     "LANG",
     "LC_ALL",
@@ -18,7 +18,8 @@ const LANGUAGE: [&str; 8] = [
     "LC_TIME",
 ];
 
-/// Appends the names of the variables that no child gets: those that choose a language.
+/// Appends the names of the variables that are removed for each child: those that choose a
+/// language.
 fn push_removed(alloc: Global, names: &mut Items<Text>) -> Result<(), NoMemory>
     requires { names.old ≡ [] }
     ensures { OnOk result (names.new ≡ removed_names) }
@@ -29,7 +30,7 @@ fn push_removed(alloc: Global, names: &mut Items<Text>) -> Result<(), NoMemory>
     Ok(())
 }
 
-/// Appends a variable.
+/// Appends a variable with a name and a value to a list of variables.
 fn push_variable(alloc: Global, set: &mut Variables, name: &str, text: &str) -> Result<(), NoMemory>
     ensures { OnOk result (set.new ≡ set.old ++ variable (chars name.now) (chars text.now) ∷ []) }
 {
@@ -38,7 +39,7 @@ fn push_variable(alloc: Global, set: &mut Variables, name: &str, text: &str) -> 
     set.push(Variable { name, value })
 }
 
-/// A variable of the suite, as a TAP or plain program sees it.
+/// Returns a suite's variable as a TAP or plain program gets it, with the prefix `TEST_ENV_`.
 fn for_test(alloc: Global, variable: &Variable) -> Result<Variable, NoMemory>
     ensures { IfOk result (λ v. v ≡ test_variable variable.now) }
 {
@@ -47,7 +48,7 @@ fn for_test(alloc: Global, variable: &Variable) -> Result<Variable, NoMemory>
     Ok(Variable { name, value })
 }
 
-/// Appends each variable of the suite in that form.
+/// Appends a suite's variables with the prefix `TEST_ENV_`, for a TAP or plain program.
 fn push_for_test(alloc: Global, set: &mut Variables, variables: &Variables) -> Result<(), NoMemory>
     ensures { OnOk result (set.new ≡ set.old ++ map test_variable variables.now) }
 {
@@ -58,7 +59,8 @@ fn push_for_test(alloc: Global, set: &mut Variables, variables: &Variables) -> R
     Ok(())
 }
 
-/// Appends the variables that every child gets.
+/// Appends the variables that each child gets: `TZ`, and `HOME` and `TMPDIR` with the path of its
+/// work directory.
 fn push_common(alloc: Global, set: &mut Variables, work: &Text) -> Result<(), NoMemory>
     requires { set.old ≡ [] }
     ensures { OnOk result (set.new ≡ common_variables work.now) }
@@ -68,7 +70,8 @@ fn push_common(alloc: Global, set: &mut Variables, work: &Text) -> Result<(), No
     push_variable(alloc, set, "TMPDIR", work.as_str())
 }
 
-/// Appends the variables that a child of an interface gets in addition.
+/// Appends the variables that depend on the interface: one constant for ATF, the suite's variables
+/// for TAP and plain programs.
 fn push_own(
     alloc: Global,
     set: &mut Variables,
@@ -88,8 +91,15 @@ fn push_own(
     }
 }
 
-/// The environment of a child (this profile): the runner's, without the variables that choose a language, and with
-/// those that are set. `work` is the absolute path of its work directory.
+/// Returns the plan of a child's environment (this profile).
+///
+/// Variables that choose a language are removed from the runner's environment. `TZ`, `HOME`,
+/// `TMPDIR` and the interface's variables are set. `work` is the absolute path of the child's work
+/// directory.
+///
+/// # Errors
+///
+/// - `NoMemory`: an allocation fails.
 pub fn env_plan(
     alloc: Global,
     interface: Interface,

@@ -1,4 +1,4 @@
-//! What a child is given: its paths, words and environment, and its case.
+//! Plans of children: paths, arguments and environment.
 
 pub(crate) mod environment;
 pub(crate) mod words;
@@ -7,41 +7,46 @@ pub(crate) mod workdir;
 use crate::{Child, EnvPlan, Paths};
 use kt_base::{Interface, Items, Role, Text, Variables};
 
-/// What an ATF program is started for (atf-test-program(1)).
+/// A purpose for which a test program is started (atf-test-program(1)).
 #[derive(Clone, Copy)]
 pub enum Want {
-    /// The list of its test cases.
+    /// The program lists its test cases.
     List,
-    /// The body of a case.
+    /// The program runs the body of a case.
     Body,
-    /// The cleanup of a case.
+    /// The program runs the cleanup of a case.
     Cleanup,
 }
 
-/// What the child of a case is started for.
+/// A purpose of a child, with what its program is started with.
 #[derive(Clone, Copy)]
 pub(crate) struct Purpose<'a> {
+    /// The part of the test program that runs.
     pub want: Want,
-    /// The path of its program, from the directory of the root Kyuafile.
+    /// The path of the program, relative to the directory of the root Kyuafile.
     pub program: &'a Text,
+    /// The variables of the suite.
     pub variables: &'a Variables,
+    /// The name of the case, empty for a list.
     pub case_name: &'a Text,
-    /// How long it may run, in seconds.
+    /// The timeout of the child, in seconds.
     pub limit: u64,
 }
 
-/// What is kept of a case, or of a list, while a child of it runs or its cleanup is owed; the paths are its body's.
+/// A case, or a list of cases, with a running child or a pending cleanup.
 #[derive(Drop)]
 pub(crate) struct Case {
-    /// The place in the plan, counted from 0, or 0 for a list.
+    /// The position of the case in the plan, counted from 0, or 0 for a list.
     pub position: u32,
-    /// The number of its body's start, or of the list.
+    /// The number of the attempt: the start of the case's body, or the list.
     pub attempt: u64,
-    /// Which of its children runs, or ran last.
+    /// The role of the child that runs or ran last.
     pub role: Role,
+    /// The interface of the case's program.
     pub interface: Interface,
-    /// Whether a cleanup is declared.
+    /// `true` if the case declares a cleanup.
     pub cleanup: bool,
+    /// The paths of the attempt. A cleanup uses those of its body.
     pub paths: Paths,
 }
 
@@ -49,7 +54,7 @@ impl Case {
     ghost use Rattle.std.specs.Prelude.{◌≡◌};
     ghost use Rattle.kt_child.specs.Common.{child_of};
 
-    /// The name of its child.
+    /// Returns the name of the case's current child.
     pub(crate) fn child(&self) -> Child
         ensures { result ≡ child_of self.now }
     {
@@ -60,19 +65,25 @@ impl Case {
     }
 }
 
-/// All that a child is started with.
+/// A plan of a child's start: all values that its calls need.
 #[derive(Drop)]
 pub(crate) struct Spawning {
+    /// The name of the child.
     pub child: Child,
-    /// How long it may run, in seconds.
+    /// The timeout of the child, in seconds.
     pub limit: u64,
+    /// The absolute path of the program.
     pub program: Text,
+    /// The arguments of the program.
     pub words: Items<Text>,
+    /// The changes to the runner's environment.
     pub env: EnvPlan,
-    /// The directory of its attempt, which holds the other paths.
+    /// The directory of the attempt, which contains the other paths.
     pub dir: Text,
-    /// The directory that it runs in.
+    /// The working directory of the child.
     pub work: Text,
+    /// The file for standard output.
     pub out: Text,
+    /// The file for standard error.
     pub err: Text,
 }

@@ -6,7 +6,7 @@ use kt_base::{Interface, Items, NoMemory, Text, Variable, Variables};
 use kt_suite::parent_path;
 use std::alloc::Global;
 
-/// The absolute path of a program, by the absolute directory of the root Kyuafile.
+/// Returns the absolute path of a program, given the absolute directory of the root Kyuafile.
 pub(crate) fn absolute_path(alloc: Global, source: &Text, program: &Text) -> Result<Text, NoMemory>
     ensures { IfOk result (λ path. path ≡ program_path source.now program.now) }
 {
@@ -15,7 +15,7 @@ pub(crate) fn absolute_path(alloc: Global, source: &Text, program: &Text) -> Res
     Ok(path)
 }
 
-/// The directory of an absolute path, `/` for a path directly below it.
+/// Returns the directory of an absolute path, which is `/` for a path directly below the root.
 pub(crate) fn program_directory(alloc: Global, path: &Text) -> Result<Text, NoMemory>
     ensures { IfOk result (λ directory. directory ≡ program_directory path.now) }
 {
@@ -26,7 +26,7 @@ pub(crate) fn program_directory(alloc: Global, path: &Text) -> Result<Text, NoMe
     Ok(parent)
 }
 
-/// Two texts, joined.
+/// Returns the concatenation of two texts.
 pub(crate) fn joined(alloc: Global, first: &str, second: &str) -> Result<Text, NoMemory>
     ensures { IfOk result (λ text. text ≡ chars first.now ++ chars second.now) }
 {
@@ -35,7 +35,7 @@ pub(crate) fn joined(alloc: Global, first: &str, second: &str) -> Result<Text, N
     Ok(text)
 }
 
-/// Appends a text to a list of texts.
+/// Appends a copy of a text to a list of texts.
 pub(crate) fn push_text(alloc: Global, texts: &mut Items<Text>, text: &str) -> Result<(), NoMemory>
     ensures { OnOk result (texts.new ≡ texts.old ++ chars text.now ∷ []) }
 {
@@ -43,7 +43,7 @@ pub(crate) fn push_text(alloc: Global, texts: &mut Items<Text>, text: &str) -> R
     texts.push(text)
 }
 
-/// Appends two texts, joined, to a list of texts.
+/// Appends the concatenation of two texts to a list of texts.
 fn push_both(alloc: Global, texts: &mut Items<Text>, head: &str, tail: &str) -> Result<(), NoMemory>
     ensures { OnOk result (texts.new ≡ texts.old ++ (chars head.now ++ chars tail.now) ∷ []) }
 {
@@ -51,7 +51,7 @@ fn push_both(alloc: Global, texts: &mut Items<Text>, head: &str, tail: &str) -> 
     texts.push(text)
 }
 
-/// The word that hands a variable to an ATF program.
+/// Returns the argument `-vNAME=VALUE`, which passes a variable to an ATF program.
 fn word_of_variable(alloc: Global, variable: &Variable) -> Result<Text, NoMemory>
     ensures { IfOk result (λ word. word ≡ variable_word variable.now) }
 {
@@ -61,7 +61,7 @@ fn word_of_variable(alloc: Global, variable: &Variable) -> Result<Text, NoMemory
     Ok(word)
 }
 
-/// Appends the word of each variable.
+/// Appends the argument `-vNAME=VALUE` for each variable.
 fn push_variable_words(
     alloc: Global,
     words: &mut Items<Text>,
@@ -76,6 +76,7 @@ fn push_variable_words(
     Ok(())
 }
 
+/// Returns the arguments that make an ATF program list its test cases.
 fn list_words(alloc: Global, variables: &Variables) -> Result<Items<Text>, NoMemory>
     ensures { IfOk result (λ words. words ≡ map variable_word variables.now ++ codes "-l" ∷ []) }
 {
@@ -85,6 +86,8 @@ fn list_words(alloc: Global, variables: &Variables) -> Result<Items<Text>, NoMem
     Ok(words)
 }
 
+/// Returns the arguments that make an ATF program run the body of a case. `source` is the absolute
+/// directory of the program.
 fn body_words(
     alloc: Global,
     result_file: &Text,
@@ -103,6 +106,8 @@ fn body_words(
     Ok(words)
 }
 
+/// Returns the arguments that make an ATF program run the cleanup of a case. `source` is the
+/// absolute directory of the program.
 fn cleanup_words(
     alloc: Global,
     source: &Text,
@@ -119,7 +124,12 @@ fn cleanup_words(
     Ok(words)
 }
 
-/// A program's arguments: those of atf-test-program(1) for an ATF program, else none. `source` is its absolute directory.
+/// Returns the arguments of a test program: those of atf-test-program(1) for an ATF program, and
+/// none for TAP and plain programs. `source` is the absolute directory of the program.
+///
+/// # Errors
+///
+/// - `NoMemory`: an allocation fails.
 pub fn argv_plan(
     alloc: Global,
     interface: Interface,

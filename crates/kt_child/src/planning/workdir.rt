@@ -6,23 +6,25 @@ use kt_base::{NoMemory, Text};
 use kt_removal::numbered_path;
 use std::alloc::Global;
 
-/// The absolute paths of one attempt (this profile).
+/// A set of absolute paths that one attempt uses (this profile).
 pub struct Paths {
-    /// The directory that holds all of them.
+    /// The directory of the attempt, which contains the other paths.
     pub dir: Text,
-    /// The directory that the child runs in.
+    /// The working directory of the child.
     pub work: Text,
     /// The result file of an ATF program.
     pub result: Text,
-    /// The output of the body, or of the list.
+    /// The file for the standard output of the body or the list.
     pub out: Text,
-    /// What the body, or the list, wrote of its errors.
+    /// The file for the standard error of the body or the list.
     pub err: Text,
+    /// The file for the standard output of the cleanup.
     pub cleanup_out: Text,
+    /// The file for the standard error of the cleanup.
     pub cleanup_err: Text,
 }
 
-/// Written out, so that a drop is one call.
+/// A manual implementation, so that a drop of `Paths` is one call for the prover.
 impl Drop for Paths {
     fn drop(self) {
         let Paths {
@@ -37,7 +39,7 @@ impl Drop for Paths {
     }
 }
 
-/// A name in the directory of an attempt.
+/// Returns the path of a name in the directory of an attempt.
 fn path_below(alloc: Global, root: &Text, number: u64, name: &str) -> Result<Text, NoMemory>
     ensures { IfOk result (λ path. path ≡ below root.now number (chars name.now)) }
 {
@@ -47,7 +49,7 @@ fn path_below(alloc: Global, root: &Text, number: u64, name: &str) -> Result<Tex
     Ok(path)
 }
 
-/// Two names in the directory of an attempt.
+/// Returns the paths of two names in the directory of an attempt.
 fn two_below(
     alloc: Global,
     root: &Text,
@@ -62,7 +64,12 @@ fn two_below(
     Ok((first, path_below(alloc, root, number, second)?))
 }
 
-/// The paths of an attempt below the root directory of a driver (this profile).
+/// Returns the paths of an attempt, by its number and the root directory of the driver (this
+/// profile).
+///
+/// # Errors
+///
+/// - `NoMemory`: an allocation fails.
 pub fn workdir_plan(alloc: Global, root: &Text, number: u64) -> Result<Paths, NoMemory>
     ensures { IfOk result (λ paths. paths ≡ paths_of root.now number) }
 {

@@ -1,33 +1,38 @@
-//! How running children are watched, in turns of polls.
+//! Polls of the running children, in turns.
 
 pub(crate) mod polls;
 
 use crate::planning::Case;
 use kt_base::Outcome;
 
-/// What is kept of a running child's answers. The deadline is counted in polls, of which there are 100 a second.
+/// A count of the polls of a running child. The driver measures a timeout in polls, 100 for each
+/// second.
 #[derive(Clone, Copy)]
 pub(crate) struct Watch {
-    /// How often it was running before a kill.
+    /// The number of polls before a kill that reported the child as running.
     pub before: u64,
-    /// Whether a kill was done.
+    /// `true` if the driver has killed the child.
     pub killed: bool,
-    /// How often it was running after the kill.
+    /// The number of polls after the kill that reported the child as running.
     pub after: u64,
 }
 
-/// A running child: its case, its limit in seconds, and what is kept of its answers.
+/// A running child with its case, its timeout and the count of its polls.
 #[derive(Drop)]
 pub(crate) struct Watched {
+    /// The case of the child.
     pub case: Case,
+    /// The timeout of the child, in seconds, from 1 to 1,000,000.
     pub limit: u64,
+    /// The count of its polls.
     pub watch: Watch,
 }
 
-/// What a poll makes of a child.
+/// A state of a child after a poll.
 #[derive(Clone, Copy)]
 pub(crate) enum AfterPoll {
-    /// It is not over.
+    /// The child is still running.
     More,
+    /// The child has finished, with this outcome.
     Ended(Outcome),
 }

@@ -5,13 +5,16 @@ use crate::polling::{AfterPoll, Watch, Watched};
 use crate::{Child, Os, Polled};
 use kt_base::Outcome;
 
-/// How often a running child is polled in a second (this profile).
+/// The number of polls of a running child in a second (this profile).
 const POLLS_A_SECOND: u64 = 100;
 
-/// How often a killed child may still be running (this profile).
+/// The number of polls after a kill at which a child that is still running counts as `WaitFailed`
+/// (this profile).
 const REAPING_POLLS: u64 = 500;
 
-/// Polls a child once. Kills it if the poll failed or the limit (in seconds) is used up.
+/// Polls a child once and returns its state.
+///
+/// Kills the child if the poll fails or its timeout is reached. `limit` is the timeout in seconds.
 pub(crate) fn poll_once<O: Os>(os: &mut O, child: Child, limit: u64, watch: &mut Watch) -> AfterPoll
     requires in_range { limit ≤ 1000000 }
     requires watched { IsWatched limit watch.old }
@@ -27,13 +30,16 @@ pub(crate) fn poll_once<O: Os>(os: &mut O, child: Child, limit: u64, watch: &mut
             AfterPoll::Ended(Outcome::WaitFailed)
         }
         Ok(Polled::Running) => still_running(os, child, limit, watch),
-        // A kill counts as a timeout, whatever the status.
+        // After a kill, each exit status counts as a timeout.
         Ok(_) if watch.killed => AfterPoll::Ended(Outcome::TimedOut),
         Ok(Polled::Exited(code)) => AfterPoll::Ended(Outcome::Exited(code)),
         Ok(Polled::Signaled(signal, core)) => AfterPoll::Ended(Outcome::Signaled(signal, core)),
     }
 }
 
+/// Counts a poll that reported a child as running, and returns the child's state.
+///
+/// Kills the child if its timeout is reached. `limit` is the timeout in seconds.
 fn still_running<O: Os>(os: &mut O, child: Child, limit: u64, watch: &mut Watch) -> AfterPoll
     requires in_range { limit ≤ 1000000 }
     requires watched { IsWatched limit watch.old }
@@ -61,14 +67,17 @@ fn still_running<O: Os>(os: &mut O, child: Child, limit: u64, watch: &mut Watch)
     AfterPoll::More
 }
 
-/// The child that is over, by its place among the running children.
+/// A finished child, by its index among the running children, with its outcome.
 #[derive(Clone, Copy)]
 pub(crate) struct Over {
+    /// The index of the child among the running children, counted from 0.
     pub place: usize,
+    /// The outcome of the child.
     pub outcome: Outcome,
 }
 
-/// Polls the children in order, up to the first that is over.
+/// Polls the children once, in order, until a child has finished, and returns that child. Returns
+/// `None` if all are still running.
 fn turn<O: Os>(os: &mut O, children: &mut [Watched]) -> Option<Over>
     requires { All IsOn children.old }
     ensures none { result ≡ None → (calls : List Call) × Chain O.leads os.old calls os.new
@@ -92,7 +101,8 @@ fn turn<O: Os>(os: &mut O, children: &mut [Watched]) -> Option<Over>
     None
 }
 
-/// Polls turn by turn until a child is over. A pause follows each turn in which none is.
+/// Polls the children in turns until a child has finished, and returns that child. After each turn
+/// without a finished child, the system pauses.
 pub(crate) fn first_over<O: Os>(os: &mut O, children: &mut [Watched]) -> Over
     requires some { 0 < length children.old }
     requires on { All IsOn children.old }

@@ -1,4 +1,4 @@
-//! What is asked of the system: the trait, its values, and the clock.
+//! The interface to the system: the trait, its values, and the clock.
 
 pub(crate) mod moments;
 pub(crate) mod os;
@@ -9,13 +9,13 @@ ghost use Rattle.kt_child.specs.declared.system.OsFault.TheVariants as fault;
 use kt_base::{Bytes, Items, NoMemory, Role, Text, Variables};
 use thiserror::Error;
 
-/// Why a call to the system failed. No line prints it.
+/// Errors returned by the methods of [`Os`]. No message prints them.
 #[derive(Clone, Copy, Debug, Error)]
 pub enum OsFault {
-    /// Any other cause. It makes no difference, so it isn't kept.
+    /// The call failed for a reason other than memory. The reason is not recorded.
     #[error("system call failed")]
     Failed,
-    /// The call itself was refused memory.
+    /// An allocation of the call failed.
     #[error(transparent)]
     Memory(NoMemory),
 }
@@ -28,38 +28,43 @@ impl From<NoMemory> for OsFault {
     }
 }
 
-/// A child process, named by what it was started for. A program that is asked for its list is a body.
+/// The name of a child process: an attempt and a role. The child that lists an ATF program's test
+/// cases has the role `Body`.
 #[derive(Clone, Copy, PartialEq, Eq, Hash)]
 pub struct Child {
-    /// The number of its attempt, counted from 0 over all bodies and lists of one driver.
+    /// The number of the attempt, counted from 0. The bodies and lists of one driver share the
+    /// count; a cleanup has the number of its body.
     pub attempt: u64,
+    /// The part of the case that the child runs.
     pub role: Role,
 }
 
-/// How the environment of a child differs from the runner's.
+/// A plan of the changes to the runner's environment that give a child's environment.
 #[derive(Drop)]
 pub struct EnvPlan {
-    /// The names of the variables that are taken out.
+    /// The names of the variables that are removed.
     pub removed: Items<Text>,
-    /// The variables that are set after that, in order: of two of one name the last one stands.
+    /// The variables that are set after the removal, in order. If a name occurs twice, its last
+    /// value counts.
     pub set: Variables,
 }
 
-/// The result of reading a file.
+/// A result of reading a file.
 #[derive(Drop)]
 pub enum FileRead {
-    /// The file is missing.
+    /// There is no such file.
     Missing,
-    /// The bytes, no more than were asked for, and whether more follow.
+    /// The bytes read, at most as many as the limit of the read, and whether more bytes follow.
     Part(Bytes, bool),
 }
 
-/// The state of a child, as the system reports it.
+/// A state of a child, as the system reports it.
 #[derive(Clone, Copy)]
 pub enum Polled {
+    /// The child is running.
     Running,
-    /// It ended by itself, with this exit status.
+    /// The child exited with this exit status.
     Exited(u8),
-    /// It was ended by this signal; the flag says whether it left a core dump.
+    /// A signal with this number ended the child. The flag is `true` if the child dumped core.
     Signaled(u8, bool),
 }

@@ -4,7 +4,8 @@ ghost use Rattle.kt_child.specs.Common.{OsFault, Now, moment_of};
 use crate::Os;
 use kt_base::LATEST_MOMENT;
 
-/// Asks for the moment, in milliseconds since 1970 in UTC.
+/// Returns the system's time, in milliseconds since 1970 in UTC. Returns 0 if the clock fails or
+/// the time is later than `LATEST_MOMENT`.
 pub(crate) fn moment<O: Os>(os: &mut O) -> u64
     ensures asked { (answer : Result ℕ OsFault) × O.leads os.old (Now answer) os.new
         × (result ≡ moment_of answer) }
