@@ -1,5 +1,5 @@
-/// An interface to what the program does while children run.
+/// An interface to work that the program does while children run.
 pub trait Background {
-    /// Does a part of it, without waiting.
+    /// Advances the work without waiting.
     fn advance(&self);
 }

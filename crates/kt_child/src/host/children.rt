@@ -15,10 +15,11 @@ use std::process::{OpenProcess, Processes};
 use std::rt::{Clock, Files};
 use std::time::Instant;
 
-/// The children of the host, by their names.
+/// A map of the host's children by their names.
 pub(crate) type Children<P> = IndexMap<Child, HostChild<P>>;
 
-/// Removes a child, and returns it with its name.
+/// Removes a child from the map and returns it with its name. Returns `None` if the map lacks the
+/// child.
 pub(crate) fn take_out<P: OpenProcess + Drop>(
     children: &mut Children<P>,
     child: Child,
@@ -34,7 +35,7 @@ pub(crate) fn take_out<P: OpenProcess + Drop>(
     Some((child, held))
 }
 
-/// Whether the next file of a child is that of its errors.
+/// Returns `true` if the next output file of a child is that for its standard error.
 pub(crate) fn wants_errors<P: OpenProcess + Drop>(children: &Children<P>, child: Child) -> bool
     ensures { IsTrue result → stand_in children.now.entries child ≡ None }
 {
@@ -44,7 +45,8 @@ pub(crate) fn wants_errors<P: OpenProcess + Drop>(children: &Children<P>, child:
     }
 }
 
-/// Keeps an opened file: as the errors of the child whose output is open, else as the output of a new child.
+/// Stores an opened output file of a child: for standard error if only standard output is open, and
+/// otherwise for the standard output of a new child.
 pub(crate) fn keep_output<P: OpenProcess + Drop, C: Clock>(
     children: &mut Children<P>,
     child: Child,
@@ -64,7 +66,7 @@ pub(crate) fn keep_output<P: OpenProcess + Drop, C: Clock>(
     Ok(())
 }
 
-/// Starts a child whose files are open.
+/// Starts a child whose two output files are open. Fails if the map lacks the child.
 pub(crate) fn launch<P: OpenProcess + Drop, R: Processes<Started = P> + Clock + AllocGlobal>(
     children: &mut Children<P>,
     child: Child,
@@ -81,7 +83,7 @@ pub(crate) fn launch<P: OpenProcess + Drop, R: Processes<Started = P> + Clock + 
     }
 }
 
-/// Whether some child is heard late. None is where the clock fails.
+/// Returns `true` if a child of the map is polled late. Returns `false` if the clock fails.
 pub(crate) fn is_any_late<P: OpenProcess + Drop, C: Clock>(children: &Children<P>, rt: &C) -> bool
     ensures { (time : Result Time Error) × Sees children.now.entries time result }
 {
@@ -96,7 +98,7 @@ pub(crate) fn is_any_late<P: OpenProcess + Drop, C: Clock>(children: &Children<P
     false
 }
 
-/// Kills a child.
+/// Kills a child of the map. Fails if the map lacks the child.
 pub(crate) fn kill<P: OpenProcess + Drop, C: Clock>(
     children: &mut Children<P>,
     child: Child,
@@ -111,7 +113,8 @@ pub(crate) fn kill<P: OpenProcess + Drop, C: Clock>(
     }
 }
 
-/// Whether a child has ended since the last pause looked, of those from a place on.
+/// Returns `true` if a child has ended whose end was not found before. Checks the children from the
+/// index `from` until it finds one.
 fn has_new_end<P: OpenProcess + Drop>(children: &mut Children<P>, from: usize) -> bool
     ensures { AllProceed (stand_in children.old.entries) (stand_in children.new.entries) }
 {
@@ -124,9 +127,11 @@ fn has_new_end<P: OpenProcess + Drop>(children: &mut Children<P>, from: usize) -
     false
 }
 
-/// Rests until a child has ended, for one pause at the most, and returns whether an end was seen. A pause has slices. After each
-/// but the last it looks at the newest children, and now and then at all of them; after the last it doesn't look, since each
-/// child is polled then. `pauses` counts the pauses since an end was seen.
+/// Waits until a child has ended, for at most one pause, and returns `true` if it found an end.
+///
+/// `pauses` is the number of pauses since the last end. A pause has slices, in which removals
+/// continue. The newest children are checked after each slice, and all children at longer
+/// intervals. No check follows the last slice, since each child is polled next.
 pub(crate) fn await_end<P: OpenProcess + Drop, R: Files + Clock + AllocGlobal>(
     children: &mut Children<P>,
     removals: &mut Option<Removals>,

@@ -9,16 +9,20 @@ use std::fs::File;
 use std::process::{Command, Processes, Stdio};
 use std::{io, process};
 
-/// What a program is started with: its path, its arguments, its environment and its directory.
+/// A set of values that a program is started with.
 #[derive(Clone, Copy)]
 pub(crate) struct Asked<'a> {
+    /// The absolute path of the program.
     pub program: &'a Text,
+    /// The arguments.
     pub words: &'a Items<Text>,
+    /// The changes to the runner's environment.
     pub env: &'a EnvPlan,
+    /// The working directory.
     pub dir: &'a Text,
 }
 
-/// Appends words.
+/// Appends arguments to a command.
 fn push_words(command: &mut Command, words: &Items<Text>) -> Result<(), NoMemory>
     ensures args { OnOk result (command_args command.new ≡ command_args command.old
         ++ map utf8 words.now) }
@@ -32,7 +36,7 @@ fn push_words(command: &mut Command, words: &Items<Text>) -> Result<(), NoMemory
     Ok(())
 }
 
-/// Removes a variable from what a child gets of the runner's environment.
+/// Removes a variable of the runner's environment from a command.
 fn remove_variable(command: &mut Command, name: &Text) -> Result<(), NoMemory>
     ensures removed { OnOk result (command_var command.new (utf8 name.now)
         ≡ (if clears_env command.old then None else Some None)) }
@@ -45,7 +49,7 @@ fn remove_variable(command: &mut Command, name: &Text) -> Result<(), NoMemory>
     Ok(())
 }
 
-/// Removes the variables of these names from what a child gets of the runner's environment.
+/// Removes variables of the runner's environment from a command.
 fn remove_variables(command: &mut Command, names: &Items<Text>) -> Result<(), NoMemory>
     requires { clears_env command.old ≡ false }
     ensures variables { OnOk result ((name : List ℕ) → command_var command.new name
@@ -60,7 +64,7 @@ fn remove_variables(command: &mut Command, names: &Items<Text>) -> Result<(), No
     Ok(())
 }
 
-/// Sets a variable.
+/// Sets an environment variable of a command.
 fn set_variable(command: &mut Command, variable: &Variable) -> Result<(), NoMemory>
     ensures set { OnOk result (command_var command.new (utf8 variable.now.name)
         ≡ Some (Some (utf8 variable.now.value))) }
@@ -73,7 +77,7 @@ fn set_variable(command: &mut Command, variable: &Variable) -> Result<(), NoMemo
     Ok(())
 }
 
-/// Sets variables; the last of a name counts.
+/// Sets environment variables of a command. If a name occurs twice, its last value counts.
 fn set_variables(command: &mut Command, set: &Variables) -> Result<(), NoMemory>
     ensures variables { OnOk result ((name : List ℕ)
         → command_var command.new name ≡ after_set set.now name (command_var command.old name)) }
@@ -87,7 +91,8 @@ fn set_variables(command: &mut Command, set: &Variables) -> Result<(), NoMemory>
     Ok(())
 }
 
-/// The command of a program, with an empty input. Its output and its errors go to these files.
+/// Creates a command for a program with an empty standard input. Its standard output and standard
+/// error go to the given files.
 fn command_of(alloc: Global, program: &Text, out: File, err: File) -> Result<Command, NoMemory>
     ensures program { IfOk result (λ command. command_program command ≡ utf8 program.now) }
     ensures args { IfOk result (λ command. command_args command ≡ []) }
@@ -102,7 +107,7 @@ fn command_of(alloc: Global, program: &Text, out: File, err: File) -> Result<Com
     Ok(command)
 }
 
-/// Sets the words, the environment and the directory of a new command.
+/// Sets the arguments, the environment and the working directory of a new command.
 fn fill(command: &mut Command, asked: Asked<'_>) -> Result<(), NoMemory>
     requires program { command_program command.old ≡ utf8 asked.program.now }
     requires args { command_args command.old ≡ [] }
@@ -118,7 +123,8 @@ fn fill(command: &mut Command, asked: Asked<'_>) -> Result<(), NoMemory>
     Ok(())
 }
 
-/// Spawns a command: but for its streams it is as asked.
+/// Spawns a command. The contract requires that the command matches `_asked`, except for its
+/// streams.
 fn spawn_as<R: Processes>(
     rt: &R,
     _asked: Asked<'_>,
@@ -130,7 +136,7 @@ fn spawn_as<R: Processes>(
     command.spawn(rt)
 }
 
-/// Fills a new command, and spawns it.
+/// Sets the arguments, the environment and the working directory of a new command, and spawns it.
 fn fill_and_spawn<R: Processes>(
     rt: &R,
     asked: Asked<'_>,
@@ -145,7 +151,8 @@ fn fill_and_spawn<R: Processes>(
     or_fault(spawn_as(rt, asked, command))
 }
 
-/// Starts a program with an empty input, its output and its errors to these files.
+/// Starts a program with an empty standard input. Its standard output and standard error go to the
+/// given files.
 pub(crate) fn spawn<R: Processes + AllocGlobal>(
     rt: &R,
     asked: Asked<'_>,

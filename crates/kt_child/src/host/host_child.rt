@@ -8,26 +8,31 @@ use std::rt::Clock;
 use std::time::{Duration, Instant};
 use std::{process, thread};
 
-/// The most slices of a millisecond that a poll sleeps: after this many, one more answer is due.
+/// The number of sleeps of one millisecond in a poll at most. After that many sleeps, the next
+/// `Running` response is no longer early.
 const SLICES: u32 = 20;
 
-/// The limit of a child that was killed, in seconds: the time of 500 answers.
+/// The timeout of a killed child, in seconds: the time of 500 `Running` responses.
 const KILLED_LIMIT: u64 = 5;
 
-/// A child of the host, from the opening of its first file until its end is reported.
+/// A child of the host, from the opening of its first output file until its end is reported.
 pub(crate) struct HostChild<P: OpenProcess> {
+    /// The file for standard output, before the start.
     out: Option<File>,
+    /// The file for standard error, before the start.
     err: Option<File>,
-    /// The two files from its start on, until its outputs were read: no process gets a lease on a file that is open to be
-    /// written (fcntl(2)).
+    /// The two output files, from the start until the outputs have been read. A process can't take
+    /// a lease on a file that is open for writing (fcntl(2)).
     kept: Option<(File, File)>,
+    /// The process, from the start on.
     process: Option<process::Child<P>>,
+    /// The pace of the `Running` responses.
     pace: Pace,
-    /// Whether its end was seen, or it couldn't be waited for.
+    /// `true` if the end was found or a wait for it failed.
     seen: bool,
 }
 
-/// Written out, so that a drop is one call.
+/// A manual implementation, so that a drop of `HostChild` is one call for the prover.
 impl<P: OpenProcess + Drop> Drop for HostChild<P> {
     fn drop(self) {
         let HostChild {
@@ -47,7 +52,8 @@ impl<P: OpenProcess + Drop> HostChild<P> {
     ghost use Rattle.kt_child.specs.Common.{IsFree, IsLateAt, Proceeds, RunsIn, stand_of};
     ghost use Rattle.std.specs.declared.process.status.ExitStatus.{ExitStatus as Status};
 
-    /// A child that does not run, with its limit in seconds and the file of its output.
+    /// Creates a child without a process. `limit` is its timeout in seconds, and `out` the file for
+    /// its standard output.
     pub(crate) fn new<C: Clock>(limit: u64, out: File, clock: &C) -> HostChild<P>
         ensures out { result.out ≡ Some out }
         ensures err { result.err ≡ None }
@@ -65,7 +71,8 @@ impl<P: OpenProcess + Drop> HostChild<P> {
         }
     }
 
-    /// Whether the file for its errors isn't open yet.
+    /// Returns `true` if the child was not started and only the file for its standard output is
+    /// open.
     pub(crate) fn wants_errors(&self) -> bool
         ensures { IsTrue result ↔ (IsSome self.now.out × IsNone self.now.err
             × (stand_of self.now ≡ None)) }
@@ -73,7 +80,8 @@ impl<P: OpenProcess + Drop> HostChild<P> {
         self.out.is_some() && self.err.is_none() && self.process.is_none()
     }
 
-    /// Keeps an opened file: as its errors, if its output is open, else as the output of a new child in its place.
+    /// Stores an opened output file: for standard error if only standard output is open. Otherwise,
+    /// a new child with this standard output replaces the child.
     pub(crate) fn keep_file<C: Clock>(&mut self, limit: u64, file: File, clock: &C)
         ensures stands { stand_of self.new ≡ None }
     {
@@ -84,7 +92,8 @@ impl<P: OpenProcess + Drop> HostChild<P> {
         }
     }
 
-    /// Starts it, with an empty input and the two files.
+    /// Starts the program with an empty standard input and the two output files. Fails if one of
+    /// the files is not open.
     pub(crate) fn launch<R: Processes<Started = P> + Clock + AllocGlobal>(
         &mut self,
         rt: &R,
@@ -103,7 +112,9 @@ impl<P: OpenProcess + Drop> HostChild<P> {
         Ok(())
     }
 
-    /// How it ended, if it has. An end that was seen is reported again.
+    /// Returns the exit status of the child, or `None` if it is running.
+    ///
+    /// Later calls return the same status. Fails if the child was not started.
     fn status(&mut self) -> Result<Option<ExitStatus>, OsFault>
         ensures proceeds { Proceeds (stand_of self.old) (stand_of self.new) }
         ensures stands { IfOk result (λ status. stand_of self.new ≡ Some status) }
@@ -120,14 +131,18 @@ impl<P: OpenProcess + Drop> HostChild<P> {
         answer
     }
 
-    /// Whether it is heard late, at this time.
+    /// Returns `true` if the child is polled late at `now`. A child that was not started or whose
+    /// end was found is never late.
     pub(crate) fn is_late_at(&self, now: Instant) -> bool
         ensures { IsTrue result ↔ IsLateAt now self.now }
     {
         !self.seen && self.process.is_some() && self.pace.is_late_at(now)
     }
 
-    /// Whether to report it as running without a look: some child is polled late, and half of its own polls are left.
+    /// Returns `true` if the child is reported as running without a check.
+    ///
+    /// `late` is `true` if some child is polled late. The child itself must be in the first half of
+    /// its responses.
     fn is_unheard(&self, late: bool) -> bool
         ensures runs { IsTrue result → IsSome (stand_of self.now) }
         ensures late { IsTrue result → IsTrue late }
@@ -136,8 +151,10 @@ impl<P: OpenProcess + Drop> HostChild<P> {
         late && !self.seen && self.process.is_some() && self.pace.is_free()
     }
 
-    /// How it ended, if it has, once the answer `running` is due. That answer is counted. While some child is heard late, it may
-    /// be given without a look.
+    /// Returns the exit status of the child, or `None` if it is running.
+    ///
+    /// `None` is counted as a response; the poll sleeps first while that response is too early. If
+    /// `late` is `true`, `None` may be returned without a check.
     pub(crate) fn poll<C: Clock>(
         &mut self,
         late: bool,
@@ -154,7 +171,7 @@ impl<P: OpenProcess + Drop> HostChild<P> {
             self.pace.count_answer();
             return Ok(None);
         }
-        // Sleeps while the answer `running` would come too early.
+        // An early `Running` response would shorten the timeout, so sleep first.
         for _ in 0..SLICES {
             if !self.pace.is_early(clock) || self.status()?.is_some() {
                 break;
@@ -168,7 +185,7 @@ impl<P: OpenProcess + Drop> HostChild<P> {
         Ok(status)
     }
 
-    /// Kills it. Its 500 answers from then on have the pace of a limit of their own.
+    /// Kills the child. Its 500 polls after the kill have the pace of a timeout of 5 seconds.
     pub(crate) fn kill<C: Clock>(&mut self, clock: &C) -> Result<(), OsFault>
         ensures stands { stand_of self.new ≡ stand_of self.old }
         ensures had { OnOk result (IsSome (stand_of self.old)) }
@@ -184,7 +201,8 @@ impl<P: OpenProcess + Drop> HostChild<P> {
         Ok(())
     }
 
-    /// Whether it has ended and no pause has seen that. A status that was seen is kept for the next poll.
+    /// Returns `true` if the child has ended and its end was not found before. The next poll
+    /// returns the same status.
     pub(crate) fn has_new_end(&mut self) -> bool
         ensures proceeds { Proceeds (stand_of self.old) (stand_of self.new) }
         ensures unseen { IsTrue result → self.old.seen ≡ false }

@@ -16,37 +16,43 @@ use std::process::{ExitStatus, Processes};
 use std::rt::{Clock, Files};
 use std::time::SystemTime;
 
-/// Late children are looked for once in this many turns.
+/// The number of turns without an end from one check for late children to the next.
 const TURNS_OF_A_LOOK: u32 = 8;
 
-/// The system itself: the processes, files and clocks of the standard library.
+/// An `Os` of the host, with the processes, files and clocks of the standard library.
 ///
-/// A pause is over when a child ends, or after 10 milliseconds. If it is too early to answer `running`, a poll sleeps first.
-/// The first directory is the root of all others. A long removal goes on in pauses and at later removals.
+/// A pause ends when a child has ended, or after 10 milliseconds. If a `Running` response would be
+/// too early, the poll sleeps first. The first directory that is created is the root of all others.
+/// A long removal continues in pauses and in later removals.
 ///
-/// An end is reported only of a child with a process, by the wait status of that process. The environment of a child is the
-/// runner's own with the changes of its plan. A read goes on from one place and ends at its limit or its first fault.
+/// An end is reported only for a child with a process, by the wait status of that process. The
+/// environment of a child is the runner's environment with the changes of its plan. A read starts
+/// at one position of a file and ends at its limit or its first error.
 #[derive(Drop)]
 pub struct HostOs<R: Processes, B> {
+    /// The runtime handle, which gives access to processes, files and clocks.
     rt: R,
-    /// What the program does at each start and each pause.
+    /// The program's work, advanced at each start and each pause.
     background: B,
-    /// The removals below the root directory, once it is made.
+    /// The removals below the root directory, or `None` before that directory is created.
     removals: Option<Removals>,
-    /// What the root directory showed of the directories and files to come.
+    /// The owner of the root directory and the effect of the umask, which decide the modes of later
+    /// directories and files.
     rights: Rights,
-    /// The limit in seconds that was set last, which is that of the next child.
+    /// The timeout of the next child in seconds, as it was last set.
     limit: u64,
+    /// The children by their names.
     children: Children<R::Started>,
-    /// The child whose end was reported last, which a clause names, with its name.
+    /// The child whose end was reported last, with its name. A contract refers to it.
     last: Option<(Child, HostChild<R::Started>)>,
-    /// The pauses since a child was last seen to end.
+    /// The number of pauses since an end was last found.
     quiet: u32,
-    /// Whether some child is heard late (`IsLate`), once a poll has looked.
+    /// `true` if some child is polled late (`IsLate`), or `None` before the next check.
     late: Option<bool>,
 }
 
-/// How a child ended. A status that is neither an exit nor a signal is a fault.
+/// Returns the end of a child by its wait status. Fails if the status is neither an exit nor a
+/// signal.
 fn polled(status: ExitStatus) -> Result<Polled, OsFault>
     ensures { IsPolledOf (status_bits status) result }
 {
@@ -56,7 +62,7 @@ fn polled(status: ExitStatus) -> Result<Polled, OsFault>
     }
     if let Some(signal) = status.signal() {
         let signal = u8::try_from(signal).or(Err(OsFault::Failed))?;
-        // The bit of a wait status that reports a core dump.
+        // Bit 7 of a wait status reports a core dump (wait(2)).
         let core = status.into_raw().cast_unsigned() / 128 % 2 == 1;
         return Ok(Polled::Signaled(signal, core));
     }
@@ -68,7 +74,8 @@ impl<R: Processes + AllocGlobal + Drop, B> HostOs<R, B> {
     ghost use Rattle.kt_child.specs.Common.{stand_in};
     ghost use Rattle.kt_child.specs.declared.system.Child.{Child as Name};
 
-    /// The system, with no child, and what the program does meanwhile.
+    /// Creates the system of the host without children. `background` is the program's work while
+    /// children run.
     pub fn new(rt: R, background: B) -> HostOs<R, B>
         ensures { (c : Name) → stand_in result.children.entries c ≡ None }
     {
@@ -90,7 +97,8 @@ impl<R: Processes + Clock + AllocGlobal + Drop, B> HostOs<R, B> {
     ghost use Rattle.std.specs.Prelude.{◌≡◌, Some};
     ghost use Rattle.kt_child.specs.Common.{Looks};
 
-    /// Whether some child is heard late, as a poll of this turn or of one of the last saw it.
+    /// Returns `true` if some child is polled late. The result of the last check is used until a
+    /// poll or a pause clears it.
     fn is_late(&mut self) -> bool
         ensures children { self.new.children ≡ self.old.children }
         ensures limit { self.new.limit ≡ self.old.limit }
@@ -112,7 +120,8 @@ where
     R: Processes + Files<File = File> + Clock + AllocGlobal + Clone + Drop,
     B: Background + Drop,
 {
-    // Promised: the state of the children that are kept here, and that answers about them and a file are the library's.
+    // Specification: the state is `children`; results of polls and reads are those of the standard
+    // library.
     ghost use Rattle.std.specs.Prelude.{◌≡◌};
     ghost use Rattle.kt_child.specs.Common.{IsLastEnd, Looks, stand_in, HostLeads, limit_after};
 
@@ -203,7 +212,7 @@ where
     fn pause(&mut self) -> Result<(), OsFault> {
         self.background.advance();
         let late = self.late == Some(true);
-        // The late ones are heard again at once.
+        // Return at once, so that the late children are polled again.
         if late {
             self.late = None;
             return Ok(());

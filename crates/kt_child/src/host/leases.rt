@@ -4,11 +4,11 @@ use std::fs::{File, Metadata};
 use std::os::unix::fs::MetadataExt;
 use std::rt::Files;
 
-/// How many bytes of the system's list of locks are read at most.
+/// The number of bytes that are read of `/proc/locks` at most.
 const LOCKS_LIMIT: usize = 1_048_576;
 
-/// Checks whether a list of locks (proc_locks(5)) has a lease on a file: its line has the kind of the lock, and the device and
-/// the number of the file.
+/// Returns `true` if a list of locks (proc_locks(5)) contains a lease on a file. `file` is the
+/// file's device and inode number in the form of that list.
 fn has_lease(locks: &str, file: &str) -> bool {
     for line in locks.split('\n') {
         if line.contains(" LEASE ") && line.contains(file) {
@@ -18,7 +18,8 @@ fn has_lease(locks: &str, file: &str) -> bool {
     false
 }
 
-/// Returns the device and the number of a file as a list of locks has them.
+/// Returns the device and the inode number of a file in the form of proc_locks(5). Returns `None`
+/// if an allocation fails.
 fn lock_name(alloc: Global, file: &Metadata) -> Option<String> {
     let device = file.dev();
     let major = device >> 8 & 0xfff | device >> 32 & 0xffff_f000;
@@ -27,8 +28,10 @@ fn lock_name(alloc: Global, file: &Metadata) -> Option<String> {
     format!(in alloc; " {major:02x}:{minor:02x}:{number} ").ok()
 }
 
-/// Checks whether a process holds a lease on a file (fcntl(2), `F_SETLEASE`): an opening would wait for that process. Returns `true`
-/// if a read of the list of locks fails or memory runs out, and `false` if there is no list.
+/// Returns `true` if a process holds a lease on a file (fcntl(2), `F_SETLEASE`).
+///
+/// Opening such a file would wait for that process. Returns `true`, too, if the list of locks can't
+/// be read or an allocation fails. Returns `false` if the list can't be opened.
 pub(crate) fn is_leased<R: Files>(rt: &R, alloc: Global, file: &Metadata) -> bool {
     let Ok(mut list) = File::open(rt, "/proc/locks") else {
         return false;

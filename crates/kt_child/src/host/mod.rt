@@ -1,4 +1,4 @@
-//! The system of the host.
+//! The implementation of `Os` by the standard library.
 
 pub(crate) mod background;
 pub(crate) mod children;
@@ -17,7 +17,7 @@ use crate::OsFault;
 use kt_base::NoMemory;
 use std::io;
 
-/// The fault for an error of the library: whether memory was refused.
+/// Returns `Memory` if an I/O error reports a failed allocation, and otherwise `Failed`.
 pub(crate) fn fault_of(error: &io::Error) -> OsFault
     ensures { IsFaultOf (error_kind error.now) result }
 {
@@ -27,7 +27,7 @@ pub(crate) fn fault_of(error: &io::Error) -> OsFault
     }
 }
 
-/// A result of the library, with that fault.
+/// Returns an I/O result with its error converted to an `OsFault`.
 pub(crate) fn or_fault<T: Drop>(answer: io::Result<T>) -> Result<T, OsFault>
     ensures { MatchResult result (λ value. answer ≡ Ok value) (λ _. IsErr answer) }
 {

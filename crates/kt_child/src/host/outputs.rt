@@ -12,36 +12,37 @@ use std::os::unix::fs::{DirBuilderExt, MetadataExt, OpenOptionsExt, PermissionsE
 use std::rt::Files;
 use std::{fs, io};
 
-/// The permissions of a directory that only its owner may enter (this profile).
+/// The mode of a directory that only its owner may enter (this profile).
 const PRIVATE_MODE: u32 = 0o700;
 
-/// The permissions of a directory of root, through which other users may pass: a case may change its user (this profile).
+/// The mode of a directory of root that other users may pass through, since a case may change its
+/// user (this profile).
 const PASSABLE_MODE: u32 = 0o711;
 
-/// The permissions of the work directory of a case of root (this profile).
+/// The mode of a work directory if root runs the cases (this profile).
 const WORK_MODE: u32 = 0o755;
 
-/// The permissions of the file of an output (this profile).
+/// The mode of an output file (this profile).
 const OUTPUT_MODE: u32 = 0o600;
 
-/// What the first directories showed of those to come.
+/// A summary of the first directories: their owner and the effect of the umask.
 #[derive(Clone, Copy)]
 pub(crate) struct Rights {
-    /// Whether they belong to root.
+    /// `true` if root owns the directories.
     of_root: bool,
-    /// Whether the umask takes a right that they are to have.
+    /// `true` if the umask removes a permission that new directories and files need.
     narrow: bool,
 }
 
 impl Rights {
-    /// The rights before there is a directory.
+    /// The value before the first directory is created.
     pub(crate) const NONE: Rights = Rights {
         of_root: false,
         narrow: false,
     };
 }
 
-/// Sets the permissions of a new directory. One that can't have them is removed.
+/// Sets the mode of a new directory. Removes the directory if that fails.
 fn give_rights<R: Files>(rt: &R, path: &str, mode: u32) -> io::Result<()> {
     let given = fs::set_permissions(rt, path, Permissions::from_mode(mode));
     if given.is_err() {
@@ -50,7 +51,8 @@ fn give_rights<R: Files>(rt: &R, path: &str, mode: u32) -> io::Result<()> {
     given
 }
 
-/// Creates a directory with these permissions, which are set once more where the umask is narrow.
+/// Creates a directory with a mode. Sets the mode again if `narrow` is `true`, since the umask may
+/// have removed permissions.
 fn create_with<R: Files>(rt: &R, dir: &str, mode: u32, narrow: bool) -> io::Result<()> {
     DirBuilder::new().mode(mode).create(rt, dir)?;
     if narrow {
@@ -60,7 +62,8 @@ fn create_with<R: Files>(rt: &R, dir: &str, mode: u32, narrow: bool) -> io::Resu
     }
 }
 
-/// Creates the directory of an attempt, or the work directory in it.
+/// Creates the directory of an attempt or its work directory, with the mode that the owner of the
+/// root directory requires.
 pub(crate) fn create_directory<R: Files>(rt: &R, dir: &str, rights: Rights) -> io::Result<()> {
     let mode = if !rights.of_root {
         PRIVATE_MODE
@@ -72,12 +75,12 @@ pub(crate) fn create_directory<R: Files>(rt: &R, dir: &str, rights: Rights) -> i
     create_with(rt, dir, mode, rights.narrow)
 }
 
-/// Checks whether a new directory has these permissions.
+/// Returns `true` if a new directory has all permissions of a mode.
 fn has_rights(made: &Metadata, mode: u32) -> bool {
     made.permissions().mode() & mode == mode
 }
 
-/// Creates the root directory, and returns what it shows.
+/// Creates the root directory and returns its owner and the effect of the umask.
 fn create_first<R: Files>(rt: &R, path: &str) -> io::Result<Rights> {
     create_with(rt, path, PRIVATE_MODE, false)?;
     let rights = match fs::symlink_metadata(rt, path) {
@@ -98,7 +101,8 @@ fn create_first<R: Files>(rt: &R, path: &str) -> io::Result<Rights> {
     Ok(rights)
 }
 
-/// Creates the private directory for what the removals move. One of root shows whether other users get their rights, too.
+/// Creates the private directory to which removals move other directories. If root owns it, returns
+/// whether the umask removes permissions of other users.
 fn create_place<R: Files>(rt: &R, place: &str, rights: Rights) -> io::Result<Rights> {
     if !rights.of_root {
         create_with(rt, place, PRIVATE_MODE, rights.narrow)?;
@@ -116,7 +120,8 @@ fn create_place<R: Files>(rt: &R, place: &str, rights: Rights) -> io::Result<Rig
     })
 }
 
-/// Makes a root directory, and in it the one for what its removals move. Returns what they show of those to come, too.
+/// Creates the root directory and, in it, the directory to which removals move other directories.
+/// Returns the removals, the owner of the root directory and the effect of the umask.
 pub(crate) fn create_root<R: Files + AllocGlobal>(
     rt: &R,
     path: &Text,
@@ -138,7 +143,7 @@ pub(crate) fn create_root<R: Files + AllocGlobal>(
     Ok((removals, rights))
 }
 
-/// Whether the parent of a path is a directory, and not a link to one.
+/// Returns `true` if the parent of a path is a directory and not a symbolic link.
 fn lies_in_directory<R: Files>(rt: &R, path: &str) -> io::Result<bool> {
     match path.rsplit_once('/') {
         Some((parent, _)) => Ok(fs::symlink_metadata(rt, parent)?.is_dir()),
@@ -146,8 +151,10 @@ fn lies_in_directory<R: Files>(rt: &R, path: &str) -> io::Result<bool> {
     }
 }
 
-/// Makes a new file only for its owner. A path that exists, or a link in place of its directory, is
-/// a fault. A second file of a directory is made without another look at that.
+/// Creates an output file that only its owner may read and write.
+///
+/// Fails if the path exists or the parent is not a directory. The parent of the second file of a
+/// child is not checked again.
 pub(crate) fn create_output<R: Files>(
     rt: &R,
     path: &str,

@@ -7,11 +7,14 @@ ghost use Rattle.kt_child.specs.Inner.Host.{IsEarly, IsFree, next_slice, whole_s
 use std::rt::Clock;
 use std::time::Instant;
 
-/// The longest pause, in microseconds.
+/// The greatest length of a pause, in microseconds.
 pub(crate) const PAUSE: u64 = 10_000;
 
-/// The microseconds of a slice if time for it is left, with so many children and so long after an end. A look at many children
-/// takes longer, and a pause without an end is the less likely to see one, the longer there was none.
+/// Returns the interval between two checks of `children` children for an end, in microseconds.
+///
+/// `since` is the time since the last end, in microseconds. The interval grows with the number of
+/// children, since their check takes longer. It grows with `since`, since an end becomes less
+/// likely.
 fn whole_slice(children: usize, since: u64) -> u64
     requires { since < 2 ^ 50 }
     ensures value { result ≡ whole_slice children since }
@@ -23,10 +26,12 @@ fn whole_slice(children: usize, since: u64) -> u64
     short.max(many).max(since * (children + 4) / 384)
 }
 
-/// The children that each slice looks at: those that began last, of which an end is likelier than of the others.
+/// The number of newest children that are checked after each slice. The newest children are more
+/// likely to have ended than the others.
 pub(crate) const NEWEST: usize = 8;
 
-/// The microseconds of the next slice of a pause, after this many of it, and so many pauses without an end.
+/// Returns the length of the next slice of a pause, in microseconds. `micros` is the part of the
+/// pause that has passed, and `pauses` the number of pauses since the last end.
 pub(crate) fn slice_after(children: usize, pauses: u32, micros: u64) -> u64
     requires { micros ≤ 10000 }
     ensures value { result ≡ next_slice children pauses micros }
@@ -40,8 +45,10 @@ pub(crate) fn slice_after(children: usize, pauses: u32, micros: u64) -> u64
         .min(PAUSE - micros)
 }
 
-/// Whether all children are looked at, after this many microseconds of a pause, of which so many passed since the last look at
-/// all.
+/// Returns `true` if all children must be checked for an end.
+///
+/// `micros` is the part of the pause that has passed, in microseconds. `unlooked` is the part since
+/// the last check of all children, and `pauses` the number of pauses since the last end.
 pub(crate) fn is_due(children: usize, pauses: u32, micros: u64, unlooked: u64) -> bool
     requires { micros ≤ 10000 }
     ensures { IsTrue result ↔ (whole_slice children (10000 * pauses + micros) ≤ unlooked) }
@@ -49,24 +56,28 @@ pub(crate) fn is_due(children: usize, pauses: u32, micros: u64, unlooked: u64) -
     unlooked >= whole_slice(children, PAUSE * u64::from(pauses) + micros)
 }
 
-/// The milliseconds for each answer of the second half, which is spread over the limit.
+/// The interval between two `Running` responses in the second half of a timeout, in milliseconds.
 const PERIOD: u128 = 20;
 
-/// The real time of a child, and how often it was reported as running.
+/// A pace of a child: the time of its start, and its number of `Running` responses, which are the
+/// polls that reported it as running.
 #[derive(Clone, Copy)]
 pub(crate) struct Pace {
-    /// None if the clock failed: then no answer is early.
+    /// The time of the start, or `None` if the clock failed. Without a start time, no response is
+    /// early or late.
     started: Option<Instant>,
-    /// In seconds; 100 answers stand for each.
+    /// The timeout in seconds. Each second has 100 `Running` responses.
     pub(crate) limit: u64,
+    /// The number of `Running` responses since the start.
     answers: u64,
 }
 
-/// How many polls a child may be late before others are reported as running without a look.
+/// The number of polls that a child may miss before other children are reported as running without
+/// a check.
 const SLACK: u128 = 2;
 
 impl Pace {
-    /// The pace of a child that begins to run.
+    /// Creates the pace of a child that starts now. `limit` is its timeout in seconds.
     pub(crate) fn begun<C: Clock>(limit: u64, clock: &C) -> Pace
         ensures limit { result.limit ≡ limit }
         ensures answers { result.answers ≡ 0 }
@@ -78,7 +89,8 @@ impl Pace {
         }
     }
 
-    /// Whether it is heard late, at this time.
+    /// Returns `true` if the child is polled late: at `now` it has missed more than two polls, of
+    /// which 100 are expected in a second. Returns `false` after the last poll of its timeout.
     pub(crate) fn is_late_at(&self, now: Instant) -> bool
         ensures { IsTrue result ↔ IsSomeAnd self.now.started (λ start.
             IsLate self.now.limit self.now.answers
@@ -92,14 +104,15 @@ impl Pace {
         u128::from(self.answers) < u128::from(self.limit) * 100 && due < millis
     }
 
-    /// Whether one more answer `running` is of the first half.
+    /// Returns `true` if the next `Running` response belongs to the first half of the timeout's
+    /// responses.
     pub(crate) fn is_free(&self) -> bool
         ensures { IsTrue result ↔ IsFree self.now.limit self.now.answers }
     {
         u128::from(self.answers) + 1 <= u128::from(self.limit) * 50
     }
 
-    /// Whether one more answer `running` would come too early at this time.
+    /// Returns `true` if a `Running` response at `now` would be too early for the timeout.
     fn is_early_at(&self, now: Instant) -> bool
         ensures { IsTrue result ↔ IsSomeAnd self.now.started (λ start.
             IsEarly self.now.limit self.now.answers
@@ -114,7 +127,8 @@ impl Pace {
         due > free && due - free > millis
     }
 
-    /// Whether one more answer `running` would come too early. One of the first half never does, and needs no clock.
+    /// Returns `true` if a `Running` response now would be too early for the timeout. A response of
+    /// the first half is never early, so the clock is not read for it.
     pub(crate) fn is_early<C: Clock>(&self, clock: &C) -> bool
         ensures { IsTrue result → (now : Moment) × IsSomeAnd self.now.started (λ start.
             IsEarly self.now.limit self.now.answers
@@ -129,7 +143,7 @@ impl Pace {
         }
     }
 
-    /// Counts an answer `running`.
+    /// Adds one to the number of `Running` responses.
     pub(crate) fn count_answer(&mut self)
         ensures counted { self.new.answers ≡ min (self.old.answers + 1) (2 ^ 64 - 1) }
         ensures limit { self.new.limit ≡ self.old.limit }

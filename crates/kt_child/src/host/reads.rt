@@ -13,18 +13,23 @@ use std::os::unix::fs::MetadataExt;
 use std::rt::Files;
 use std::{fs, io};
 
-/// The size of the pieces in which a file is read, in bytes.
+/// The size of a read, in bytes.
 const PIECE: usize = 8_192;
 
-/// Reads to the end of a file, to the limit, or to the first fault. An interrupted read is a fault, too.
+/// Reads a file to its end, at most `limit` bytes. An interrupted read is an error, too.
+///
+/// # Errors
+///
+/// - `Failed`: a read fails.
+/// - `Memory`: an allocation fails.
 pub fn read_start<F: Read>(alloc: Global, file: &mut F, limit: usize) -> Result<Bytes, ReadFault>
     ensures few { IfOk result (λ bytes. length bytes ≤ limit) }
-    // Of a file whose bytes are known, the front is read, and the rest is left.
+    // If the remaining bytes are known, the result is their prefix, and the others remain.
     ensures front { IfOk result (λ bytes. IfSome (F.remaining file.old)
         (λ all. bytes ≡ take limit all)) }
     ensures rest { OnOk result (IfSome (F.remaining file.old)
         (λ all. F.remaining file.new ≡ Some (drop limit all))) }
-    // No more is taken, even by a call that fails.
+    // At most `limit` bytes are consumed, even if the call fails.
     ensures past { TakesAtMost limit (F.remaining file.old) (F.remaining file.new) }
 {
     let mut bytes = Bytes::new(alloc);
@@ -45,7 +50,14 @@ pub fn read_start<F: Read>(alloc: Global, file: &mut F, limit: usize) -> Result<
     Ok(bytes)
 }
 
-/// Reads to the end, to the first fault, or one byte past the limit. An interrupted read is a fault, too.
+/// Reads a file to its end, at most `limit` bytes, and returns whether more bytes follow.
+///
+/// At most one byte after the limit is read. An interrupted read is an error, too.
+///
+/// # Errors
+///
+/// - `Failed`: a read fails, or an allocation for the bytes fails.
+/// - `Memory`: the read of the byte after the limit reports that memory ran out.
 pub fn read_front<F: Read>(alloc: Global, file: &mut F, limit: u64) -> Result<FileRead, OsFault>
     ensures within { IsHostRead limit result }
     ensures opened { IsOpened result }
@@ -63,7 +75,7 @@ pub fn read_front<F: Read>(alloc: Global, file: &mut F, limit: u64) -> Result<Fi
     Ok(FileRead::Part(bytes, count > 0))
 }
 
-/// Looks at a regular file. Anything else is a fault, such as a link.
+/// Returns the metadata of a regular file. Fails for any other file, such as a symbolic link.
 fn look_at<R: Files>(rt: &R, path: &str) -> io::Result<Metadata> {
     let seen = fs::symlink_metadata(rt, path)?;
     if !seen.is_file() {
@@ -72,9 +84,11 @@ fn look_at<R: Files>(rt: &R, path: &str) -> io::Result<Metadata> {
     Ok(seen)
 }
 
-/// Opens a file that was looked at, to read it. What was put there since is a fault.
+/// Opens a file for reading. Fails if the path leads to another file than `seen`, its metadata from
+/// an earlier check.
 fn open_seen<R: Files>(rt: &R, path: &str, seen: &Metadata) -> io::Result<R::File> {
-    // For writing too where its rights allow that: then not even a pipe makes the call wait.
+    // Open the file for writing, too, if its permissions allow that: such a call never waits for
+    // the other end of a FIFO.
     let file = match OpenOptions::new().read(true).write(true).open(rt, path) {
         Ok(file) => file,
         Err(_) => File::open(rt, path)?,
@@ -87,13 +101,14 @@ fn open_seen<R: Files>(rt: &R, path: &str, seen: &Metadata) -> io::Result<R::Fil
     }
 }
 
-/// Opens a regular file to read it.
+/// Opens a regular file for reading. Fails for any other file.
 pub(crate) fn open_regular<R: Files>(rt: &R, path: &str) -> io::Result<R::File> {
     let seen = look_at(rt, path)?;
     open_seen(rt, path, &seen)
 }
 
-/// Opens a regular file to read it. One on which a process holds a lease is a fault: the call would wait for that process.
+/// Opens a regular file for reading. Fails for any other file, and if a process holds a lease on
+/// the file, since the call would wait for that process.
 pub(crate) fn open_unleased<R: Files + AllocGlobal>(rt: &R, path: &str) -> io::Result<R::File> {
     let seen = look_at(rt, path)?;
     if is_leased(rt, rt.alloc(), &seen) {
@@ -102,7 +117,8 @@ pub(crate) fn open_unleased<R: Files + AllocGlobal>(rt: &R, path: &str) -> io::R
     open_seen(rt, path, &seen)
 }
 
-/// Reads a file from the byte `from` on, if it could be opened. One read goes on from there, and stops as `read_front`.
+/// Reads an opened file from the byte `from`, counted from 0, at most `limit` bytes. Returns
+/// `Missing` if the file was not found, and fails if it could not be opened for another reason.
 pub(crate) fn read_opened<F: Read + Seek + Drop>(
     alloc: Global,
     opened: io::Result<F>,
