@@ -1,4 +1,4 @@
--- The board after a start, and what its children hear of polls, turns and waits.
+-- Lemmas on the board after a start, a poll, a turn and a wait.
 use Rattle.std.proofs.Common.{if◌then◌else◌, ◌≡◌, ℕ, zero, suc, List, [], ◌∷◌, ◌++◌, Bool, true, false, Some, Result, map, slice_get, refl, sym, ◌∙◌, ap, subst, append_assoc, remove}
 use Rattle.kt_child.proofs.Common.{All, All-cons, All-head, All-nil, All-tail, Case, Job, Outcome, StartAnswer, Ended, Polled, OsFault, Watched, ChildrenState, Chain, Call, Kill, Pause, Poll, IsOn, answered, heard_of, Heard, HeardKill, HeardPoll, Leaves, Alive, Hears, IsOver, alive_after, alive_of, board_of, limit_of, spawned, state_after_start, asked_by_poll, is_killed, child_of, pending_with, PolledAll, PolledUntil, Waited, WaitedOn, advanced, advanced_below, last_turn, whole_turn}
 use Rattle.kt_sched.specs.declared.job.StartAnswer.TheVariants.{Started as StartedAt, Refused as RefusedFor}
@@ -9,11 +9,11 @@ use Rattle.kt_child.proofs.CaseSteps.{Left}
 use Rattle.std.proofs.lemmas.List.{map-append}
 use Rattle.std.proofs.lemmas.Option.{same_Some}
 
--- a child with these answers
+-- `answering k heard`: the child `k` with the responses `heard`.
 abbrev answering : Watched → List Heard → Alive
 answering k heard = record { case = k.case; limit = k.limit; heard = heard }
 
--- the children after a start, and the cases that are owed
+-- A start appends its child to the board and leaves the pending cases.
 pub board_started : (b after : ChildrenState) (job : Job) (c : Case) (answer : StartAnswer)
     → after ≡ state_after_start b (spawned (limit_of job c.role) c) answer
     → (alive_of after.children ≡ alive_after (alive_of b.children) job c answer) × (after.pending ≡ b.pending)
@@ -21,19 +21,19 @@ board_started b after job c (RefusedFor cause) e = rw e (refl, refl)
 board_started b after job c (StartedAt moment) e =
     rw e (map-append (λ (x : Watched). answering x (answered x.limit x.watch)) b.children (spawned (limit_of job c.role) c ∷ []), refl)
 
--- what is heard by children behind another
+-- Responses of the other children don't change the first child.
 all_later : (a : Alive) (old new : List Alive) (calls : List Call) → Chain Hears old calls new → Chain Hears (a ∷ old) calls (a ∷ new)
 all_later a old new [] h = ap (λ t. a ∷ t) h
 all_later a old new (call ∷ calls) (mid, first, rest) = (a ∷ mid, later a old mid call first, all_later a mid new calls rest)
 
--- the calls of one poll, and a child after it
+-- `asked k result done` and `after_poll_of`: the calls of one poll, and the child after it.
 abbrev asked : Watched → Result Polled OsFault → Bool → List Call
 asked k answer done = asked_by_poll (child_of k.case) k.limit k.watch answer done
 
 abbrev after_poll_of : Watched → Result Polled OsFault → Bool → Alive
 after_poll_of k answer done = answering k (answered k.limit k.watch ++ heard_of k.limit k.watch answer done)
 
--- a poll of the first child
+-- A poll of the first child appends its responses.
 poll_heard : (k : Watched) (others : List Alive) (answer : Result Polled OsFault) (done : Bool)
     → Chain Hears (answering k (answered k.limit k.watch) ∷ others) (asked k answer done) (after_poll_of k answer done ∷ others)
 poll_heard k others answer done = by (is_killed k.limit k.watch answer)
@@ -46,7 +46,7 @@ poll_heard k others answer done = by (is_killed k.limit k.watch answer)
     by true = (_, polled (answering k H) others answer, (_, killed (answering k (H ++ HeardPoll answer ∷ [])) others done, simp append_assoc))
     by false = (_, polled (answering k H) others answer, refl)
 
--- a poll of the first child, which goes on, and what the others hear after it
+-- A poll of the first child, which still runs, and the later calls give all responses.
 first_heard : (k : Watched) (ks : List Watched) (answer : Result Polled OsFault) (done : Bool) (more calls : List Call) (new : List Alive)
     → answered k.limit (advanced k).watch ≡ answered k.limit k.watch ++ heard_of k.limit k.watch answer done → calls ≡ asked k answer done ++ more
     → Chain Hears (alive_of ks) more new → Chain Hears (alive_of (k ∷ ks)) calls (answering k (answered k.limit (advanced k).watch) ∷ new)
@@ -54,7 +54,7 @@ first_heard k ks answer done more calls new goes e h =
     rw (e, goes) (chain_append Hears (alive_of (k ∷ ks)) (after_poll_of k answer done ∷ alive_of ks) (after_poll_of k answer done ∷ new) (asked k answer done) more
     (poll_heard k (alive_of ks) answer done) (all_later (after_poll_of k answer done) (alive_of ks) new more h))
 
--- a turn
+-- A turn without a finished child appends one response to each child.
 turn_heard : (ks : List Watched) (calls : List Call) → All IsOn ks → PolledAll ks calls → Chain Hears (alive_of ks) calls (alive_of (map advanced ks)) × All IsOn (map advanced ks)
 turn_heard [] calls on h = (rw h refl, All-nil IsOn)
 turn_heard (k ∷ ks) calls on (answer, done, more, e, went, turn) =
@@ -63,13 +63,14 @@ turn_heard (k ∷ ks) calls on (answer, done, more, e, went, turn) =
     let r = turn_heard ks more (All-tail IsOn k ks on) turn in
     (first_heard k ks answer done more calls (alive_of (map advanced ks)) g.0 e r.0, All-cons IsOn (advanced k) (map advanced ks) (g.1, is.1) r.1)
 
--- after these calls the child at a place is over, by all its answers; the other children are those that are left
+-- `OverAt ks calls after place outcome`: the child at `place` finishes by its responses; `after`
+-- are left.
 abbrev pub OverAt : List Watched → List Call → List Watched → ℕ → Outcome → Type 0
 OverAt ks calls after place outcome =
     (alive : List Alive) × (a : Alive) × IsOver (alive_of ks) calls alive place a outcome
     × (remove alive place ≡ alive_of (remove after place)) × ((k : Watched) → slice_get after place ≡ Some k → a.case ≡ k.case)
 
--- a turn up to an end
+-- A turn up to a finished child gives its outcome by all its responses.
 until_heard : (ks : List Watched) (place : ℕ) (calls : List Call) (outcome : Outcome) → All IsOn ks → PolledUntil ks place calls outcome
     → OverAt ks calls (advanced_below place ks) place outcome
 until_heard [] place calls outcome on (before, last, e, none, over) = absurd over
@@ -83,7 +84,7 @@ until_heard (k ∷ ks) (suc place) calls outcome on (before, last, e, (answer, d
     let same = e ∙ ap (λ t. t ++ last) f ∙ append_assoc (asked k answer done) more last in
     (now ∷ r.0, r.1, (first_heard k ks answer done (more ++ last) calls r.0 g.0 same r.2.0, r.2.1, r.2.2), ap (λ t. now ∷ t) r.3, r.4)
 
--- a wait
+-- A wait gives the outcome of the finished child by all its responses.
 pub wait_heard : (ks : List Watched) (calls : List Call) (place : ℕ) (outcome : Outcome) (after : List Watched) → All IsOn ks → WaitedOn ks calls place outcome after
     → OverAt ks calls after place outcome
 wait_heard _ _ _ _ _ on (last_turn ks calls place outcome until) = until_heard ks place calls outcome on until
@@ -93,7 +94,7 @@ wait_heard _ _ _ _ _ on (whole_turn ks after turn more done place outcome all wa
     let now = alive_of (map advanced ks) in
     (u.0, u.1, (chain_append Hears (alive_of ks) now u.0 turn (Pause done ∷ more) t.0 (now, paused now done, u.2.0), u.2.1, u.2.2), u.3, u.4)
 
--- an end on the board
+-- A wait of the running children is an end on the board.
 pub waited_ends : (old new : ChildrenState) (calls : List Call) (e : Ended) → All IsOn old.children → Left old calls e new
     → (next : ℕ) → Waited old.children (board_of old next) calls e new.children (board_of new next)
 waited_ends old new calls e on w next =

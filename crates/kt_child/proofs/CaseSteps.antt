@@ -1,4 +1,4 @@
--- The cases of children, which no poll changes.
+-- Lemmas on the children's cases, which no poll changes.
 use Rattle.std.proofs.Common.{◌≡◌, ℕ, zero, suc, List, [], ◌∷◌, ◌++◌, Some, map, slice_get, refl, sym, ◌∙◌, ap, remove}
 use Rattle.kt_child.proofs.Common.{Outcome, Ended, Watched, ChildrenState, Call, Leaves, cases_of, WaitedOn, advanced, advanced_below, last_turn, pending_with, whole_turn}
 use Rattle.std.specs.Option.{option_map}
@@ -19,16 +19,16 @@ pub cases_waited : (ks : List Watched) (calls : List Call) (place : ℕ) (outcom
 cases_waited _ _ _ _ _ (last_turn ks calls place outcome polled) = cases_below place ks
 cases_waited _ _ _ _ _ (whole_turn ks after turn more done place outcome all waited) = cases_waited (map advanced ks) more place outcome after waited ∙ cases_turn ks
 
--- without the child at a place
+-- Removing the child at an index removes its case.
 pub cases_remove : (ks : List Watched) (i : ℕ) → cases_of (remove ks i) ≡ remove (cases_of ks) i
 cases_remove ks i = map-remove (λ (k : Watched). k.case) ks i
 
--- the case of the child at a place
+-- The case at an index is that of the child at that index.
 pub case_at : (ks : List Watched) (i : ℕ) (k : Watched) → slice_get ks i ≡ Some k → slice_get (cases_of ks) i ≡ Some k.case
 case_at ks i k e = slice_get-map (λ (x : Watched). x.case) ks i ∙ ap (option_map (λ (x : Watched). x.case)) e
 
--- A wait that asks this and ends so leads from one state to another: its polls end with the child at a place, whose answers
--- tell the outcome; what follows deals with the case of that child, and the child is not among the running ones then.
+-- `Left old calls e new`: a wait with `calls` takes the state `old` to `new`. Its polls end with
+-- the finished child at `place`, and the calls after them create the record `e`.
 pub record Left (old : ChildrenState) (calls : List Call) (e : Ended) (new : ChildrenState) : Type 0 where
   pub polls : List Call
   pub rest : List Call
@@ -43,7 +43,7 @@ pub record Left (old : ChildrenState) (calls : List Call) (e : Ended) (new : Chi
   pub children : new.children ≡ remove after place
   pub pending : new.pending ≡ pending_with over.case old.pending
 
--- the cases after a wait, and that of the child that is over
+-- The cases after a wait are those without the finished child's.
 pub waited_cases : (old new : ChildrenState) (calls : List Call) (e : Ended) (w : Left old calls e new)
     → (cases_of new.children ≡ remove (cases_of old.children) w.place) × (slice_get (cases_of old.children) w.place ≡ Some w.over.case)
 waited_cases old new calls e w =

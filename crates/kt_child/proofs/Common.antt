@@ -1,4 +1,4 @@
--- The names that most proofs of this crate cite, passed on from one place. Declares nothing.
+-- The names that most proofs of this crate cite, re-exported. Declares nothing.
 pub use Rattle.std.proofs.Math.ListN.{set}
 pub use Rattle.std.proofs.lemmas.Bool.{and_from, and_parts}
 pub use Rattle.std.proofs.lemmas.Bool.Decides.{nat_tests}

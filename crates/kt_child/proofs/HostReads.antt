@@ -1,8 +1,9 @@
--- What is read of a file is its front.
+-- The bytes read of a file are its prefix.
 use Rattle.std.proofs.Common.{Option, ℕ, ◌≤◌, List, length}
 use Rattle.std.specs.Io.KnownBytes.{Consumes}
 
--- what was read of a file so far, a number of bytes at the most
+-- `HasRead limit left rest bytes`: `bytes`, at most `limit`, were read from `left`, and `rest`
+-- remains.
 pub record HasRead (limit : ℕ) (left rest : Option (List ℕ)) (bytes : List ℕ) : Type 0 where
   pub taken : Consumes left rest bytes
   pub few : length bytes ≤ limit

@@ -1,4 +1,4 @@
--- How the children of the host stand, where one of them changes.
+-- Lemmas on the states of the host's children if one of them changes.
 use Rattle.std.proofs.Common.{◌≡◌, ◌==◌, ℕ, zero, suc, Bool, true, false, cond, Option, Some, None, List, [], ◌∷◌, slice_get, refl, ◌∙◌, ap, subst}
 use Rattle.std.specs.Map.{lookup, values_of}
 use Rattle.std.specs.Option.{option_and_then}
@@ -19,7 +19,7 @@ same_child_is a b e =
     let role = same_role_is a.role b.role w.1 in
     λ i. record { attempt = attempt i; role = role i }
 
--- one child stands as it did, and so do the others
+-- If one child's state and those of the others are unchanged, all are.
 pub all_stay : (child : Child) (old new : Child → Stand) → new child ≡ old child → OthersStay child old new → AllStay old new
 all_stay child old new own others c = by (same_child child c) refl
   where
@@ -51,7 +51,7 @@ module _ {P I O E : Type 0} where
   proceeds_if true x y l m p q = p
   proceeds_if false x y l m p q = q
 
-  -- the child at a place proceeds
+  -- If one child's state moves forward, the states of all children stay or move forward.
   pub all_proceed_set : (held : List (Child × HostChild P I O E)) (i : ℕ) (h w : HostChild P I O E) → slice_get (values_of held) i ≡ Some h
       → Proceeds (stand_of h) (stand_of w) → AllProceed (stand_in held) (stand_in (set_value_at held i w))
   all_proceed_set [] i h w at p c = absurd (cc)
@@ -63,13 +63,13 @@ module _ {P I O E : Type 0} where
       (all_proceed_set held i h w at p c)
 
   module _ {eq : Child → Child → Bool} (agrees : (a b : Child) → eq a b ≡ same_child a b) (old new : List (Child × HostChild P I O E)) (child : Child) where
-    -- the child of a name changes, as a map says that compares names by this test
+    -- A map that changes one child's entry leaves the states of the others.
     pub others_stay : ((c : Child) → eq child c ≡ false → lookup (eq c) new ≡ lookup (eq c) old) → OthersStay child (stand_in old) (stand_in new)
     others_stay kept c other =
         subst (λ (f : Child → Child → Bool). option_and_then stand_of (lookup (f c) new) ≡ option_and_then stand_of (lookup (f c) old)) (λ i a b. agrees a b i)
         (ap (option_and_then stand_of) (kept c (agrees child c ∙ other)))
 
-    -- how it stood, how it stands, and the others
+    -- A map that changes one child's entry gives its old and its new state.
     pub changed : (h w : HostChild P I O E) → lookup (eq child) old ≡ Some h → lookup (eq child) new ≡ Some w
         → ((c : Child) → eq child c ≡ false → lookup (eq c) new ≡ lookup (eq c) old)
         → (stand_in old child ≡ stand_of h) × (stand_in new child ≡ stand_of w) × OthersStay child (stand_in old) (stand_in new)

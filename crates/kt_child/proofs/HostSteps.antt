@@ -1,10 +1,10 @@
--- What a command says of variables, one after the other.
+-- Lemmas on the variables of a command, one change after the other.
 use Rattle.std.proofs.Common.{add-one, ◌≡◌, ◌≢◌, ℕ, ◌+◌, ◌<◌, List, length, drop, drop-cons, get_or, Bool, true, false, Option, Some, None, refl, sym, ◌∙◌, ap, if◌then◌else◌}
 use Rattle.kt_child.proofs.Common.{bytes_eq, utf8, after_removed, after_set}
 use Rattle.std.proofs.lemmas.Slice.Eq.{bytes_eq-Decides}
 use Rattle.kt_base.specs.declared.variable.Variable.{Variable}
 
--- what is said of each variable, after something was said of one
+-- A change of one variable gives its new setting and leaves the others.
 pub said_now : (one : List ℕ) (news : Option (Option (List ℕ))) (old new : List ℕ → Option (Option (List ℕ)))
     → new one ≡ news → ((k : List ℕ) → k ≢ one → new k ≡ old k)
     → (k : List ℕ) → new k ≡ (if bytes_eq one k then news else old k)
@@ -14,12 +14,12 @@ said_now one news old new e f k = by (bytes_eq one k) refl
     by true b = ap new (sym ((bytes_eq-Decides one k).0 b)) ∙ e
     by false b = f k (λ same. let h : bytes_eq one k ≡ true = (bytes_eq-Decides one k).1 (sym same) in let no : ⊥ = cc in no)
 
--- one name more that is removed
+-- Removing the next name leaves the settings after all removals unchanged.
 pub removed_step : (names : List (List ℕ)) (i : ℕ) (gone : List ℕ) (k : List ℕ) (old new : Option (Option (List ℕ))) → i < length names → gone ≡ get_or names i gone
     → new ≡ (if bytes_eq (utf8 gone) k then Some None else old) → after_removed (drop (i + 1) names) k new ≡ after_removed (drop i names) k old
 removed_step names i gone k old new lt at e = rw (e, add-one, drop-cons names i gone lt, ← at) refl
 
--- one variable more that is set
+-- Setting the next variable leaves the settings after all changes unchanged.
 pub set_step : (set : List Variable) (i : ℕ) (v : Variable) (k : List ℕ) (old new : Option (Option (List ℕ))) → i < length set → v ≡ get_or set i v
     → new ≡ (if bytes_eq (utf8 v.name) k then Some (Some (utf8 v.value)) else old) → after_set (drop (i + 1) set) k new ≡ after_set (drop i set) k old
 set_step set i v k old new lt at e = rw (e, add-one, drop-cons set i v lt, ← at) refl

@@ -1,4 +1,4 @@
--- The next number of a driver never falls, each attempt takes one, and no number stands twice on a board.
+-- The next attempt number never decreases, and no number occurs twice on a board.
 use Rattle.std.proofs.Common.{◌≡◌, ℕ, ◌==◌, ◌&&◌, ◌+◌, ◌-◌, ◌^◌, ◌<◌, ◌≤◌, List, [], ◌∷◌, ◌++◌, Bool, true, false, map, refl, sym, ◌∙◌, ap, subst, arith, inl, inr}
 use Rattle.kt_child.proofs.Common.{nat_tests, Alive, Board, Body, Cleanup, Call, Case, Chain, Driver, End, Ended, Ends, Hears, Job, NoEvent, Role, Runs, Start as Started, StartAnswer, Starts, Then, Trace, alive_after, limit_of, one_if, AttemptsDiffer, IsApart, NumbersDiffer, numbers, times, Request, Wait, ListOf, Serves, ServesAll, is_attempt}
 use Rattle.kt_child.specs.Driving.Numbers.{Start}
@@ -6,7 +6,7 @@ use Rattle.kt_sched.specs.declared.job.StartAnswer.TheVariants.{Started as Start
 use Rattle.kt_child.specs.Driving.Board.{killed, later, paused, polled}
 use Rattle.kt_child.proofs.CaseCounts.{one_if_is, times_less, times_more, times_owed}
 
--- no request lets the number fall, and an attempt takes one
+-- No request decreases the next number, and an attempt increases it.
 serves : {O : Type 0} (leads : O → Call → O → Type 0) (d e : Driver O) (request : Request) → Serves leads d request e
     → (d.next ≤ e.next) × (is_attempt request ≡ true → d.next < 2 ^ 64 - 1 → d.next < e.next)
 serves leads d e (Start job role answer) ((_, _, inl (_, l, _, _, same)), _, _) =
@@ -18,12 +18,12 @@ serves leads d e (ListOf program variables answer) (inl (l, refused, os, n), run
 serves leads d e (ListOf program variables answer) (inr (inl (l, n, refused, os)), running, source, root) = (omega arith, λ is lt. omega arith)
 serves leads d e (ListOf program variables answer) (inr (inr (l, n, ran)), running, source, root) = (omega arith, λ is lt. omega arith)
 
--- so no sequence of them does
+-- No sequence of requests decreases the next number.
 all_rise : {O : Type 0} (leads : O → Call → O → Type 0) (requests : List Request) (d e : Driver O) → ServesAll leads d requests e → d.next ≤ e.next
 all_rise {O} leads [] d e h = omega (arith, ap (λ (x : Driver O). x.next) h)
 all_rise leads (request ∷ requests) d e (mid, first, rest) = omega (arith, (serves leads d mid request first).0, all_rise leads requests mid e rest)
 
--- the law of numbers
+-- No two attempts of a driver have the same number.
 pub attempts_differ : {O : Type 0} (leads : O → Call → O → Type 0) → AttemptsDiffer leads
 attempts_differ leads attempt requests d e f is lt served all =
     omega (arith, (serves leads d e attempt served).1 is lt, all_rise leads requests e f all)
@@ -38,7 +38,7 @@ runs_by a = a.case.attempt
 abbrev owed_by : Case → ℕ
 owed_by c = c.attempt
 
--- no call changes the numbers that run
+-- No call changes the attempt numbers of the running children.
 call_kept : (old new : List Alive) (call : Call) → Hears old call new → map runs_by new ≡ map runs_by old
 call_kept _ _ _ (polled a others answer) = refl
 call_kept _ _ _ (killed a others done) = refl
@@ -49,20 +49,20 @@ calls_kept : (calls : List Call) (old new : List Alive) → Chain Hears old call
 calls_kept [] old new h = ap (map runs_by) h
 calls_kept (call ∷ calls) old new (mid, first, rest) = calls_kept calls mid new rest ∙ call_kept old mid call first
 
--- a started case is one more at most
+-- A start adds the attempt number of its case at most once.
 started_most : (n : ℕ) (alive : List Alive) (job : Job) (c : Case) (answer : StartAnswer)
     → times n (map runs_by (alive_after alive job c answer)) ≤ times n (map runs_by alive) + one_if (n == c.attempt)
 started_most n alive job c (RefusedFor cause) = omega arith
 started_most n alive job c (StartedAt moment) =
     omega (arith, times_more runs_by n alive (record { case = c; limit = limit_of job c.role; heard = [] }))
 
--- a number that stands no more often than before, but for the next one where that is taken
+-- A number that occurs no more often than before, except the next one if used, stays unique.
 apart_still : (t : Bool) (n x y next after : ℕ) → next + one_if t ≤ after → y ≤ x + one_if (t && n == next)
     → (x ≤ 1) × (next ≤ n → x ≡ 0) → (y ≤ 1) × (after ≤ n → y ≡ 0)
 apart_still t n x y next after le h (one, none) =
     (grind (arith, nat_tests, one_if_is t, one_if_is (t && n == next)), λ below. grind (arith, nat_tests, one_if_is t, one_if_is (t && n == next)))
 
--- a board on which no number stands more often than on another one, but for the next one where that is taken
+-- A board on which no number occurs more often, except the next one if used, stays apart.
 fewer : (t : Bool) (old new : Board) → IsApart old → old.next + one_if t ≤ new.next
     → ((n : ℕ) → times n (map runs_by new.alive) + times n (map owed_by new.owed)
     ≤ times n (map runs_by old.alive) + times n (map owed_by old.owed) + one_if (t && n == old.next)) → IsApart new
@@ -113,6 +113,6 @@ runs_apart plan source root old (Then T (Started i role answer)) calls new (mid,
 runs_apart plan source root old (Then T (End ended)) calls new (mid, before, asked, e, runs, s) apart =
     ends_apart mid new asked ended s (runs_apart plan source root old T before mid runs apart)
 
--- the law of names
+-- On each board of a run from an idle board, all attempt numbers are different.
 pub numbers_differ : NumbersDiffer
 numbers_differ plan source root next T calls b runs = runs_apart plan source root _ T calls b runs (λ n. (omega arith, λ le. refl))

@@ -1,4 +1,4 @@
--- A poll of a child, after what it has answered so far: either it goes on, or the table tells its outcome.
+-- A poll extends a child's responses, or gives its outcome by the table of outcomes.
 use Rattle.std.proofs.Common.{◌≡◌, ◌≢◌, ℕ, ◌+◌, ◌*◌, ◌<◌, ◌==◌, List, [], ◌∷◌, ◌++◌, Bool, true, false, Result, Ok, Err, Some, refl, sym, ◌∙◌, ap, arith, inl, inr, if◌then◌else◌, append_assoc, replicate}
 use Rattle.std.proofs.lemmas.List.{replicate-append-replicate}
 use Rattle.kt_child.proofs.Common.{nat_tests, Outcome, Polled, OsFault, Watch, More, IsShort, IsWatched, after_poll, watch_after, answered, heard_of, Heard, HeardKill, Yields, YieldsAfterKill, running}
@@ -6,15 +6,15 @@ use Rattle.kt_base.specs.declared.child.Outcome.TheVariants.{Exited, Signaled, T
 use Rattle.kt_child.specs.declared.system.Polled.TheVariants.{Running, Exited as PolledExit, Signaled as PolledSignal}
 use Rattle.kt_child.specs.declared.polling.AfterPoll.TheVariants.{Ended}
 
--- one more answer `running`
+-- One more `running` response is appended.
 once_more : (n : ℕ) → replicate (n + 1) running ≡ replicate n running ++ running ∷ []
 once_more n = sym (replicate-append-replicate n 1 running)
 
--- the numbers of a test that holds
+-- If the test for the last poll is `true`, the numbers are equal.
 tested : (a n : ℕ) → (a + 1 == n) ≡ true → a + 1 ≡ n
 tested a n e = grind (arith, nat_tests)
 
--- and of one that doesn't
+-- If the test for the last poll is `false`, the next number is lower, too.
 failed : (a n : ℕ) → (a + 1 == n) ≡ false → a < n → a + 1 < n
 failed a n e lt = let d : a + 1 ≢ n = grind (arith, nat_tests) in omega arith
 
@@ -24,7 +24,7 @@ killed_at b a = record { before = b; killed = true; after = a }
 abbrev alive_at : ℕ → Watch
 alive_at b = record { before = b; killed = false; after = 0 }
 
--- a poll that ends nothing is one more of the answers so far
+-- `Goes limit w result done`: a poll after which the child still runs extends its responses.
 abbrev Goes : ℕ → Watch → Result Polled OsFault → Bool → Type 0
 Goes limit w answer done =
     after_poll limit w answer done ≡ More
@@ -58,14 +58,14 @@ goes_alive limit b (Ok Running) done lt e = by (b + 1 == 100 * limit) refl done 
     by false t d e = (once_more b, (failed b (100 * limit) t lt, refl))
 goes_alive limit b answer done lt e = absurd (cc)
 
--- a poll that ends a child tells its outcome by all that it answered
+-- `Tells limit w result done o`: the outcome of a last poll follows from all responses.
 abbrev Tells : ℕ → Watch → Result Polled OsFault → Bool → Outcome → Type 0
 Tells limit w answer done o = after_poll limit w answer done ≡ Ended o → Yields limit (answered limit w ++ heard_of limit w answer done) o
 
 same_end : (o p : Outcome) → Ended o ≡ Ended p → p ≡ o
 same_end o p e = cc
 
--- after a kill
+-- The outcome of a last poll after a kill follows from the responses after the kill.
 killed_rows : (limit b a : ℕ) (answer : Result Polled OsFault) (done : Bool) (o : Outcome) → a < 500 → after_poll limit (killed_at b a) answer done ≡ Ended o
     → YieldsAfterKill 500 (replicate a running ++ heard_of limit (killed_at b a) answer done) o
 killed_rows limit b a (Err f) done o lt e = inr (inr (a, f, done, lt, refl, same_end WaitFailed o e))
@@ -82,7 +82,7 @@ tells_killed limit b a answer done o lt e =
     let hs = heard_of limit (killed_at b a) answer done in
     inr (inl (replicate a running ++ hs, append_assoc (replicate (100 * limit) running) (HeardKill true ∷ replicate a running) hs, killed_rows limit b a answer done o lt e))
 
--- and before one
+-- The outcome of a last poll before a kill follows from all responses.
 tells_alive : (limit b : ℕ) (answer : Result Polled OsFault) (done : Bool) (o : Outcome) → b < 100 * limit → Tells limit (alive_at b) answer done o
 tells_alive limit b (Err f) done o lt e = inr (inr (inr (b, f, done, lt, refl, same_end WaitFailed o e)))
 tells_alive limit b (Ok (PolledExit c)) done o lt e = inl (b, PolledExit c, lt, ap (λ t. Some t) (sym (same_end (Exited c) o e)), refl)
@@ -100,7 +100,7 @@ tells_alive limit b (Ok Running) done o lt e = by (b + 1 == 100 * limit) refl do
         )))
     by false t d e = absurd (cc)
 
--- what is so of each watch before a kill and of each after one is so of a child that isn't over
+-- A property of all poll counts before a kill and after a kill is one of each running child's.
 of_watch : (P : Watch → Type 0) (limit : ℕ)
     → ((b a : ℕ) → a < 500 → P (killed_at b a)) → ((b : ℕ) → b < 100 * limit → P (alive_at b)) → (w : Watch) → IsWatched limit w → P w
 of_watch P limit after before w is = by w.killed w.after is

@@ -1,17 +1,16 @@
--- A file that is read in parts: what is known after some of them.
+-- Lemmas on a file that is read in parts.
 use Rattle.std.proofs.Common.{◌≡◌, ℕ, ◌+◌, List, [], ◌∷◌, ◌++◌, length, Result, Some, None, refl, sym, ◌∙◌, ap, append_assoc, length-append}
 use Rattle.kt_child.proofs.Common.{OsFault, FileRead, ReadEnd, Complete, Chain, Call, TakesBytes, IsEnd, Reads, next_part, bytes_of}
 use Rattle.kt_child.specs.Ending.Parts.{last, more}
 use Rattle.kt_child.proofs.Chains.{chain_append}
 
--- what is known after some parts that a reader has taken, of so many bytes together: whatever the rest of the reading is, it is the
--- rest of the whole reading
+-- `Taking ..`: after some parts, with `got` bytes together, the rest of a read completes it.
 abbrev pub Taking : {R O : Type 0} → (R → List ℕ → Type 0) → (O → Call → O → Type 0) → List ℕ → ℕ → ℕ → O → O → R → ℕ → Type 0
 Taking has_taken leads path part limit start now reader got =
     (taken : List ℕ) × has_taken reader taken × (got ≡ length taken) × (calls : List Call) × Chain leads start calls now
     × ((rest : List Call) (end : ReadEnd) (bytes : List ℕ) → Reads path part limit taken rest end bytes → Reads path part limit [] (calls ++ rest) end bytes)
 
--- of a reader that takes a file, from its start
+-- For a reader that is fed a file from its start.
 module _ {R O : Type 0} (has_taken : R → List ℕ → Type 0) (leads : O → Call → O → Type 0) (path : List ℕ) (part limit : ℕ) (start : O) where
   pub taking_more : (now new : O) (reader reader' : R) (got got' : ℕ) (answer : Result FileRead OsFault)
       → Taking has_taken leads path part limit start now reader got

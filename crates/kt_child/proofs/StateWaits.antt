@@ -1,4 +1,4 @@
--- A state after a start, after a wait, and after a case was taken from those that are owed.
+-- Lemmas on the state after a start, after a wait, and after a pending case was removed.
 use Rattle.std.proofs.Common.{◌≡◌, ℕ, suc, ◌+◌, ◌≤◌, List, ◌++◌, slice_get, take, drop, Bool, true, Some, refl, ◌∙◌, ap, subst, arith, ◌==◌, [], ◌∷◌, false, remove}
 use Rattle.kt_child.proofs.Common.{Job, Paths, StartAnswer, case_of, limit_of, spawned, state_after_start, All, All-append, All-take, All-drop, All-push, Role, Outcome, Watched, Case, Ended, Chain, Call, IsChildrenState, IsOn, count_at, count_in, one_if, WaitedOn, IsEvidence, running_after_end, pending_after_end, ChildrenState, cases_of, is_among, pending_with, shown, shown_at, shown_in, Leaves}
 use Rattle.kt_sched.specs.Children.{Child as Shown, running_after_start}
@@ -11,16 +11,16 @@ use Rattle.kt_child.proofs.ShownCases.{shown_append, shown_remove, shown_there}
 use Rattle.kt_base.proofs.Lists.{same_number}
 use Rattle.std.proofs.lemmas.List.{map-append}
 
--- a position that is free may be taken once
+-- A free position can be used once.
 once_more : (b : Bool) (n m : ℕ) → (b ≡ true → n + m ≡ 0) → n + m ≤ 1 → n + one_if b + m ≤ 1
 once_more true n m h p = let z : n + m ≡ 0 = h refl in omega arith
 once_more false n m h p = omega arith
 
--- the cases of one child more
+-- Appending a child appends its case.
 pub cases_more : (ks : List Watched) (k : Watched) → cases_of (ks ++ k ∷ []) ≡ cases_of ks ++ k.case ∷ []
 cases_more ks k = map-append (λ (x : Watched). x.case) ks (k ∷ [])
 
--- after a start
+-- The invariant is true after a start at a free position.
 pub state_started : (children children' : List Watched) (pending pending' : List Case) (k : Watched)
     → IsChildrenState children pending → IsOn k → count_at k.case.position (cases_of children) + count_at k.case.position pending ≡ 0
     → children' ≡ children ++ k ∷ [] → pending' ≡ pending → IsChildrenState children' pending'
@@ -37,7 +37,7 @@ state_started children children' pending pending' k b on free e f =
           );
     })
 
--- what is shown after a start of a job's child
+-- The running children after a start are those that the scheduler's contract requires.
 pub shown_started : (b : ChildrenState) (job : Job) (role : Role) (number : ℕ) (paths : Paths) (answer : StartAnswer) → count_in job.position b ≡ 0 → (k : ℕ) (r : Role)
     → shown_in (state_after_start b (spawned (limit_of job role) (case_of job role number paths)) answer) k r ≡ running_after_start (shown_in b) job role answer k r
 shown_started b job role number paths (RefusedFor cause) free k r = refl
@@ -45,19 +45,19 @@ shown_started b job role number paths (StartedAt moment) free k r =
     let c = case_of job role number paths in
     ap (λ t. shown_at t k r) (cases_more b.children (spawned (limit_of job role) c)) ∙ shown_append (cases_of b.children) c k r (omega (arith, free))
 
--- after a case was taken
+-- The invariant is true after a pending case was removed.
 pub state_taken : (children : List Watched) (pending pending' : List Case) (p : ℕ) (c : Case)
     → IsChildrenState children pending → slice_get pending p ≡ Some c → pending' ≡ remove pending p → IsChildrenState children pending'
 state_taken children pending pending' p c b at e =
     rw e (record { on = b.on; once = λ i. omega (arith, times_less position i pending p c at, b.once i) })
 
--- the position of the case that was taken is free
+-- The position of a removed pending case is free.
 pub free_taken : (cases pending : List Case) (p : ℕ) (c : Case) → ((i : ℕ) → count_at i cases + count_at i pending ≤ 1)
     → slice_get pending p ≡ Some c → count_at c.position cases + count_at c.position (remove pending p) ≡ 0
 free_taken cases pending p c once at =
     omega (arith, times_less position c.position pending p c at, ap one_if (same_number c.position), once c.position)
 
--- after an end
+-- The invariant is true after a child has finished.
 pub state_after : (children after children' : List Watched) (pending pending' : List Case) (p : ℕ) (k : Watched)
     → IsChildrenState children pending → cases_of after ≡ cases_of children → All IsOn after → slice_get after p ≡ Some k
     → children' ≡ remove after p → pending' ≡ pending_with k.case pending → IsChildrenState children' pending'
@@ -75,30 +75,30 @@ state_after children after children' pending pending' p k b same on at e q =
           );
     })
 
--- no case stands twice
+-- `Once b`: no two cases of `b` have the same position.
 abbrev pub Once : ChildrenState → Type 0
 Once b = (i : ℕ) → count_in i b ≤ 1
 
 module _ (old new : ChildrenState) (calls : List Call) (e : Ended) (once : Once old) (w : Left old calls e new) where
-  -- its case stands there once, and was shown
+  -- The finished child's position occurs once among the running children.
   few : count_at w.over.case.position (cases_of old.children) ≤ 1
   few = omega (arith, once w.over.case.position)
 
   over_shown : shown_in old w.over.case.position w.over.case.role ≡ Some (shown w.over.case)
   over_shown = shown_there (cases_of old.children) w.place w.over.case (waited_cases old new calls e w).1 few
 
-  -- the end is that of a child that ran
+  -- The record is that of a child that was running.
   pub waited_one : IsEvidence w.over.case.interface e.role e.evidence
       → (s : Shown) × (shown_in old e.position e.role ≡ Some s) × IsEvidence s.interface e.role e.evidence
   waited_one fits = (shown w.over.case, rw (w.left.8, w.left.9) over_shown, fits)
 
-  -- what runs after it
+  -- The running children after a wait are those that the scheduler's contract requires.
   pub waited_running : (k : ℕ) (r : Role) → shown_in new k r ≡ running_after_end (shown_in old) e k r
   waited_running k r =
       let at = waited_cases old new calls e w in
       rw (w.left.8, w.left.9) (ap (λ t. shown_at t k r) at.0 ∙ shown_remove (cases_of old.children) w.place w.over.case k r at.1 few)
 
-  -- and what is owed
+  -- The pending cleanups after a wait are those that the scheduler's contract requires.
   pub waited_pending : (k : ℕ) → is_among new.pending k ≡ pending_after_end (shown_in old) (is_among old.pending) e k
   waited_pending k =
       rw (w.left.8, w.left.9) (ap (λ t. is_among t k) w.pending ∙ among_owed (cases_of old.children) old.pending w.over.case k over_shown)

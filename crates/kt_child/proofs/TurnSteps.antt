@@ -1,4 +1,4 @@
--- One turn, poll by poll.
+-- Lemmas on one turn, poll by poll.
 use Rattle.std.proofs.Common.{◌≡◌, ℕ, zero, suc, ◌+◌, ◌<◌, List, [], ◌∷◌, ◌++◌, length, take, Bool, Result, refl, sym, ◌∙◌, ap, add-one, append_assoc, append-nil}
 use Rattle.kt_child.proofs.Common.{set, take_more, Child, All, All-get_or, slice_get-get_or, Outcome, Polled, OsFault, Watch, AfterPoll, More, Watched, Chain, Call, child_of, asked_by_poll, after_poll, watch_after, IsOn, PolledAll, PolledUntil, advanced, advanced_below}
 use Rattle.std.proofs.Math.ListN.{get_or}
@@ -7,7 +7,7 @@ use Rattle.kt_child.specs.declared.polling.AfterPoll.TheVariants.{Ended}
 use Rattle.kt_child.proofs.Chains.{chain_append}
 use Rattle.kt_child.proofs.Outcomes.{ends_so}
 
--- a child that wasn't polled yet is as it was
+-- A child that was not polled yet is unchanged.
 pub watched_at : (i : ℕ) (s : List Watched) (d : Watched) → get_or (advanced_below i s) i d ≡ get_or s i d
 watched_at zero s d = refl
 watched_at (suc i) [] d = refl
@@ -19,7 +19,8 @@ set_next zero (k ∷ s) d = refl
 set_next (suc i) [] d = refl
 set_next (suc i) (k ∷ s) d = ap (λ t. advanced k ∷ t) (set_next i s d)
 
--- one poll of a child, by the name that its case has
+-- `OnePoll leads now new turn name k`: one poll of the child `k` by its name, with the state
+-- `turn`.
 abbrev pub OnePoll : {O : Type 0} → (O → Call → O → Type 0) → O → O → AfterPoll → Child → Watched → Type 0
 OnePoll leads now new turn name k =
     (answer : Result Polled OsFault) × (done : Bool)
@@ -42,7 +43,7 @@ polled_snoc (j ∷ ks) k xs answer done (a, d, more, eq, went, rest) e =
       polled_snoc ks k more answer done rest e,
     )
 
--- a turn over the children of `init`, at the place of one of them
+-- For a turn over the children of `init`, at the index `i`.
 module _ (init children : List Watched) (i : ℕ) (d : Watched) (lt : i < length init) (e : children ≡ advanced_below i init) where
   pub step_more : {O : Type 0} (leads : O → Call → O → Type 0) (start now new : O) (name : Child) → name ≡ child_of (get_or children i d).case
       → (calls : List Call) × Chain leads start calls now × PolledAll (take i init) calls
@@ -68,7 +69,7 @@ module _ (init children : List Watched) (i : ℕ) (d : Watched) (lt : i < length
       let both = chain_append leads start now new calls ys chain o.2 in
       (calls ++ ys, both, (calls, ys, refl, polled, rw (slice_get-get_or init i d lt) (o.0, o.1, refl, sym o.3, yields)))
 
-  -- whatever is read beyond the list
+  -- The child at index `i` doesn't depend on the default element.
   pub same_at : (f : Watched) → get_or children i d ≡ get_or children i f
   same_at f = rw (e, watched_at i init d, watched_at i init f) (get_or_default init i d f lt)
 

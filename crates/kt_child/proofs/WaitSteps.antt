@@ -1,9 +1,9 @@
--- Whole turns, one after the other.
+-- Lemmas on a sequence of whole turns.
 use Rattle.std.proofs.Common.{◌≡◌, ℕ, ◌+◌, ◌*◌, ◌-◌, List, [], ◌∷◌, ◌++◌, length, map, Bool, refl, ap, append_assoc}
 use Rattle.kt_child.proofs.Common.{Outcome, Watched, Chain, Call, Pause, PolledAll, PolledUntil, WaitedOn, advanced, advanced_below, last_turn, whole_turn}
 use Rattle.kt_child.proofs.Chains.{chain_append}
 
--- the polls that a child has left, and the first of these children
+-- `polls_left k`: the number of polls until the child `k` has finished at the latest.
 abbrev polls_left : Watched → ℕ
 polls_left k = (100 * k.limit - k.watch.before) + (500 - k.watch.after)
 
@@ -15,7 +15,7 @@ pub all_advanced : (s : List Watched) → advanced_below (length s) s ≡ map ad
 all_advanced [] = refl
 all_advanced (k ∷ s) = ap (λ t. advanced k ∷ t) (all_advanced s)
 
--- what is known after some turns: whatever the rest of the wait is, it is the rest of the whole wait
+-- `Waiting leads start init now children`: after some turns, the rest of a wait completes it.
 abbrev pub Waiting : {O : Type 0} → (O → Call → O → Type 0) → O → List Watched → O → List Watched → Type 0
 Waiting leads start init now children =
     (calls : List Call) × Chain leads start calls now

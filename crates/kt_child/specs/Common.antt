@@ -1,4 +1,4 @@
--- The words that the clauses of this crate cite, passed on from one place. Declares nothing.
+-- The names that the clauses of this crate cite, re-exported. Declares nothing.
 pub use Rattle.std.specs.IoError.{error_kind}
 pub use Rattle.std.specs.Process.{SameDir, SameEnv, SameOtherVars, SameProgramAndArgs, clears_env, command_args, command_program, command_var, status_bits}
 pub use Rattle.std.specs.Str.{chars}

@@ -1,4 +1,4 @@
--- The driver: it starts children, waits for them and asks for lists.
+-- The driver: starts children, waits for them and lists test cases.
 pub mod Board
 pub mod ChildrenState
 pub mod DriverSteps

@@ -1,4 +1,4 @@
--- What is read of a child that is over, and what is removed.
+-- The reads and the removal after a child has finished.
 pub mod Ends
 pub mod Gathering
 pub mod Parts

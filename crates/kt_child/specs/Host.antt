@@ -1,4 +1,4 @@
--- The system of the host.
+-- The implementation of `Os` by the standard library.
 pub mod HostAnswers
 pub mod HostStands
 pub mod Lateness

@@ -1,2 +1,2 @@
--- What a child is given: its paths, words and environment, and its case.
+-- Plans of children: paths, arguments and environment.
 pub mod ChildPlan

@@ -1,4 +1,4 @@
--- How running children are watched, in turns of polls.
+-- Polls of the running children, in turns.
 pub mod ChildOutcome
 pub mod Polls
 pub mod Turns

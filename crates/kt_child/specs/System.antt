@@ -1,3 +1,3 @@
--- What is asked of the system: the trait, its values, and the clock.
+-- The interface to the system: the trait, its values, and the clock.
 pub mod Calls
 pub mod Moments

@@ -1,4 +1,5 @@
--- The board of a driver: its running children with what each has answered, the cases that are owed a cleanup, and the next number.
+-- The board of a driver: its running children with their responses, the cases with a pending
+-- cleanup, and the number of the next attempt.
 use Rattle.std.specs.Prelude.{◌≡◌, ℕ, ◌+◌, ◌-◌, ◌<◌, ◌^◌, ◌⊎◌, List, [], ◌∷◌, ◌++◌, Bool, Option, Some, None, Result, map, remove, slice_get}
 use Rattle.kt_child.specs.Types.{Body, Case, Chain, Cleanup, Ended, Job, OsFault, Outcome, Polled, Refused as RefusedFor, Role, StartAnswer, Started as StartedAt, Watched}
 use Rattle.kt_child.specs.declared.driving.driver.Driver.{Driver}
@@ -12,35 +13,40 @@ use Rattle.kt_child.specs.Driving.ChildrenState.{ChildrenState, pending_with}
 use Rattle.kt_child.specs.Driving.JobPlan.{case_of, limit_of, spawning_of}
 use Rattle.kt_child.specs.Driving.Starting.{Begun}
 
--- a running child: its case, its limit in seconds, and all that it has answered since its start
+-- A running child: its case, its timeout in seconds, and its responses since its start.
 pub record Alive : Type 0 where
   pub case : Case
   pub limit : ℕ
   pub heard : List Heard
 
--- the running children in the order of their start, the cases that are owed a cleanup, and the number of the next attempt
+-- A board: the running children in the order of their start, the cases with a pending cleanup, and
+-- the number of the next attempt.
 pub record Board : Type 0 where
   pub alive : List Alive
   pub owed : List Case
   pub next : ℕ
 
--- these children, with what each has answered, by its counters; `EndsFollow` says that it is all that was heard
+-- `alive_of children`: `children` with the responses that their poll counts represent. `EndsFollow`
+-- states that these are all responses.
 abbrev pub alive_of : List Watched → List Alive
 alive_of children = map (λ k. record { case = k.case; limit = k.limit; heard = answered k.limit k.watch }) children
 
--- the board of these children with a next number
+-- `board_of b next`: the board of the children `b` with the next attempt number `next`.
 abbrev pub board_of : ChildrenState → ℕ → Board
 board_of b next = record { alive = alive_of b.children; owed = b.pending; next = next }
 
+-- `board d`: the board of the driver `d`.
 abbrev pub board : {O : Type 0} → Driver O → Board
 board d = board_of d.running d.next
 
--- a number is taken, if one is left
+-- `TakesNumber old number new`: the counter `old` gives `number` and becomes `new`. `number` is
+-- `None` if the counter is at its maximum.
 abbrev pub TakesNumber : ℕ → Option ℕ → ℕ → Type 0
 TakesNumber old None new = (old ≡ 2 ^ 64 - 1) × (new ≡ old)
 TakesNumber old (Some number) new = (old < 2 ^ 64 - 1) × (number ≡ old) × (new ≡ old + 1)
 
--- The case of a start, below the root directory: a body takes the next number, a cleanup the case that is owed it.
+-- `TakesCase root old job role c new`: `c` is the case of a start on the board `old`, which becomes
+-- `new`. A body gets the next attempt number, and a cleanup the pending case.
 abbrev pub TakesCase : List ℕ → Board → Job → Role → Case → Board → Type 0
 TakesCase root old job Body c new =
     TakesNumber old.next (Some c.attempt) new.next × (new.owed ≡ old.owed) × (c ≡ case_of job Body old.next (paths_of root old.next))
@@ -48,26 +54,28 @@ TakesCase root old job Cleanup c new =
     (place : ℕ) × (owed : Case) × (slice_get old.owed place ≡ Some owed) × (owed.position ≡ job.position)
     × (new.next ≡ old.next) × (new.owed ≡ remove old.owed place) × (c ≡ case_of job Cleanup owed.attempt owed.paths)
 
--- a started child is the last of the running ones, and has answered nothing yet
+-- `alive_after alive job c result`: the running children after a start with this result. A started
+-- child is the last, without responses.
 abbrev pub alive_after : List Alive → Job → Case → StartAnswer → List Alive
 alive_after alive job c (StartedAt moment) = alive ++ record { case = c; limit = limit_of job c.role; heard = [] } ∷ []
 alive_after alive job c (RefusedFor cause) = alive
 
--- for programs in the directory `source`, and work directories below `root`
+-- `source` is the directory of the root Kyuafile, and `root` that of all attempts.
 module _ (source root : List ℕ) where
-  -- A start of a job's child: it takes its case and begins it. A body for which no number is left is refused.
+  -- `Starts old job role calls result new`: `calls` start a child of `job` with this result, from
+  -- the board `old` to `new`. A body is refused if no attempt number is left.
   abbrev pub Starts : Board → Job → Role → List Call → StartAnswer → Board → Type 0
   Starts old job role calls answer new =
       ((role ≡ Body) × (old.next ≡ 2 ^ 64 - 1) × (answer ≡ RefusedFor Directory) × (calls ≡ []) × (new ≡ old))
       ⊎ ((c : Case) × TakesCase root old job role c new × Begun (spawning_of source job c) calls answer
       × (new.alive ≡ alive_after old.alive job c answer))
 
--- a child with one more answer
+-- `hears a response`: the child `a` with one more response.
 abbrev pub hears : Alive → Heard → Alive
 hears a answer = record { case = a.case; limit = a.limit; heard = a.heard ++ answer ∷ [] }
 
--- A call of a wait: the answer to a poll or a kill is heard by one child, whose name the call has; that to a pause is
--- heard by none. Which child that is follows from the names, of which no two are the same (IsApart of Numbers).
+-- `Hears old call new`: the result of `call` is a response of the child that `call` names. A pause
+-- concerns no child. Names are unique (`IsApart` of Numbers).
 pub data Hears : List Alive → Call → List Alive → Type 0 where
   polled : (a : Alive) (others : List Alive) (answer : Result Polled OsFault)
       → Hears (a ∷ others) (Poll (child_of a.case) answer) (hears a (HeardPoll answer) ∷ others)
@@ -76,12 +84,14 @@ pub data Hears : List Alive → Call → List Alive → Type 0 where
   later : (a : Alive) (others after : List Alive) (call : Call) → Hears others call after → Hears (a ∷ others) call (a ∷ after)
   paused : (alive : List Alive) (done : Bool) → Hears alive (Pause done) alive
 
--- after these calls the child at a place has ended: its outcome follows from all its answers (Yields)
+-- `IsOver old polls after place over outcome`: after `polls`, the child `over` at index `place` has
+-- finished. Its outcome follows from all its responses (`Yields`).
 abbrev pub IsOver : List Alive → List Call → List Alive → ℕ → Alive → Outcome → Type 0
 IsOver old polls after place over outcome =
     Chain Hears old polls after × (slice_get after place ≡ Some over) × Yields over.limit over.heard outcome
 
--- An end: a child has ended after its polls, what follows deals with its case, and it is on the board no more.
+-- `Ends old calls e new`: a child has finished after its polls, the calls after them create the
+-- record `e`, and the child is no longer on the board.
 pub record Ends (old : Board) (calls : List Call) (e : Ended) (new : Board) : Type 0 where
   pub polls : List Call
   pub leaving : List Call
@@ -95,8 +105,9 @@ pub record Ends (old : Board) (calls : List Call) (e : Ended) (new : Board) : Ty
   pub owed : new.owed ≡ pending_with over.case old.owed
   pub next : new.next ≡ old.next
 
--- the same wait twice: on the board, where names find a child (Ends), and in the list, where places do (WaitedOn); the polls, the place and
--- the outcome are the same, and the child at that place is kept no more
+-- `Waited children old calls e left new`: one wait in two views, with the same polls, index and
+-- outcome. `Ends` finds a child of the board by its name. `WaitedOn` finds it in `children` by its
+-- index, and `left` are the others.
 abbrev pub Waited : List Watched → Board → List Call → Ended → List Watched → Board → Type 0
 Waited children old calls e left new =
     (end : Ends old calls e new) × (after : List Watched) × WaitedOn children end.polls end.place e.outcome after × (left ≡ remove after end.place)

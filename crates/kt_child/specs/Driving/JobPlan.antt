@@ -1,4 +1,4 @@
--- What a child is started for, and with.
+-- Purposes of children, and plans of their starts.
 use Rattle.std.specs.Prelude.{ℕ, List, [], ◌++◌, codes, if◌then◌else◌, false}
 use Rattle.kt_child.specs.Types.{Atf, Body, Case, Cleanup, Job, Paths, Role, Spawning, Variable, Want}
 use Rattle.kt_base.specs.Texts.{is_empty}
@@ -7,20 +7,22 @@ use Rattle.kt_child.specs.declared.planning.Want.TheVariants.{List as Listing, B
 use Rattle.kt_child.specs.Planning.ChildPlan.{child_of, env_of, paths_of, words_of}
 use Rattle.kt_child.specs.Ending.Ends.{err_of, out_of}
 
--- the absolute path of a program, by the directory of the root Kyuafile
+-- `program_path source program`: the absolute path of `program`. `source` is the directory of the
+-- root Kyuafile.
 abbrev pub program_path : List ℕ → List ℕ → List ℕ
 program_path source program = source ++ codes "/" ++ program
 
--- the directory of an absolute path, `/` directly below it
+-- `program_directory path`: the directory of the absolute path `path`, or `/` if `path` is directly
+-- below it.
 abbrev pub program_directory : List ℕ → List ℕ
 program_directory path = if is_empty (parent_of path) then codes "/" else parent_of path
 
--- the limit of a job's child, in seconds
+-- `limit_of job role`: the timeout of `job`'s child, in seconds.
 abbrev pub limit_of : Job → Role → ℕ
 limit_of job Body = job.timeout
 limit_of job Cleanup = 60
 
--- what a child of a case is started for, with its limit in seconds
+-- A purpose of a child, with its program, variables and case, and its timeout in seconds.
 pub record Purpose : Type 0 where
   pub want : Want
   pub program : List ℕ
@@ -28,21 +30,22 @@ pub record Purpose : Type 0 where
   pub case_name : List ℕ
   pub limit : ℕ
 
--- what a job's child is started for
+-- `want_of role`: the part of the test program that runs for `role`.
 abbrev pub want_of : Role → Want
 want_of Body = BodyOf
 want_of Cleanup = CleanupOf
 
--- a child of a job
+-- `job_purpose job role`: the purpose of `job`'s child in `role`.
 abbrev pub job_purpose : Job → Role → Purpose
 job_purpose job role =
     record { want = want_of role; program = job.program; variables = job.vars; case_name = job.case_name; limit = limit_of job role }
 
--- the list of an ATF program
+-- `list_purpose program variables`: the purpose of a child that lists the cases of `program`.
 abbrev pub list_purpose : List ℕ → List Variable → Purpose
 list_purpose program variables = record { want = Listing; program = program; variables = variables; case_name = []; limit = 300 }
 
--- what the child of a case is started with, by the directory of the root Kyuafile
+-- `spawning_for source p c`: the plan of a child's start for the purpose `p` and the case `c`.
+-- `source` is the directory of the root Kyuafile.
 abbrev pub spawning_for : List ℕ → Purpose → Case → Spawning
 spawning_for source p c =
     record {
@@ -57,15 +60,16 @@ spawning_for source p c =
       err = err_of c.role c.paths;
     }
 
--- what a job's child is started with
+-- `spawning_of source job c`: the plan of a start of `job`'s child for the case `c`.
 abbrev pub spawning_of : List ℕ → Job → Case → Spawning
 spawning_of source job c = spawning_for source (job_purpose job c.role) c
 
--- the case of a list that takes this number
+-- `list_case root number`: the case of a list with the attempt number `number`.
 abbrev pub list_case : List ℕ → ℕ → Case
 list_case root number = record { position = 0; attempt = number; role = Body; interface = Atf; cleanup = false; paths = paths_of root number }
 
--- the case of a job's child, by the number and the paths of its body's start
+-- `case_of job role number paths`: the case of `job`'s child in `role`. `number` and `paths` are
+-- those of its body.
 abbrev pub case_of : Job → Role → ℕ → Paths → Case
 case_of job role number paths =
     record { position = job.position; attempt = number; role = role; interface = job.interface; cleanup = job.cleanup; paths = paths }

@@ -9,44 +9,46 @@ use Rattle.kt_child.specs.Driving.ChildrenState.{idle_state}
 use Rattle.kt_child.specs.Driving.DriverSteps.{DriverLists, DriverStarts, DriverWaits}
 use Rattle.kt_child.specs.Driving.Runs.{Runs}
 
--- what is asked of a driver, with its answer
+-- A request to a driver, with its result.
 pub data Request : Type 0 where
   Start : (job : Job) (role : Role) (answer : StartAnswer) → Request
   Wait : (ended : Ended) → Request
   ListOf : (program : List ℕ) (variables : List Variable) (answer : Listing) → Request
 
--- whether a request is an attempt, which takes a number
+-- `is_attempt request`: `request` is an attempt, which uses a number.
 abbrev pub is_attempt : Request → Bool
 is_attempt (Start job Body answer) = true
 is_attempt (ListOf program variables answer) = true
 is_attempt request = false
 
--- a request leads a driver from one state to another
+-- `Serves leads d request e`: `request` may take the driver from the state `d` to `e`.
 abbrev pub Serves : {O : Type 0} → (O → Call → O → Type 0) → Driver O → Request → Driver O → Type 0
 Serves leads d (Start job role answer) e = DriverStarts leads d job role answer e
 Serves leads d (Wait ended) e = DriverWaits leads d ended e
 Serves leads d (ListOf program variables answer) e = DriverLists leads d program variables answer e
 
--- requests lead a driver from one state to another, one after the other
+-- `ServesAll leads d requests e`: `requests`, in order, may take the driver from `d` to `e`.
 abbrev pub ServesAll : {O : Type 0} → (O → Call → O → Type 0) → Driver O → List Request → Driver O → Type 0
 ServesAll leads d [] e = e ≡ d
 ServesAll {O} leads d (request ∷ requests) e = (mid : Driver O) × Serves leads d request mid × ServesAll leads mid requests e
 
--- whatever is asked for after an attempt, the next number is above that attempt's: no two attempts have the same
+-- `AttemptsDiffer leads`: after an attempt and any further requests, the next number is higher than
+-- the number of that attempt. So no two attempts have the same number.
 abbrev pub AttemptsDiffer : {O : Type 0} → (O → Call → O → Type 0) → Type 0
 AttemptsDiffer {O} leads =
     (attempt : Request) (requests : List Request) (d e f : Driver O)
     → is_attempt attempt ≡ true → d.next < 2 ^ 64 - 1 → Serves leads d attempt e → ServesAll leads e requests f → d.next < f.next
 
--- the numbers of the cases that run or are owed a cleanup
+-- `numbers b`: the attempt numbers of the cases with a running child or a pending cleanup.
 abbrev pub numbers : Board → List ℕ
 numbers b = map (λ a. a.case.attempt) b.alive ++ map (λ c. c.attempt) b.owed
 
--- each of them stands there once, and is below the next one: so no two children on a board have the same name
+-- `IsApart b`: each attempt number occurs at most once on the board `b` and is lower than the next
+-- number. So no two children on a board have the same name.
 abbrev pub IsApart : Board → Type 0
 IsApart b = (n : ℕ) → (times n (numbers b) ≤ 1) × (b.next ≤ n → times n (numbers b) ≡ 0)
 
--- that is so on each board that a trace leads to from one where nothing runs
+-- `NumbersDiffer`: `IsApart` is true of each board that a trace reaches from an idle board.
 abbrev pub NumbersDiffer : Type 0
 NumbersDiffer =
     (plan : List Job) (source root : List ℕ) (next : ℕ) (T : Trace) (calls : List Call) (b : Board)

@@ -6,17 +6,18 @@ use Rattle.kt_child.specs.declared.driving.driver.DriverFault.{DriverFault}
 use Rattle.kt_child.specs.declared.driving.driver.DriverFault.TheVariants.{NoMemory, NoWorkDirectory}
 use Rattle.kt_child.specs.System.Calls.{Call, MakeDir}
 
--- a root directory by its number
+-- `root_of base number`: the root directory with the number `number` below `base`.
 abbrev pub root_of : List ℕ → ℕ → List ℕ
 root_of base number = base ++ codes "/kyua." ++ decimal number
 
--- the first n roots can't be made, whatever the faults
+-- `FailedRoots base n calls`: `calls` fail to create the first `n` root directories.
 abbrev pub FailedRoots : List ℕ → ℕ → List Call → Type 0
 FailedRoots base zero calls = calls ≡ []
 FailedRoots base (suc n) calls =
     (before : List Call) × (fault : OsFault) × FailedRoots base n before × (calls ≡ before ++ MakeDir (root_of base n) (Err fault) ∷ [])
 
--- the least of 1000 roots that can be made; where memory is refused, the roots before could not be made
+-- `FindsRoot base calls result`: `calls` create the first root directory of 1,000 that can be
+-- created. If an allocation fails, the calls before it have failed to create the earlier ones.
 abbrev pub FindsRoot : List ℕ → List Call → Result (List ℕ) DriverFault → Type 0
 FindsRoot base calls (Ok root) =
     (n : ℕ) × (n < 1000) × (failed : List Call) × FailedRoots base n failed
@@ -24,7 +25,7 @@ FindsRoot base calls (Ok root) =
 FindsRoot base calls (Err (NoMemory refusal)) = (n : ℕ) × (n < 1000) × FailedRoots base n calls
 FindsRoot base calls (Err NoWorkDirectory) = FailedRoots base 1000 calls
 
--- the words of a fault, as its line has them
+-- `driver_words fault`: the text of the error message.
 abbrev pub driver_words : DriverFault → List ℕ
 driver_words (NoMemory refusal) = codes "out of memory"
 driver_words NoWorkDirectory = codes "no work directory"

@@ -1,4 +1,4 @@
--- What follows the last poll of a child.
+-- The calls after the last poll of a child.
 use Rattle.std.specs.Prelude.{◌≡◌, ◌≤◌, ℕ, Bool, true, false, ◌&&◌, List, [], ◌∷◌, ◌++◌, length, Result, if◌then◌else◌}
 use Rattle.kt_child.specs.Types.{Body, Case, Cleanup, Ended, FileRead, OsFault, Outcome, Paths, Role}
 use Rattle.kt_sched.specs.Children.{same_role}
@@ -7,27 +7,28 @@ use Rattle.kt_child.specs.System.Moments.{moment_of}
 use Rattle.kt_child.specs.Ending.Reads.{bytes_of}
 use Rattle.kt_child.specs.Ending.Gathering.{Gathers}
 
--- the file of a child's output
+-- `out_of role paths`: the file for the standard output of a child in `role`.
 abbrev pub out_of : Role → Paths → List ℕ
 out_of Body paths = paths.out
 out_of Cleanup paths = paths.cleanup_out
 
--- the file of a child's errors
+-- `err_of role paths`: the file for the standard error of a child in `role`.
 abbrev pub err_of : Role → Paths → List ℕ
 err_of Body paths = paths.err
 err_of Cleanup paths = paths.cleanup_err
 
--- the case is over with the end of this child: no cleanup follows
+-- `is_over c`: the case `c` is finished when its current child ends, so no cleanup follows.
 abbrev pub is_over : Case → Bool
 is_over c = if same_role c.role Body && c.cleanup then false else true
 
--- a directory is removed, or nothing is asked
+-- `Removes removed dir calls`: `calls` remove `dir` if `removed` is `true`, and otherwise are none.
 abbrev pub Removes : Bool → List ℕ → List Call → Type 0
 Removes true dir calls = (done : Bool) × (calls ≡ RemoveTree dir done ∷ [])
 Removes false dir calls = calls ≡ []
 
--- The moment is asked, then the evidence is read, then the output and the errors, and then comes the removal; the end
--- follows from their answers, with no more than 1,048,576 bytes of each output.
+-- `Leaves c calls outcome e`: `calls` create the record `e` of a finished child of `c`. They read
+-- the clock, the evidence, the output and the errors, in that order, and remove the directory. At
+-- most 1,048,576 bytes of each output are read.
 abbrev pub Leaves : Case → List Call → Outcome → Ended → Type 0
 Leaves c calls outcome e =
     (now : Result ℕ OsFault) × (reads : List Call) × (out : Result FileRead OsFault) × (err : Result FileRead OsFault) × (last : List Call)

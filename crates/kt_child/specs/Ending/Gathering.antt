@@ -1,4 +1,4 @@
--- The evidence that a child left.
+-- The evidence of a finished child.
 use Rattle.std.specs.Prelude.{◌≡◌, ℕ, List, [], ◌⊎◌}
 use Rattle.kt_child.specs.Types.{Body, Cleanup, Interface, Paths, Role}
 use Rattle.kt_base.specs.declared.child.Interface.TheVariants as interface
@@ -17,28 +17,32 @@ use Rattle.kt_child.specs.declared.ending.ReadEnd.{ReadEnd}
 use Rattle.kt_child.specs.declared.ending.ReadEnd.TheVariants.{Missing, Unreadable, TooLong, Complete}
 use Rattle.kt_child.specs.Ending.Parts.{Reads}
 
--- The claim of a result file whose reading ended so, with these bytes. Where memory is refused it counts as a file that can't be read.
+-- `IsClaim end bytes found`: `found` is the claim of a result file with the bytes `bytes`, if its
+-- read ended as `end`. If an allocation fails, the file counts as unreadable.
 abbrev pub IsClaim : ReadEnd → List ℕ → Claim → Type 0
 IsClaim Missing bytes found = found ≡ claim.Missing
 IsClaim Unreadable bytes found = found ≡ claim.Unreadable
 IsClaim TooLong bytes found = found ≡ claim.Malformed claim_fault.TooLong
 IsClaim Complete bytes found = (found ≡ claim.Unreadable) ⊎ IsClaimOf bytes found
 
--- What an output that was read so says, as a TAP stream. Where memory is refused it counts as one that can't be read.
+-- `IsTap end bytes found`: `found` is the meaning of an output with the bytes `bytes` as a TAP
+-- stream, if its read ended as `end`. If an allocation fails, the output counts as unreadable.
 abbrev pub IsTap : ReadEnd → List ℕ → Tap → Type 0
 IsTap TooLong bytes found = found ≡ tap.Invalid tap_fault.TooLong
 IsTap Complete bytes found = (found ≡ tap.Invalid tap_fault.Unreadable) ⊎ (found ≡ tap_of bytes)
 IsTap end bytes found = found ≡ tap.Invalid tap_fault.Unreadable
 
--- a result file was read, and claims this
+-- `ReadsClaim path calls found`: `calls` read the result file at `path`, and `found` is its claim.
 abbrev pub ReadsClaim : List ℕ → List Call → Claim → Type 0
 ReadsClaim path calls found = (end : ReadEnd) × (bytes : List ℕ) × Reads path 4096 65536 [] calls end bytes × IsClaim end bytes found
 
--- an output was read as a TAP stream, and says this
+-- `ReadsTap path calls found`: `calls` read the output at `path`, and `found` is its meaning as a
+-- TAP stream.
 abbrev pub ReadsTap : List ℕ → List Call → Tap → Type 0
 ReadsTap path calls found = (end : ReadEnd) × (bytes : List ℕ) × Reads path 65536 16777216 [] calls end bytes × IsTap end bytes found
 
--- an ATF body leaves its result file, a TAP body its output; of other children nothing is asked
+-- `Gathers interface role paths calls left`: `calls` read the evidence `left`: the result file of
+-- an ATF body, or the output of a TAP body. There are no calls for other children.
 abbrev pub Gathers : Interface → Role → Paths → List Call → Evidence → Type 0
 Gathers kind Cleanup paths calls left = (calls ≡ []) × (left ≡ evidence.Plain)
 Gathers interface.Atf Body paths calls left = (found : Claim) × ReadsClaim paths.result calls found × (left ≡ evidence.Atf found)

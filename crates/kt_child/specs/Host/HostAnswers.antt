@@ -1,4 +1,4 @@
--- What the host may answer, whatever the system does.
+-- The possible results of the host's calls.
 use Rattle.std.specs.Prelude.{◌≡◌, ◌≢◌, ◌≤◌, ◌/◌, ◌%◌, ◌==◌, ◌<◌, ℕ, List, length, take, true, false, Some, None, IfSome, IsSome, IsSomeAnd, ◌+◌, ◌⊎◌, Bool, Option, Result, Ok, Err}
 use Rattle.std.specs.Process.{status_bits}
 use Rattle.std.specs.IoError.{error_kind}
@@ -10,39 +10,43 @@ use Rattle.kt_child.specs.Host.HostStands.{Stand, Proceeds, AllProceed, AllStay,
 use Rattle.kt_child.specs.Ending.Reads.{IsReadWithin}
 use Rattle.kt_child.specs.System.Calls.{Call, SetLimit, OpenOutput, Spawn, Poll, Kill, Pause, ReadFile, ReadPart}
 
--- where more bytes follow, a read has as many as its limit
+-- `IsFilled limit result`: a read after which more bytes follow returns exactly `limit` bytes.
 abbrev pub IsFilled : ℕ → Result FileRead OsFault → Type 0
 IsFilled limit (Ok (Part bytes true)) = length bytes ≡ limit
 IsFilled limit answer = Unit {0}
 
--- a file is missing only if an error of the system says so
+-- `IsSaidMissing result`: a file is `Missing` only if an error of the system has the kind
+-- `NotFound`.
 abbrev pub IsSaidMissing : Result FileRead OsFault → Type 0
 IsSaidMissing (Ok Missing) = (error : Error) × (error_kind error ≡ NotFound)
 IsSaidMissing answer = Unit {0}
 
--- a read with this limit returns no more bytes, and exactly this many if more follow
+-- `IsHostRead limit result`: a read returns at most `limit` bytes, and exactly `limit` if more
+-- follow.
 abbrev pub IsHostRead : ℕ → Result FileRead OsFault → Type 0
 IsHostRead limit answer = IsReadWithin limit answer × IsFilled limit answer × IsSaidMissing answer
 
--- A read with this limit of a file that has these bytes left: the first of them, as many as the limit, and whether more
--- follow.
+-- `IsFront limit xs result`: a read of a file with the remaining bytes `xs` returns their first
+-- `limit`, and whether more follow.
 abbrev pub IsFront : ℕ → List ℕ → Result FileRead OsFault → Type 0
 IsFront limit xs (Err _) = Unit {0}
 IsFront limit xs (Ok Missing) = ⊥
 IsFront limit xs (Ok (Part bytes true)) = (bytes ≡ take limit xs) × (limit < length xs)
 IsFront limit xs (Ok (Part bytes false)) = (bytes ≡ xs) × (length xs ≤ limit)
 
--- no more than this many bytes were taken of a file whose bytes are known
+-- `TakesAtMost limit left rest`: at most `limit` bytes of a file were consumed, if its remaining
+-- bytes are known.
 abbrev pub TakesAtMost : ℕ → Option (List ℕ) → Option (List ℕ) → Type 0
 TakesAtMost limit left rest = IfSome left (λ xs. IsSomeAnd rest (λ ys. length xs ≤ length ys + limit))
 
--- a read of a file that was opened never reports a missing file
+-- `IsOpened result`: the result of a read of an opened file, which is never `Missing`.
 abbrev pub IsOpened : Result FileRead OsFault → Type 0
 IsOpened (Ok Missing) = ⊥
 IsOpened answer = Unit {0}
 
--- The meaning of a wait status: its low 7 bits are 0 if the child exited, and the next 8 are its exit code; else they are
--- the signal that ended it, or 127 if it has not ended. The bit above them says whether a core was dumped.
+-- `IsPolledOf bits result`: the meaning of the wait status `bits` (wait(2)). If its low 7 bits are
+-- 0, the child exited, and bits 8 to 15 are the exit status. Otherwise they are the signal that
+-- ended the child, or 127 if the child has not ended. Bit 7 reports a core dump.
 abbrev pub IsPolledOf : ℕ → Result Polled OsFault → Type 0
 IsPolledOf bits (Ok Running) = ⊥
 IsPolledOf bits (Ok (Exited code)) = (bits % 128 ≡ 0) × (code ≡ bits / 256 % 256)
@@ -50,24 +54,27 @@ IsPolledOf bits (Ok (Signaled signal core)) =
     (signal ≡ bits % 128) × (bits % 128 ≢ 0) × (bits % 128 ≢ 127) × (core ≡ (bits / 128 % 2 == 1))
 IsPolledOf bits (Err _) = bits % 128 ≡ 127
 
--- The end of a child follows from the status of its process: the one that a pause saw, if one did. It is then the last
--- child whose end was reported, and no longer among the children.
+-- `TellsEnd child old result new IsLast`: the end of `child` follows from the wait status of its
+-- process. If a pause found the end, it is that status. The child is then the last whose end was
+-- reported, and no longer among the children.
 abbrev pub TellsEnd : Child → (Child → Stand) → Result Polled OsFault → (Child → Stand) → (Child → ExitStatus → Type 0) → Type 0
 TellsEnd child old answer new IsLast =
     (status : ExitStatus) × IsSome (old child) × Proceeds (old child) (Some (Some status)) × IsPolledOf (status_bits status) answer
     × IsLast child status × (new child ≡ None) × OthersStay child old new
 
--- A child is reported as running only if it has a process, and, unless some child was late, nobody has seen its end. A poll
--- that fails may forget it.
+-- `HostPolls child old result new IsLast late`: the result of a poll. A child is reported as
+-- running only if it has a process. No end of it was found, unless some child was late. A failed
+-- poll may remove the child.
 abbrev pub HostPolls : Child → (Child → Stand) → Result Polled OsFault → (Child → Stand) → (Child → ExitStatus → Type 0) → Option Bool → Type 0
 HostPolls child old (Ok Running) new IsLast late = IsSome (old child) × (late ≢ Some true → old child ≡ Some None) × AllStay old new
 HostPolls child old (Err fault) new IsLast late = (Proceeds (old child) (new child) ⊎ (new child ≡ None)) × OthersStay child old new
 HostPolls child old answer new IsLast late = TellsEnd child old answer new IsLast
 
--- An answer of the host, by how its children stand before and after, and the last end that was reported. A child for which
--- an output is opened has no process then; a start gives it one, and a start that fails leaves none; only a child with a
--- process is killed; a pause may see ends; a read keeps to its limit. The last argument says whether some child was late.
--- Nothing is said of a moment, nor of an answer that says only whether the system did the call.
+-- `HostLeads old call new IsLast late`: `call` may take the children from the states `old` to
+-- `new`. `IsLast` is the last end that was reported, and `late` is whether some child was late. A
+-- child whose output is opened has no process, and a failed start leaves no process. Only a child
+-- with a process is killed, and a pause may find ends. Times are not specified, nor is the success
+-- of other calls.
 abbrev pub HostLeads : (Child → Stand) → Call → (Child → Stand) → (Child → ExitStatus → Type 0) → Option Bool → Type 0
 HostLeads old (OpenOutput child path answer) new IsLast late = (new child ≡ None) × OthersStay child old new
 HostLeads old (Spawn child program words env dir (Ok done)) new IsLast late = IsSome (new child) × OthersStay child old new
@@ -79,7 +86,7 @@ HostLeads old (ReadFile path limit answer) new IsLast late = IsHostRead limit an
 HostLeads old (ReadPart path from limit answer) new IsLast late = IsHostRead limit answer × AllStay old new
 HostLeads old call new IsLast late = AllStay old new
 
--- The limit that is set for the next child, after an answer: the one that was set last.
+-- `limit_after call old`: the timeout of the next child after `call`, as it was last set.
 abbrev pub limit_after : Call → ℕ → ℕ
 limit_after (SetLimit child limit) old = limit
 limit_after call old = old

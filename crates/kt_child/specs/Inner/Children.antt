@@ -1,55 +1,62 @@
--- The children of a driver, as private functions keep and poll them.
+-- Definitions for the private functions on running children.
 use Rattle.std.specs.Prelude.{map, ℕ, ◌==◌, Bool, true, false, ◌≡◌, ◌+◌, ◌≤◌, List, [], ◌∷◌, All, ◌*◌, ◌<◌, ◌++◌}
 use Rattle.kt_child.specs.Types.{Case, Refused as RefusedFor, StartAnswer, Started as StartedAt, Watch, Watched}
 use Rattle.kt_child.specs.Driving.ChildrenState.{ChildrenState, cases_of}
 
--- a child that is not over: fewer than 100 polls a second of its limit before a kill, fewer than 500 after it
+-- `IsShort killed limit before after`: the poll counts of a running child: fewer than 100 polls for
+-- each second of `limit` before a kill, and fewer than 500 after it.
 abbrev pub IsShort : Bool → ℕ → ℕ → ℕ → Type 0
 IsShort true limit before after = after < 500
 IsShort false limit before after = (before < 100 * limit) × (after ≡ 0)
 
--- what is kept of a child with this limit in seconds that is not over
+-- `IsWatched limit w`: `w` has the poll counts of a running child with the timeout `limit`, in
+-- seconds.
 abbrev pub IsWatched : ℕ → Watch → Type 0
 IsWatched limit w = IsShort w.killed limit w.before w.after
 
--- what is kept of a child that isn't over, within the greatest limit
+-- `IsOnBy limit w`: `IsWatched limit w`, with a timeout of at most 1,000,000 seconds.
 abbrev pub IsOnBy : ℕ → Watch → Type 0
 IsOnBy limit w = IsWatched limit w × (limit ≤ 1000000)
 
+-- `IsOn k`: the child `k` is running, with a timeout of at most 1,000,000 seconds.
 abbrev pub IsOn : Watched → Type 0
 IsOn k = IsOnBy k.limit k.watch
 
--- a reader that has taken some bytes has taken these after them
+-- `TakesBytes has_taken old new bytes`: `new` is the reader `old` after `bytes` were fed to it.
 abbrev pub TakesBytes : {R : Type 0} → (R → List ℕ → Type 0) → R → R → List ℕ → Type 0
 TakesBytes has_taken old new bytes = (taken : List ℕ) → has_taken old taken → has_taken new (taken ++ bytes)
 
+-- `one_if b`: 1 if `b` is `true`, and otherwise 0.
 abbrev pub one_if : Bool → ℕ
 one_if true = 1
 one_if false = 0
 
--- how often a number stands among these
+-- `times n numbers`: the number of times that `n` occurs in `numbers`.
 abbrev pub times : ℕ → List ℕ → ℕ
 times n [] = 0
 times n (m ∷ numbers) = one_if (n == m) + times n numbers
 
--- how many of these cases have this position
+-- `count_at i cases`: the number of `cases` at the position `i`.
 abbrev pub count_at : ℕ → List Case → ℕ
 count_at i cases = times i (map (λ c. c.position) cases)
 
--- how many of the cases that run or are owed a cleanup have this position
+-- `count_in i b`: the number of cases at the position `i` with a running child or a pending
+-- cleanup.
 abbrev pub count_in : ℕ → ChildrenState → ℕ
 count_in i b = count_at i (cases_of b.children) + count_at i b.pending
 
--- each child is on, and no case stands there twice
+-- `IsChildrenState children pending`: each child is running, and no two cases have the same
+-- position.
 pub record IsChildrenState (children : List Watched) (pending : List Case) : Type 0 where
   pub on : All IsOn children
   pub once : (i : ℕ) → count_at i (cases_of children) + count_at i pending ≤ 1
 
--- the running children, with these cases that are owed a cleanup
+-- `with_pending b pending`: `b` with the pending cases `pending`.
 abbrev pub with_pending : ChildrenState → List Case → ChildrenState
 with_pending b pending = record { children = b.children; pending = pending }
 
--- a started child is the last of the running children
+-- `state_after_start b child result`: `b` after a start with this result. A started child is the
+-- last of the running children.
 abbrev pub state_after_start : ChildrenState → Watched → StartAnswer → ChildrenState
 state_after_start b child (StartedAt moment) = record { children = b.children ++ child ∷ []; pending = b.pending }
 state_after_start b child (RefusedFor cause) = b

@@ -1,4 +1,4 @@
--- What a driver's two ways to start a child say alike.
+-- The common contract of the two functions that start a child of a driver.
 use Rattle.std.specs.Prelude.{◌≡◌, ℕ}
 use Rattle.kt_child.specs.Types.{Job, Role, StartAnswer}
 use Rattle.kt_child.specs.declared.driving.driver.Driver.{Driver}
@@ -8,7 +8,8 @@ use Rattle.kt_child.specs.Driving.DriverSteps.{DriverStarts}
 use Rattle.kt_sched.specs.Children.{pending_after_start, running_after_start}
 use Rattle.kt_sched.specs.Trace.{HasMoment}
 
--- a start of a driver, its moment, and what it shows of the children that run and of the cleanups that are owed
+-- `IsStart leads old job role result new`: a start of a driver with its timestamp, and the running
+-- children and pending cleanups after it.
 pub record IsStart {O : Type 0} (leads : O → Call → O → Type 0) (old : Driver O) (job : Job) (role : Role) (answer : StartAnswer) (new : Driver O) : Type 0 where
   pub starts : DriverStarts leads old job role answer new
   pub moment : HasMoment answer

@@ -1,22 +1,22 @@
--- What a child is given: its paths, its environment and its words.
+-- Paths, environment and arguments of a child.
 use Rattle.std.specs.Prelude.{ℕ, List, [], ◌∷◌, ◌++◌, map, codes}
 use Rattle.std.specs.Fmt.{decimal}
 use Rattle.kt_child.specs.Types.{Atf, Case, Child, EnvPlan, Interface, Paths, Variable, Want}
 use Rattle.kt_child.specs.declared.planning.Want.TheVariants.{List as Listing, Body, Cleanup}
 
--- the name of a case's child
+-- `child_of c`: the name of the current child of the case `c`.
 abbrev pub child_of : Case → Child
 child_of c = record { attempt = c.attempt; role = c.role }
 
--- the directory of an attempt
+-- `attempt_dir root number`: the directory of the attempt `number` below `root`.
 abbrev pub attempt_dir : List ℕ → ℕ → List ℕ
 attempt_dir root number = root ++ codes "/" ++ decimal number
 
--- a name in the directory of an attempt
+-- `below root number name`: the path of `name` in the directory of the attempt `number`.
 abbrev pub below : List ℕ → ℕ → List ℕ → List ℕ
 below root number name = attempt_dir root number ++ codes "/" ++ name
 
--- the paths of an attempt
+-- `paths_of root number`: the paths of the attempt `number` below `root`.
 abbrev pub paths_of : List ℕ → ℕ → Paths
 paths_of root number =
     record {
@@ -29,11 +29,13 @@ paths_of root number =
       cleanup_err = below root number (codes "cleanup.err");
     }
 
--- the word that hands a variable to an ATF program
+-- `variable_word v`: the argument that passes the variable `v` to an ATF program.
 abbrev pub variable_word : Variable → List ℕ
 variable_word v = codes "-v" ++ v.name ++ codes "=" ++ v.value
 
--- the arguments of a program, by its interface and what it is started for
+-- `words_of interface want result source variables case_name`: the arguments of a program that is
+-- started for `want`. `result` is the path of the result file, and `source` the directory of the
+-- program.
 abbrev pub words_of : Interface → Want → List ℕ → List ℕ → List Variable → List ℕ → List (List ℕ)
 words_of Atf Listing result source variables case_name = map variable_word variables ++ codes "-l" ∷ []
 words_of Atf Body result source variables case_name =
@@ -42,30 +44,32 @@ words_of Atf Cleanup result source variables case_name =
     ((codes "-s" ++ source) ∷ []) ++ map variable_word variables ++ (case_name ++ codes ":cleanup") ∷ []
 words_of interface want result source variables case_name = []
 
--- a variable by its name and value
+-- `variable name value`: the variable `name` with the value `value`.
 abbrev pub variable : List ℕ → List ℕ → Variable
 variable name value = record { name = name; value = value }
 
--- the variables of the runner's environment that no child gets
+-- `removed_names`: the variables of the runner's environment that no child gets.
 abbrev pub removed_names : List (List ℕ)
 removed_names =
     codes "LANG" ∷ codes "LC_ALL" ∷ codes "LC_COLLATE" ∷ codes "LC_CTYPE" ∷ codes "LC_MESSAGES" ∷ codes "LC_MONETARY"
     ∷ codes "LC_NUMERIC" ∷ codes "LC_TIME" ∷ []
 
--- a variable of the suite, as a TAP or plain program sees it
+-- `test_variable v`: the suite's variable `v` as a TAP or plain program gets it.
 abbrev pub test_variable : Variable → Variable
 test_variable v = variable (codes "TEST_ENV_" ++ v.name) v.value
 
--- the variables that every child gets
+-- `common_variables work`: the variables that each child gets. `work` is its work directory.
 abbrev pub common_variables : List ℕ → List Variable
 common_variables work = variable (codes "TZ") (codes "UTC") ∷ variable (codes "HOME") work ∷ variable (codes "TMPDIR") work ∷ []
 
--- the variables that a child of an interface gets beside those
+-- `own_variables interface variables`: the other variables that a child of `interface` gets.
+-- `variables` are those of its suite.
 abbrev pub own_variables : Interface → List Variable → List Variable
 own_variables Atf variables = variable (codes "__RUNNING_INSIDE_ATF_RUN") (codes "internal-yes-value") ∷ []
 own_variables interface variables = map test_variable variables
 
--- the environment of a child, by its interface, its suite's variables and its work directory
+-- `env_of interface variables work`: the environment plan of a child, by its interface, its suite's
+-- variables and its work directory.
 abbrev pub env_of : Interface → List Variable → List ℕ → EnvPlan
 env_of interface variables work =
     record { removed = removed_names; set = common_variables work ++ own_variables interface variables }

@@ -1,23 +1,25 @@
--- The outcome of a child, by its own answers.
+-- The outcome of a child, by the results of its polls and its kill.
 use Rattle.std.specs.Prelude.{◌≡◌, ℕ, ◌*◌, ◌<◌, List, [], ◌∷◌, ◌++◌, Bool, true, false, Option, Some, None, Result, Ok, Err, replicate, ◌⊎◌, if◌then◌else◌}
 use Rattle.kt_child.specs.Types.{Exited as PolledExit, OsFault, Outcome, Polled, Running, Signaled as PolledSignal, Watch}
 use Rattle.kt_base.specs.declared.child.Outcome.TheVariants.{Exited, Signaled, TimedOut, WaitFailed}
 
--- what one child answered: a poll or a kill
+-- A response of one child: the result of a poll or of a kill.
 pub data Heard : Type 0 where
   HeardPoll : (answer : Result Polled OsFault) → Heard
   HeardKill : (done : Bool) → Heard
 
+-- `running`: the response of a poll that reports the child as running.
 abbrev pub running : Heard
 running = HeardPoll (Ok Running)
 
--- the outcome of a status
+-- `outcome_of state`: the outcome of a polled state, or `None` if the child is running.
 abbrev pub outcome_of : Polled → Option Outcome
 outcome_of Running = None
 outcome_of (PolledExit code) = Some (Exited code)
 outcome_of (PolledSignal signal core) = Some (Signaled signal core)
 
--- after a kill, with this many answers `running` to its end: a status is a timeout, a failed poll or the last of them a failed wait
+-- `YieldsAfterKill left heard outcome`: the responses `heard` after a kill give `outcome`. An exit
+-- status gives a timeout. A failed poll, or the `left`-th `running` response, gives a failed wait.
 abbrev pub YieldsAfterKill : ℕ → List Heard → Outcome → Type 0
 YieldsAfterKill left heard outcome =
     ((k : ℕ) × (s : Polled) × (x : Outcome) × (k < left) × (outcome_of s ≡ Some x)
@@ -26,7 +28,9 @@ YieldsAfterKill left heard outcome =
     ⊎ ((k : ℕ) × (f : OsFault) × (done : Bool) × (k < left)
     × (heard ≡ replicate k running ++ HeardPoll (Err f) ∷ HeardKill done ∷ []) × (outcome ≡ WaitFailed))
 
--- before a kill, with this many answers `running` to the deadline
+-- `YieldsWithin left heard outcome`: the responses `heard` before a kill give `outcome`. The
+-- `left`-th `running` response is followed by a kill. A failed poll or a failed kill gives a failed
+-- wait.
 abbrev pub YieldsWithin : ℕ → List Heard → Outcome → Type 0
 YieldsWithin left heard outcome =
     ((k : ℕ) × (s : Polled) × (k < left) × (outcome_of s ≡ Some outcome)
@@ -36,14 +40,16 @@ YieldsWithin left heard outcome =
     ⊎ ((k : ℕ) × (f : OsFault) × (done : Bool) × (k < left)
     × (heard ≡ replicate k running ++ HeardPoll (Err f) ∷ HeardKill done ∷ []) × (outcome ≡ WaitFailed))
 
--- the outcome of a child's answers, by its limit in seconds
+-- `Yields limit heard outcome`: the responses `heard` of a child with the timeout `limit`, in
+-- seconds, give `outcome`.
 abbrev pub Yields : ℕ → List Heard → Outcome → Type 0
 Yields limit heard outcome = YieldsWithin (100 * limit) heard outcome
 
--- what is kept of a child that was just spawned
+-- `fresh`: the poll counts of a child that has just started.
 abbrev pub fresh : Watch
 fresh = record { before = 0; killed = false; after = 0 }
 
--- what a child that isn't over has answered so far, by its limit and what is kept of it
+-- `answered limit w`: the responses so far of a running child with the timeout `limit`, in seconds,
+-- and the poll counts `w`.
 abbrev pub answered : ℕ → Watch → List Heard
 answered limit w = if w.killed then replicate (100 * limit) running ++ HeardKill true ∷ replicate w.after running else replicate w.before running

@@ -1,4 +1,4 @@
--- One poll of a child: what is asked, what it means, and what is kept.
+-- One poll of a child: its calls, its meaning, and the poll counts after it.
 use Rattle.std.specs.Prelude.{ℕ, ◌+◌, ◌*◌, ◌==◌, List, [], ◌∷◌, Bool, true, false, not, ◌&&◌, Result, Ok, Err, if◌then◌else◌}
 use Rattle.kt_child.specs.Types.{Child, Exited as PolledExit, OsFault, Polled, Running, Signaled as PolledSignal, Watch}
 use Rattle.kt_base.specs.declared.child.Outcome.TheVariants.{Exited, Signaled, TimedOut, WaitFailed}
@@ -7,26 +7,29 @@ use Rattle.kt_child.specs.declared.polling.AfterPoll.TheVariants.{More, Ended}
 use Rattle.kt_child.specs.System.Calls.{Call, Poll, Kill}
 use Rattle.kt_child.specs.Polling.ChildOutcome.{Heard, HeardKill, HeardPoll}
 
--- one more answer `running` is the last one before the deadline
+-- `is_due limit w`: the next `Running` response is the last before the timeout.
 abbrev pub is_due : ℕ → Watch → Bool
 is_due limit w = not w.killed && (w.before + 1 == 100 * limit)
 
--- a poll with this answer is followed by a kill
+-- `is_killed limit w result`: a poll with this result is followed by a kill.
 abbrev pub is_killed : ℕ → Watch → Result Polled OsFault → Bool
 is_killed limit w (Err _) = true
 is_killed limit w (Ok Running) = is_due limit w
 is_killed limit w (Ok status) = false
 
--- what a poll asks, by its answers
+-- `asked_by_poll child limit w result done`: the calls of a poll with this result. `done` is the
+-- result of the kill, if there is one.
 abbrev pub asked_by_poll : Child → ℕ → Watch → Result Polled OsFault → Bool → List Call
 asked_by_poll child limit w answer done =
     if is_killed limit w answer then Poll child answer ∷ Kill child done ∷ [] else Poll child answer ∷ []
 
--- what a child answers to a poll
+-- `heard_of limit w result done`: the responses of a child to a poll and to the kill that may
+-- follow it.
 abbrev pub heard_of : ℕ → Watch → Result Polled OsFault → Bool → List Heard
 heard_of limit w answer done = if is_killed limit w answer then HeardPoll answer ∷ HeardKill done ∷ [] else HeardPoll answer ∷ []
 
--- what a poll makes of a child, by its answers
+-- `after_poll limit w result done`: the child's state after a poll with this result. `done` is the
+-- result of the kill, if there is one.
 abbrev pub after_poll : ℕ → Watch → Result Polled OsFault → Bool → AfterPoll
 after_poll limit w (Err _) done = Ended WaitFailed
 after_poll limit w (Ok (PolledExit code)) done = Ended (if w.killed then TimedOut else Exited code)
@@ -35,7 +38,7 @@ after_poll limit w (Ok Running) done =
     if w.killed then (if w.after + 1 == 500 then Ended WaitFailed else More)
     else (if w.before + 1 == 100 * limit then (if done then More else Ended WaitFailed) else More)
 
--- what the driver keeps after a poll that ends nothing
+-- `watch_after limit w`: the poll counts `w` after one more poll after which the child still runs.
 abbrev pub watch_after : ℕ → Watch → Watch
 watch_after limit w =
     if w.killed then record { before = w.before; killed = true; after = w.after + 1 }

@@ -1,4 +1,4 @@
--- Turns over the running children.
+-- Turns of polls over the running children.
 use Rattle.std.specs.Prelude.{◌≡◌, ℕ, zero, suc, List, [], ◌∷◌, ◌++◌, Bool, Option, Some, None, Result, take, slice_get, map}
 use Rattle.kt_child.specs.Types.{OsFault, Outcome, Polled, Watched}
 use Rattle.kt_child.specs.declared.polling.AfterPoll.TheVariants.{More, Ended}
@@ -7,17 +7,17 @@ use Rattle.kt_child.specs.Planning.ChildPlan.{child_of}
 use Rattle.kt_child.specs.Polling.Polls.{asked_by_poll, heard_of, after_poll, watch_after}
 use Rattle.kt_child.specs.Polling.ChildOutcome.{Yields, answered}
 
--- a child after one more Running answer
+-- `advanced k`: the child `k` after one more `Running` response.
 abbrev pub advanced : Watched → Watched
 advanced k = record { case = k.case; limit = k.limit; watch = watch_after k.limit k.watch }
 
--- the first of these children have answered Running once more
+-- `advanced_below n children`: `children` after one more `Running` response of the first `n`.
 abbrev pub advanced_below : ℕ → List Watched → List Watched
 advanced_below zero children = children
 advanced_below (suc n) [] = []
 advanced_below (suc n) (k ∷ children) = advanced k ∷ advanced_below n children
 
--- each of these children was polled once, in order, and none is over
+-- `PolledAll children calls`: `calls` poll each child once, in order, and none has finished.
 abbrev pub PolledAll : List Watched → List Call → Type 0
 PolledAll [] calls = calls ≡ []
 PolledAll (k ∷ children) calls =
@@ -26,7 +26,8 @@ PolledAll (k ∷ children) calls =
     × (after_poll k.limit k.watch answer done ≡ More)
     × PolledAll children more
 
--- one poll of this child, which ends it: its outcome follows from all its answers
+-- `PolledLast k calls outcome`: `calls` are one poll of the child `k`, with which it finishes.
+-- `outcome` follows from all its responses.
 abbrev pub PolledLast : Option Watched → List Call → Outcome → Type 0
 PolledLast None calls outcome = ⊥
 PolledLast (Some k) calls outcome =
@@ -35,14 +36,16 @@ PolledLast (Some k) calls outcome =
     × (after_poll k.limit k.watch answer done ≡ Ended outcome)
     × Yields k.limit (answered k.limit k.watch ++ heard_of k.limit k.watch answer done) outcome
 
--- the children before this one were polled and aren't over, and then this one is
+-- `PolledUntil children i calls outcome`: `calls` poll the children up to the one at index `i`,
+-- which is the first that has finished.
 abbrev pub PolledUntil : List Watched → ℕ → List Call → Outcome → Type 0
 PolledUntil children i calls outcome =
     (before : List Call) × (last : List Call) × (calls ≡ before ++ last)
     × PolledAll (take i children) before × PolledLast (slice_get children i) last outcome
 
--- A wait for these children: turns in which none is over, each with a pause after it, and then one in which the child at
--- this place is; the children after it.
+-- `WaitedOn children calls place outcome after`: `calls` are turns without a finished child, each
+-- with a pause, and a turn in which the child at index `place` finishes. `after` are the children
+-- at its end.
 pub data WaitedOn : List Watched → List Call → ℕ → Outcome → List Watched → Type 0 where
   last_turn : (children : List Watched) (calls : List Call) (place : ℕ) (outcome : Outcome)
       → PolledUntil children place calls outcome → WaitedOn children calls place outcome (advanced_below place children)

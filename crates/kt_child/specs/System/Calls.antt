@@ -1,8 +1,8 @@
--- What is asked of the system, and what it answers.
+-- Calls to the system, with their results.
 use Rattle.std.specs.Prelude.{ℕ, List, Bool, Result}
 use Rattle.kt_child.specs.Types.{Child, EnvPlan, FileRead, OsFault, Polled}
 
--- one question with its answer; a truth value says whether the call succeeded
+-- A call to the system with its result. `done` is `true` if the call succeeded.
 pub data Call : Type 0 where
   SetLimit : (child : Child) (limit : ℕ) → Call
   MakeDir : (path : List ℕ) (answer : Result (Unit {0}) OsFault) → Call

@@ -1,13 +1,13 @@
--- The moments that the system returns.
+-- Timestamps of the system, in milliseconds since 1970 in UTC.
 use Rattle.std.specs.Prelude.{ℕ, Result, Ok, Err, leb, if◌then◌else◌}
 use Rattle.kt_child.specs.Types.{OsFault}
 use Rattle.kt_base.specs.Limits.{latest_moment}
 
--- a moment that can be recorded stands for itself, another for 0
+-- `recordable_moment moment`: `moment`, or 0 if it is later than the latest recordable timestamp.
 abbrev pub recordable_moment : ℕ → ℕ
 recordable_moment moment = if leb moment latest_moment then moment else 0
 
--- the moment of an answer, 0 if the clock failed
+-- `moment_of result`: the recordable timestamp of a read of the clock, or 0 if the read failed.
 abbrev pub moment_of : Result ℕ OsFault → ℕ
 moment_of (Ok moment) = recordable_moment moment
 moment_of (Err fault) = 0

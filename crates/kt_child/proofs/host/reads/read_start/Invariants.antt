@@ -2,7 +2,7 @@ use Rattle.std.proofs.Common.{◌-◌, length}
 use Rattle.kt_child.proofs.HostReads.{HasRead}
 use Rattle.kt_child.proofs.host.reads.read_start.Given as goal
 
--- the bytes so far are the front of the file
+-- The bytes so far are a prefix of the file.
 abbrev pub invariant-loop-buffer : goal.invariant-loop-buffer
 invariant-loop-buffer g l = HasRead l.limit (g.F.Read.remaining l.initial.file) (g.F.Read.remaining l.file) l.bytes
 

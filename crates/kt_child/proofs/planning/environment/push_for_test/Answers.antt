@@ -2,7 +2,7 @@ use Rattle.std.proofs.Common.{◌≡◌, ℕ, ◌+◌, ◌<◌, List, [], ◌∷
 use Rattle.kt_child.proofs.Common.{map_more, test_variable}
 use Rattle.kt_child.proofs.planning.environment.push_for_test.Goals as goal
 
--- one element more of a list that is made by a function of each element of another
+-- Appending the image of the next element extends the mapped prefix by one.
 mapped_more : {X Y : Type 0} (f : X → Y) (start now new : List Y) (xs : List X) (i : ℕ) (x : X) (y : Y)
     → i < length xs → x ≡ get_or xs i x → now ≡ start ++ map f (take i xs) → y ≡ f x → new ≡ now ++ y ∷ []
     → new ≡ start ++ map f (take (i + 1) xs)

@@ -4,7 +4,7 @@ use Rattle.kt_child.specs.declared.planning.Want.{Want}
 use Rattle.kt_child.proofs.StateWaits.{shown_started}
 use Rattle.kt_child.proofs.driving.driver.Driver.begin.Goals as goal
 
--- what a job's child is started for, by this word and this limit
+-- The plan with this purpose and timeout is the plan of the job's child.
 planned : (source : List ℕ) (job : Job) (c : Case) (want : Want) (limit : ℕ) → want ≡ want_of c.role → limit ≡ limit_of job c.role
     → spawning_for source (record (job_purpose job c.role) { want = want; limit = limit }) c ≡ spawning_of source job c
 planned source job c want limit e f = rw (e, f) refl

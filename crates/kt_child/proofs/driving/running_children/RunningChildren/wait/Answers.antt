@@ -5,7 +5,7 @@ use Rattle.kt_child.proofs.CaseSteps.{Left, cases_waited}
 use Rattle.kt_child.proofs.StateWaits.{state_after, waited_all, waited_one, waited_pending, waited_running}
 use Rattle.kt_child.proofs.driving.running_children.RunningChildren.wait.Goals as goal
 
--- the children after the polls
+-- The slice of running children after the polls is the list that `first_over` returns.
 polled : (g : _) (c : goal.After-forget g)
     → take c.self.inside.children.len (c.first_over-first.new.children ++ drop (length c.first_over-first.new.children) c.self.inside.children.items)
     ≡ c.first_over-first.new.children
@@ -13,7 +13,7 @@ polled g c =
     let n : length c.first_over-first.new.children ≡ c.self.inside.children.len = c.first_over-first.ensures.same ∙ c.deref_mut.ensures.len in
     take_at c.first_over-first.new.children (drop (length c.first_over-first.new.children) c.self.inside.children.items) c.self.inside.children.len n
 
--- the child that is over
+-- The finished child is at the returned index.
 at : (g : _) (c : goal.After-forget g) → slice_get c.first_over-first.new.children c.first_over-first.result.place ≡ Some c.index.result.now
 at g c =
     let same = c.first_over-first.ensures.same in
@@ -22,11 +22,11 @@ at g c =
     let lt : i < length c.first_over-first.new.children = omega (arith, c.first_over-first.ensures.place, same) in
     slice_get-get_or c.first_over-first.new.children i d lt ∙ ap (λ t. Some t) (sym (c.index.ensures ∙ ap (λ t. get_or t i d) (polled g c)))
 
--- the children that are left
+-- The running children after the wait are those without the finished child.
 still : (g : _) (c : goal.After-forget g) → c.forget.new.children.items ≡ remove c.first_over-first.new.children c.first_over-first.result.place
 still g c = c.forget.ensures.children ∙ ap (λ t. remove t c.first_over-first.result.place) (polled g c)
 
--- and the cases that are owed a cleanup
+-- The pending cases after the wait include that of the finished child if its cleanup must run.
 owed : (g : _) (c : goal.After-forget g) → c.forget.new.pending.items ≡ pending_with c.index.result.now.case c.self.inside.pending.items
 owed g c = c.forget.ensures.pending c.index.result.now (ap (λ t. slice_get t c.first_over-first.result.place) (polled g c) ∙ at g c)
 
@@ -39,7 +39,7 @@ invariant_of-self g c =
       c.forget.ensures.room,
     )
 
--- the states before and after it
+-- `old g c` and `new g c`: the states before and after the wait.
 abbrev old : (g : _) → goal.After-forget g → ChildrenState
 old g c = record { children = c.self.inside.children.items; pending = c.self.inside.pending.items }
 
