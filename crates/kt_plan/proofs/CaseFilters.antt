@@ -1,4 +1,4 @@
--- The filters of a command, word by word and together.
+-- Lemmas on the filters of a command, one by one and together.
 use Rattle.std.proofs.Common.{arith, Option, Some, None, Result, Ok, Err, IsErrAnd, find, option_map, option_and_then, slice_get, ◌≡◌, ℕ, suc, ◌<◌, Bool, true, false, List, [], ◌∷◌, length, get_or, take, refl, sym, ap, ◌∙◌, subst, ◌⊎◌, inr}
 use Rattle.kt_plan.proofs.Common.{err_from_is_err_and, Filter, FilterFault, ChecksTogether, apart, position_in, shared, Filters, clash, each_of, filters_of, in_front, lacks_case, right, unnamed, unparsed, IsShort, Stop}
 use Rattle.std.proofs.lemmas.Option.{slice_get_read, slice_get_within}
@@ -6,19 +6,19 @@ use Rattle.kt_suite.specs.Disjoint.{IsDisjoint, IsFirstFault, overlap}
 use Rattle.kt_suite.specs.Disjoint as of
 use Rattle.kt_plan.specs.declared.stop.Stop.TheVariants as stop
 
--- ---- how many there are
+-- ---- the number of filters
 
 length_in_front : {A : Type 0} (m : Result A Stop) (rest : Result (List A) Stop) (all : List A) (n : ℕ) → in_front m rest ≡ Ok all → ((more : List A) → rest ≡ Ok more → n ≡ length more) → suc n ≡ length all
 length_in_front (Err fault) rest all n e f = absurd (cc)
 length_in_front (Ok one) (Err fault) all n e f = absurd (cc)
 length_in_front {A} (Ok one) (Ok more) all n e f = let same : one ∷ more ≡ all = cc in ap suc (f more refl) ∙ ap (λ (xs : List A). length xs) same
 
--- each word means one value
+-- Each argument has one meaning.
 pub length_of_each : {A : Type 0} (meaning : List ℕ → Result A Stop) (words : List (List ℕ)) (all : List A) → each_of meaning words ≡ Ok all → length words ≡ length all
 length_of_each {A} meaning [] all e = let same : [] ≡ all = cc in ap (λ (xs : List A). length xs) same
 length_of_each meaning (word ∷ words) all e = length_in_front (meaning word) (each_of meaning words) all (length words) e (λ more m. length_of_each meaning words more m)
 
--- ---- the filter that a fault names
+-- ---- the filter that an error names
 
 position_found : (position : ℕ) (filter : Filter) (found : Option Filter) (fault : FilterFault) → option_map (of.clash position filter) found ≡ Some fault → position_in fault ≡ position
 position_found position filter None fault e = absurd (cc)
@@ -31,13 +31,13 @@ fault_found filters position None fault g e = absurd (cc)
 fault_found filters position (Some filter) fault g e =
     (position_found position filter (find (overlap filter) (take position filters)) fault e, slice_get_within filters position filter g)
 
--- a fault of several filters names one of them
+-- An error of several filters names the position of one of them.
 pub is_within : (filters : List Filter) (fault : FilterFault) → IsFirstFault filters fault → position_in fault < length filters
 is_within filters fault f =
     let w = fault_found filters f.0 (slice_get filters f.0) fault refl f.1 in
     subst (λ (n : ℕ). n < length filters) (sym w.0) w.1
 
--- and the word at its position
+-- An error of several filters names the argument at its position.
 pub names_word : (words : List (List ℕ)) (filters : List Filter) (fault : FilterFault) (n : ℕ) (found word : List ℕ) → length words ≡ length filters → IsFirstFault filters fault
     → n ≡ position_in fault → found ≡ get_or words n found → word ≡ found → ChecksTogether words filters (Some (stop.Filter word fault))
 names_word words filters fault n found word same f at read copied =
@@ -58,17 +58,17 @@ module _ (needs_case : Bool) (words : List (List ℕ)) where
   abbrev pub Reads : Result (List Filter) Stop → Type 0
   Reads result = IsShort result ⊎ Filters needs_case words result
 
-  -- a word is no filter
+  -- An argument that is not a filter ends the read of the filters.
   pub not_parsed : (result : Result (List Filter) Stop) (fault : Stop) → IsErrAnd result (λ e. e ≡ fault) → filters_of words ≡ Err fault → Reads result
   not_parsed result fault r e =
       let p = err_from_is_err_and result r in
       subst (λ (o : Result (List Filter) Stop). Reads o) (sym (p.1 ∙ ap (λ (x : Stop). Err x) p.2)) (inr (unparsed fault e))
 
-  -- two filters share a case
+  -- Two filters that select the same case end the read of the filters.
   pub not_apart : (filters : List Filter) (fault : Stop) → filters_of words ≡ Ok filters → ChecksTogether words filters (Some fault) → Reads (Err fault)
   not_apart filters fault e (shared word cause c) = inr (clash filters word cause e c)
 
-  -- each is apart from the others
+  -- Filters without an error of several filters are disjoint.
   is_apart : (filters : List Filter) (found : Option Stop) → ((fault : Stop) → found ≡ Some fault → ⊥) → ChecksTogether words filters found → IsDisjoint filters
   is_apart filters None n (apart d) = d
   is_apart filters (Some fault) n t = absurd (n fault refl)

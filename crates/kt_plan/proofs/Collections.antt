@@ -1,4 +1,4 @@
--- What a world was asked for the tree and then for the lists, and what came of it.
+-- Lemmas on the calls for a selection: those to the tree, and then the lists.
 use Rattle.std.proofs.Common.{Result, Ok, Err, Bool, not, filter, ◌+◌, IfErr, IfOk, List, OnOk, [], ap, arith, inl, inr, length, refl, subst, sym, ℕ, ◌<◌, ◌∙◌, ◌≡◌, ◌≤◌, ◌⊎◌}
 use Rattle.kt_plan.proofs.Common.{Asked, Answered, NoMemory, most_items, is_selected, SuiteFault, Filter, Program, Candidate, Chosen, Settings, Stop, CollectsOrShort, Collected, item_of, selected_cases, chosen_of, Offers, OffersFirst, Collects, unloaded, too_many, chosen, loading, offering, LoadsOrShort, RanShort, Loads, by_tree, RanOut, IsShort, Reply}
 use Rattle.std.proofs.lemmas.List.Filters.{length-filter_both}
@@ -7,7 +7,7 @@ use Rattle.kt_suite.specs.Faults.{IsNoMemory}
 use Rattle.kt_plan.specs.declared.stop.Stop.TheVariants as stop
 use Rattle.kt_plan.proofs.OfferLaws.{all_first}
 
--- memory didn't run out
+-- An error other than a failed allocation is not `RanShort`.
 never_short : (fault : SuiteFault) → (IsNoMemory fault → ⊥) → RanShort (Err fault) → ⊥
 never_short fault never s = let e = s.2 in let same : fault ≡ s.0 = cc in never (s.1.0, same ∙ s.1.1)
 
@@ -15,7 +15,7 @@ loaded_all : (programs : List Program) (asked : List Asked) (kyuafile : List ℕ
 loaded_all programs asked kyuafile (inl s) = let e = s.0.2 in absurd (cc)
 loaded_all programs asked kyuafile (inr l) = l
 
--- not more are selected than there are
+-- A selection has at most as many cases as there are.
 pub few_chosen : (filters : List Filter) (found : List Candidate) (r : Result Chosen Stop) → IfOk r (λ c. c ≡ chosen_of filters found) → OnOk r (length found ≤ most_items) → IfOk r (λ c. length c.cases ≤ most_items)
 few_chosen filters found (Ok c) e few =
     let test : Candidate → Bool = λ candidate. is_selected filters (item_of candidate) in
@@ -25,7 +25,7 @@ few_chosen filters found (Ok c) e few =
 few_chosen filters found (Err why) e few = tt
 
 module _ {W : Type 0} (asks : W → Asked → W → Type 0) (replies : W → Reply → W → Type 0) (settings : Settings) (kyuafile : List ℕ) (old mid : W) where
-  -- the tree was not loaded
+  -- An error in the Kyuafiles is the error of the selection.
   pub tree_stopped : (fault : SuiteFault) (why : Stop) → Answered asks old mid (λ asked. LoadsOrShort kyuafile asked (Err fault))
       → ((refusal : OutOfMemory) × (why ≡ stop.NoMemory refusal) × (fault.cause ≡ NoMemory refusal)) ⊎ ((why ≡ stop.Tree fault) × (IsNoMemory fault → ⊥))
       → Collected asks replies settings kyuafile old mid (Err why)
@@ -42,7 +42,7 @@ module _ {W : Type 0} (asks : W → Asked → W → Type 0) (replies : W → Rep
     loads : Loads kyuafile a.asked (Ok programs)
     loads = loaded_all programs a.asked kyuafile a.holds
 
-    -- memory ran out while the programs were listed
+    -- A failed allocation during the lists leaves the first calls of the selection.
     pub lists_stopped : (shown : List Program) (r : Result Chosen Stop) (why : Stop) → shown ≡ programs → Answered replies mid new (λ answers. OffersFirst settings.config settings.filters shown answers) → r ≡ Err why → RanOut why
         → Collected asks replies settings kyuafile old new r
     lists_stopped shown r why same b e short = record {
@@ -65,7 +65,7 @@ module _ {W : Type 0} (asks : W → Asked → W → Type 0) (replies : W → Rep
       offers : Offers settings.config settings.filters programs b.asked found
       offers = subst (λ (ps : List Program). Offers settings.config settings.filters ps b.asked found) same b.holds
 
-      -- the filters selected, or there were too many cases
+      -- The result of the filters is that of the selection.
       pub all_chosen : (r : Result Chosen Stop) → IfOk r (λ c. c ≡ chosen_of filters found) → OnOk r (length found ≤ most_items) → IfErr r (λ why. RanOut why ⊎ ((why ≡ stop.TooManyCases) × (most_items < length found)))
           → Collected asks replies settings kyuafile old new r
       all_chosen (Ok c) e few s =

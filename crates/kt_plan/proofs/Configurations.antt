@@ -1,4 +1,4 @@
--- What a command is configured with, word by word.
+-- Lemmas on the configuration of a command, one argument after the other.
 use Rattle.std.proofs.Common.{Option, Some, None, Result, Ok, Err, IsErrAnd, ◌≡◌, ℕ, List, [], ◌∷◌, ◌++◌, refl, sym, ap, ◌∙◌, subst, inl, inr, append_assoc}
 use Rattle.kt_plan.proofs.Common.{err_from_is_err_and, Definition, ConfigFault, Values, Answered, Configured, OrShort, GivesMore, GivesOne, Gives, unread_stop, Configures, ReadsFirst, before_file, after_file, IsConfiguration, ReadsConfig, behind, in_front, defined, failed, missing, none, read, refused, seen, stopped, unread, word_meaning, words_meaning, CaseOptions, IsShort, Reply, ReadConfig, Stop}
 use Rattle.kt_config.specs.Holding.{Holds}
@@ -7,48 +7,48 @@ use Rattle.kt_config.specs.Reading.{IsDue, IsRead}
 use Rattle.kt_plan.specs.Types.{Failed, Memory, Missing, ReadFault}
 use Rattle.kt_plan.specs.declared.stop.Stop.TheVariants as stop
 
--- ---- words in order
+-- ---- arguments in order
 
--- one more before the others
+-- A first definition can be moved to the end of the definitions before it.
 behind-in_front : {A : Type 0} (before : List A) (one : A) (rest : Result (List A) Stop) → behind before (in_front (Ok one) rest) ≡ behind (before ++ one ∷ []) rest
 behind-in_front {A} before one (Ok more) = ap (λ (xs : List A). Ok xs) (sym (append_assoc before (one ∷ []) more))
 behind-in_front before one (Err fault) = refl
 
 -- ---- the configuration file
 
--- all that is asked for it is what is asked first
+-- All calls for the configuration file are first calls, too.
 pub file_first : (path : Option (List ℕ)) (answers : List Reply) (meant : Result (List Definition) Stop) → ReadsConfig path answers meant → ReadsFirst path answers
 file_first _ _ _ none = before_file None
 file_first _ _ _ (unread path fault u) = after_file path (Err fault)
 file_first _ _ _ (seen path bytes meant c) = after_file path (Ok bytes)
 
--- and so for the configuration
+-- All calls for the configuration are first calls, too.
 pub configuration_first : (options : CaseOptions) (answers : List Reply) (meant : Result (List Definition) Stop) → Configures options answers meant → ReadsFirst options.config answers
 configuration_first options answers _ (stopped fault r) = file_first options.config answers (Err fault) r
 configuration_first options answers _ (defined before r) = file_first options.config answers (Ok before) r
 
--- it is read
+-- A configuration file without an error gives its configuration.
 pub read_config_file : (bytes : List ℕ) (config : Values) → IsRead bytes config → Configured (IsConfiguration bytes) (Ok config)
 read_config_file bytes config r = record { meant = Ok r.1; means = read r.0 r.1 r.2 r.3; gives = r.4 }
 
--- it is refused
+-- A configuration file with an error gives its `Stop`.
 pub refused_config_file : (bytes : List ℕ) (fault : ConfigFault) → IsDue bytes fault → Configured (IsConfiguration bytes) (Err (stop.Configuration fault))
 refused_config_file bytes fault d = record { meant = Err (stop.Configuration fault); means = refused fault d; gives = refl }
 
--- no file is given
+-- Without a file, the configuration is empty.
 pub none_given : (path : Option (List ℕ)) (config : Values) → path ≡ None → Holds config [] → Configured (ReadsConfig path []) (Ok config)
 none_given path config e h = record { meant = Ok []; means = subst (λ (p : Option (List ℕ)). ReadsConfig p [] (Ok [])) (sym e) none; gives = h }
 
 module _ {W : Type 0} (replies : W → Reply → W → Type 0) (old new : W) where
-  -- the configuration is that of a path, or memory ran out
+  -- `Reads path outcome`: the configuration of the file `path`, or a failed allocation.
   abbrev pub Reads : Option (List ℕ) → Result Values Stop → Type 0
   Reads path outcome = Answered replies old new (λ answers. OrShort outcome path answers (Configured (ReadsConfig path answers) outcome))
 
-  -- the configuration of a command, or memory ran out
+  -- `Configuration options outcome`: the configuration of a command, or a failed allocation.
   abbrev pub Configuration : CaseOptions → Result Values Stop → Type 0
   Configuration options outcome = Answered replies old new (λ answers. OrShort outcome options.config answers (Configured (Configures options answers) outcome))
 
-  -- it can't be read
+  -- A configuration file that can't be read gives its `Stop`.
   pub file_unread : (path : List ℕ) (answer : Result (List ℕ) ReadFault) (fault : ReadFault) → replies old (ReadConfig path answer) new → answer ≡ Err fault → Reads (Some path) (Err (unread_stop fault))
   file_unread path answer fault t e =
       answered-once (ReadConfig path (Err fault)) (subst (λ (a : Result (List ℕ) ReadFault). replies old (ReadConfig path a) new) e t) (by fault)
@@ -58,18 +58,18 @@ module _ {W : Type 0} (replies : W → Reply → W → Type 0) (old new : W) whe
       by Failed = inr (record { meant = Err stop.UnreadConfiguration; means = unread path Failed failed; gives = refl })
       by (Memory refusal) = inl ((refusal, refl), after_file path (Err (Memory refusal)))
 
-  -- memory ran out after the answer
+  -- An allocation may fail after the configuration file was read.
   pub file_short : (path : List ℕ) (answer : Result (List ℕ) ReadFault) (outcome : Result Values Stop) → replies old (ReadConfig path answer) new → IsShort outcome → Reads (Some path) outcome
   file_short path answer outcome t s = answered-once (ReadConfig path answer) t (inl (s, after_file path answer))
 
-  -- it is read
+  -- The bytes of the configuration file give its outcome.
   pub file_seen : (path bytes : List ℕ) (answer : Result (List ℕ) ReadFault) (outcome : Result Values Stop) → replies old (ReadConfig path answer) new → answer ≡ Ok bytes
       → Configured (IsConfiguration bytes) outcome → Reads (Some path) outcome
   file_seen path bytes answer outcome t e c =
       answered-once (ReadConfig path (Ok bytes)) (subst (λ (a : Result (List ℕ) ReadFault). replies old (ReadConfig path a) new) e t)
       (inr (record { meant = c.meant; means = seen path bytes c.meant c.means; gives = c.gives }))
 
-  -- the file's stop is the whole step's
+  -- The `Stop` of the configuration file is that of the configuration.
   pub configured_not : (options : CaseOptions) (found outcome : Result Values Stop) (fault : Stop) → found ≡ Err fault → IsErrAnd outcome (λ e. e ≡ fault) → Reads options.config found
       → Configuration options outcome
   configured_not options found outcome fault e r a =
@@ -86,7 +86,7 @@ module _ {W : Type 0} (replies : W → Reply → W → Type 0) (old new : W) whe
       by answers (inl s) = inl s
       by answers (inr c) = inr (meant answers c.meant c.means c.gives)
 
-  -- the definitions that were found, and what follows from them
+  -- A fact that follows from the definitions so far is true of the calls.
   pub with_definitions : {found : Result Values Stop} {config : Values} {path : Option (List ℕ)} {P : List Reply → Type 0}
       (Means : List Reply → Result (List Definition) Stop → Type 0) → found ≡ Ok config
       → Answered replies old new (λ answers. OrShort found path answers (Configured (Means answers) found))
@@ -102,31 +102,31 @@ module _ {W : Type 0} (replies : W → Reply → W → Type 0) (old new : W) whe
       by answers (inl s) = absurd s.0
       by answers (inr c) = meant answers c.meant c.means c.gives
 
-  -- the words of `-v` follow the file
+  -- The arguments of `-v` follow the configuration file.
   pub configured_both : (options : CaseOptions) (found outcome : Result Values Stop) (config : Values) → found ≡ Ok config → GivesMore config outcome (words_meaning options.variables) → Reads options.config found
       → Configuration options outcome
   configured_both options found outcome config e m a = with_definitions (ReadsConfig options.config) e a (λ answers before r g.
       inr (record { meant = behind before (words_meaning options.variables); means = defined before r; gives = m before g }))
 
-  -- memory ran out after the file
+  -- An allocation may fail after the configuration file.
   pub configured_short : (options : CaseOptions) (found outcome : Result Values Stop) (config : Values) → found ≡ Ok config → IsShort outcome → Reads options.config found → Configuration options outcome
   configured_short options found outcome config e short a =
       with_definitions (ReadsConfig options.config) e a (λ answers before r g. inl (short, file_first options.config answers (Ok before) r))
 
--- ---- the words of `-v`
+-- ---- the arguments of `-v`
 
--- whatever definitions there were, the words before the rest are behind them
+-- `HasSet first config words rest`: `config` is `first` after the arguments before `rest`.
 pub record HasSet (first config : Values) (words rest : List (List ℕ)) : Type 0 where
   pub so_far : (before : List Definition) → Holds first before
       → (all : List Definition) × Holds config all × (behind before (words_meaning words) ≡ behind all (words_meaning rest))
 
--- a word's definition comes behind those before
+-- The definition of an argument follows the definitions before it.
 one_given : (before : List Definition) (next : Values) (m : Result Definition Stop) (rest : Result (List Definition) Stop) → Gives (Ok next) (behind before (in_front m (Ok [])))
     → (all : List Definition) × Holds next all × (behind before (in_front m rest) ≡ behind all rest)
 one_given before next (Ok d) rest g = (before ++ d ∷ [], g, behind-in_front before d rest)
 one_given before next (Err fault) rest g = absurd g
 
--- one more word is set
+-- One more argument has been set.
 pub one_set : (first config next : Values) (words rest after : List (List ℕ)) (word : List ℕ) → HasSet first config words rest → rest ≡ word ∷ after
     → GivesOne config (Ok next) (word_meaning word) → HasSet first next words after
 one_set first config next words rest after word s parts g = record {
@@ -136,13 +136,13 @@ one_set first config next words rest after word s parts g = record {
       (o.0, o.1, b.2 ∙ ap (λ (ws : List (List ℕ)). behind b.0 (words_meaning ws)) parts ∙ o.2);
 }
 
--- a word that is refused is refused whatever follows it
+-- The error of an argument is the first error, with any arguments after it.
 refused_first : (before : List Definition) (fault : Stop) (m : Result Definition Stop) (rest : Result (List Definition) Stop) → Gives (Err fault) (behind before (in_front m (Ok [])))
     → Gives (Err fault) (behind before (in_front m rest))
 refused_first before fault (Ok d) rest g = absurd g
 refused_first before fault (Err other) rest g = g
 
--- the next word is refused
+-- The error of the next argument is the error of all arguments.
 pub one_refused : (first config : Values) (words rest after : List (List ℕ)) (word : List ℕ) (fault : Stop) → HasSet first config words rest → rest ≡ word ∷ after
     → GivesOne config (Err fault) (word_meaning word) → GivesMore first (Err fault) (words_meaning words)
 one_refused first config words rest after word fault s parts g = λ before h.

@@ -1,4 +1,4 @@
--- What the Kyuafile of a command registers.
+-- Lemmas on the programs that the Kyuafile of a command registers.
 use Rattle.std.proofs.Common.{Err, true, false, ◌≡◌, ℕ, List, [], refl, sym, subst, ◌⊎◌, inl, inr}
 use Rattle.kt_plan.proofs.Common.{Unreadable, SuiteFault, Asked, Answered, name_in, is_empty, LoadsOrShort, Loads, before_tree, named, unfinished}
 use Rattle.kt_suite.specs.Inner.Steps.{Blames}
@@ -9,12 +9,12 @@ module _ {T : Type 0} (asks : T → Asked → T → Type 0) (kyuafile : List ℕ
   abbrev Loaded : T → T → Outcome → Type 0
   Loaded old new outcome = Answered asks old new (λ asked. LoadsOrShort kyuafile asked outcome)
 
-  -- the path names no file
+  -- A path without a file name is unreadable.
   pub not_there : (tree : T) (fault : SuiteFault) → is_empty (name_in kyuafile) ≡ true → Blames kyuafile 0 Unreadable fault → Loaded tree tree (Err fault)
   not_there tree fault n (inl m) = record { asked = []; chain = refl; holds = inl ((fault, m, refl), before_tree) }
   not_there tree fault n (inr e) = record { asked = []; chain = refl; holds = inr (subst (λ (f : SuiteFault). Loads kyuafile [] (Err f)) (sym e) (unnamed n)) }
 
-  -- the tree was loaded
+  -- The result of the tree is that of the Kyuafile.
   pub loaded : (old new : T) (root : List ℕ) (outcome : Outcome) → root ≡ name_in kyuafile → is_empty (name_in kyuafile) ≡ false
       → Answered asks old new (λ asked. Registered asked root outcome ⊎ Unfinished asked root outcome) → Loaded old new outcome
   loaded old new root outcome same full a = record { asked = a.asked; chain = a.chain; holds = by a.asked a.holds }

@@ -1,4 +1,4 @@
--- What the host is asked for, and what is noted of its answers.
+-- Lemmas on the checks of required files and programs, and on their record.
 use Rattle.std.proofs.Common.{Bool, true, false, Option, ◌≡◌, ℕ, List, [], ◌∷◌, ◌++◌, ◌&&◌, ◌||◌, refl, sym, ap, ◌∙◌, subst, append_assoc, append-nil}
 use Rattle.kt_plan.proofs.Common.{Answered, is_found, is_same_need, IsNoted, Host, Need, Candidate, Notes, finds, needs_of, LooksFor, nothing, asked, Surveys, SurveysFirst, AreFirst, Reply, Finds, IsRoot, HasMemory, HasDisk}
 use Rattle.kt_plan.proofs.Chains.{answered-as, answered-once, answered-then}
@@ -6,7 +6,7 @@ use Rattle.std.specs.List.{list_any}
 use Rattle.std.proofs.lemmas.List.Folds.{list_any-append}
 use Rattle.std.proofs.Math.Bool.{or-false, and-true, and-false, or_assoc}
 
--- more was asked
+-- The records of two lists of results, one after the other, are that of both.
 notes_more : (answers more : List Reply) (a b d : Host) → Notes answers a b → Notes more b d → Notes (answers ++ more) a d
 notes_more answers more a b d h k = record {
   found = λ need word.
@@ -18,7 +18,7 @@ notes_more answers more a b d h k = record {
   disk = k.disk ∙ h.disk;
 }
 
--- what isn't there is not noted
+-- A file or program that doesn't exist leaves the record unchanged.
 notes_missing : (need : Need) (name : List ℕ) (host : Host) → Notes (Finds need name false ∷ []) host host
 notes_missing need name host = record {
   found = λ other word. sym (or-false (is_found other host word)) ∙ ap (λ (x : Bool). is_found other host word || x) (sym (or-false (is_same_need need name other word && false) ∙ and-false (is_same_need need name other word)));
@@ -27,7 +27,7 @@ notes_missing need name host = record {
   disk = refl;
 }
 
--- what is there is noted
+-- A file or program that exists is recorded.
 notes_there : (need : Need) (name : List ℕ) (old new : Host) → IsNoted need name old new → Notes (Finds need name true ∷ []) old new
 notes_there need name old new k = record {
   found = λ other word. k.found other word ∙ ap (λ (x : Bool). is_found other old word || x) (sym (or-false (is_same_need need name other word && true) ∙ and-true (is_same_need need name other word)));
@@ -36,21 +36,21 @@ notes_there need name old new k = record {
   disk = k.disk;
 }
 
--- questions, and others after them
+-- The checks of two lists of requirements, one after the other, are those of both.
 looks_append : (some after : List (Need × List ℕ)) (answers more : List Reply) → LooksFor some answers → LooksFor after more → LooksFor (some ++ after) (answers ++ more)
 looks_append _ after _ more nothing k = k
 looks_append _ after _ more (asked need word needs answer answers h) k = asked need word (needs ++ after) answer (answers ++ more) (looks_append needs after answers more h k)
 
--- there are questions about any needs
+-- Each list of requirements has a list of checks.
 asks_all : (needs : List (Need × List ℕ)) → (answers : List Reply) × LooksFor needs answers
 asks_all [] = ([], nothing)
 asks_all (first ∷ needs) = let rest = asks_all needs in (Finds first.0 first.1 false ∷ rest.0, asked first.0 first.1 needs false rest.0 rest.1)
 
--- some questions, more, and others after them
+-- Four lists of results can be joined in two ways.
 rejoined : (a b d e : List Reply) → a ++ ((b ++ d) ++ e) ≡ (a ++ b) ++ (d ++ e)
 rejoined a b d e = ap (λ (ts : List Reply). a ++ ts) (append_assoc b d e) ∙ sym (append_assoc a b (d ++ e))
 
--- all questions to the host are the first ones
+-- All calls to the host are first calls, too.
 pub all_surveyed : (cases : List Candidate) (answers : List Reply) (host : Host) → Surveys cases answers host → SurveysFirst cases answers
 all_surveyed cases answers host s = record {
   root = host.root;
@@ -62,24 +62,25 @@ all_surveyed cases answers host s = record {
 }
 
 module _ {W : Type 0} (replies : W → Reply → W → Type 0) where
-  -- a required file or program isn't there
+  -- The check of a file or program that doesn't exist leaves the record unchanged.
   pub word_missing : (need : Need) (name : List ℕ) (old new : W) (host : Host) (answer : Bool) → answer ≡ false → replies old (Finds need name answer) new
       → Answered replies old new (λ answers. LooksFor ((need, name) ∷ []) answers × Notes answers host host)
   word_missing need name old new host answer missing h =
       answered-once (Finds need name false) (subst (λ (b : Bool). replies old (Finds need name b) new) missing h) (asked need name [] false [] nothing, notes_missing need name host)
 
-  -- it is there
+  -- The check of a file or program that exists records it.
   pub word_there : (need : Need) (name : List ℕ) (old new : W) (was now : Host) (answer : Bool) → answer ≡ true → replies old (Finds need name answer) new → IsNoted need name was now
       → Answered replies old new (λ answers. LooksFor ((need, name) ∷ []) answers × Notes answers was now)
   word_there need name old new was now answer there h n =
       answered-once (Finds need name true) (subst (λ (b : Bool). replies old (Finds need name b) new) there h) (asked need name [] true [] nothing, notes_there need name was now n)
 
-  -- memory ran out after a question about a word
+  -- A check after which an allocation fails is the first call.
   pub word_asked : (need : Need) (name : List ℕ) (old new : W) (answer : Bool) → replies old (Finds need name answer) new → Answered replies old new (λ answers. AreFirst (LooksFor ((need, name) ∷ [])) answers)
   word_asked need name old new answer h = answered-once (Finds need name answer) h ([], asked need name [] answer [] nothing)
 
   module _ (needs : List (Need × List ℕ)) (old : W) (was : Host) where
-    -- the questions so far, and what was noted
+    -- `Looking rest new now`: the checks so far, with those of `rest`, are all; `now` is their
+    -- record.
     abbrev pub Looking : List (Need × List ℕ) → W → Host → Type 0
     Looking rest new now =
         Answered replies old new (λ answers. ((more : List Reply) → LooksFor rest more → LooksFor needs (answers ++ more)) × Notes answers was now)
@@ -91,7 +92,7 @@ module _ {W : Type 0} (replies : W → Reply → W → Type 0) where
       notes_more answers own was then now g.1 h.1,
     ))
 
-    -- memory ran out
+    -- The checks before a failed allocation are the first calls.
     pub looking_stopped : (rest some after : List (Need × List ℕ)) (mid new : W) (then : Host) → rest ≡ some ++ after → Looking rest mid then
         → Answered replies mid new (λ answers. AreFirst (LooksFor some) answers) → Answered replies old new (λ answers. AreFirst (LooksFor needs) answers)
     looking_stopped rest some after mid new then e l a =
@@ -104,7 +105,7 @@ module _ {W : Type 0} (replies : W → Reply → W → Type 0) where
     pub looking_all : (rest : List (Need × List ℕ)) (new : W) (now : Host) → rest ≡ [] → Looking rest new now → Answered replies old new (λ answers. LooksFor needs answers × Notes answers was now)
     looking_all rest new now e l = answered-as l (λ answers g. (rw append-nil at (g.0 [] (rw e nothing)), g.1))
 
-  -- all that the host was asked
+  -- The checks for root, memory, disk space and the requirements are all calls to the host.
   pub surveyed : (cases : List Candidate) (old a b d new : W) (was now : Host) (root : Bool) (memory disk : Option ℕ) → was.root ≡ root → was.memory ≡ memory → was.disk ≡ disk
       → ((need : Need) (word : List ℕ) → is_found need was word ≡ false) → replies old (IsRoot root) a → replies a (HasMemory memory) b → replies b (HasDisk disk) d
       → Answered replies d new (λ answers. LooksFor (needs_of cases) answers × Notes answers was now) → Answered replies old new (λ answers. Surveys cases answers now)
@@ -119,7 +120,7 @@ module _ {W : Type 0} (replies : W → Reply → W → Type 0) where
     };
   }
 
-  -- memory ran out as the host was asked
+  -- The calls to the host before a failed allocation are the first calls.
   pub survey_stopped : (cases : List Candidate) (old a b d new : W) (root : Bool) (memory disk : Option ℕ) → replies old (IsRoot root) a → replies a (HasMemory memory) b → replies b (HasDisk disk) d
       → Answered replies d new (λ answers. AreFirst (LooksFor (needs_of cases)) answers) → Answered replies old new (λ answers. SurveysFirst cases answers)
   survey_stopped cases old a b d new root memory disk x y z h = record {

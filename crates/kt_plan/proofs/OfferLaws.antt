@@ -1,4 +1,4 @@
--- The cases of programs, and what the world is asked for them.
+-- Lemmas on the cases of programs, and on the calls for them.
 use Rattle.std.proofs.Common.{Some, None, ◌≡◌, ◌≢◌, List, [], ◌∷◌, ◌++◌, sym, subst, append_assoc, append-nil, length}
 use Rattle.kt_plan.proofs.Common.{Atf, Values, Answered, Filter, Program, Candidate, ListsFirst, before_list, after_list, candidates_of, variables_for, IsWanted, ListsCases, listed, OffersOne, listing, unlisted, single, Offers, one_and, OffersFirst, no_further, asks, passes, Reply, Lists}
 use Rattle.kt_plan.proofs.Chains.{answered-as, answered-once, answered-then, asked_nothing}
@@ -7,13 +7,13 @@ use Rattle.kt_atflist.specs.Cases.{AreCases}
 use Rattle.kt_plan.specs.Collecting.{none}
 use Rattle.std.proofs.lemmas.List.{nil_from_length}
 
--- memory ran out after it was asked for its list
+-- A list after which an allocation fails is the first call for a program.
 pub list_asked : {W : Type 0} (replies : W → Reply → W → Type 0) (config : Values) (program : Program) (variables : List Variable) (old new : W) (answer : Listing) → variables ≡ variables_for config program.suite
     → replies old (Lists program variables answer) new → Answered replies old new (λ answers. ListsFirst config program answers)
 list_asked replies config program variables old new answer e h =
     answered-once (Lists program (variables_for config program.suite) answer) (subst (λ (vs : List Variable). replies old (Lists program vs answer) new) e h) (after_list answer)
 
--- a program was asked for its list
+-- A list gives the cases of a program.
 pub lists_cases : {W : Type 0} (replies : W → Reply → W → Type 0) (config : Values) (program : Program) (variables : List Variable) (old new : W) (answer : Listing) (cases : List CaseDef)
     → variables ≡ variables_for config program.suite → replies old (Lists program variables answer) new
     → AreCases program.props Atf (Some answer) cases → Answered replies old new (λ answers. ListsCases config program answers cases)
@@ -33,25 +33,25 @@ module _ {W : Type 0} (replies : W → Reply → W → Type 0) (config : Values)
       → Answered replies world world (λ answers. OffersOne config filters program answers (candidates_of program cases))
   offers_single program world cases n a = asked_nothing replies world _ (single cases n a)
 
-  -- a program's questions are the first ones for it and for those after it
+  -- All calls for a program, and the first for the programs after it, are first calls.
   first_of_one : (program : Program) (rest : List Program) (own more : List Reply) (found : List Candidate) → OffersOne config filters program own found → OffersFirst config filters rest more
       → OffersFirst config filters (program ∷ rest) (own ++ more)
   first_of_one program rest _ more _ (listing _ _ e w (listed answer cases a)) h = asks program rest answer more e w h
   first_of_one program rest _ more _ (unlisted e n) h = passes program rest more (λ _. n) h
   first_of_one program rest _ more _ (single cases n a) h = passes program rest more (λ e _. n e) h
 
-  -- and so are the first ones for it alone
+  -- The first calls for a program alone are first calls for it and the programs after it.
   first_before : (program : Program) (rest : List Program) (answers : List Reply) → OffersFirst config filters (program ∷ []) answers → OffersFirst config filters (program ∷ rest) answers
   first_before program rest _ (no_further _) = no_further (program ∷ rest)
   first_before program rest _ (asks _ _ answer _ e w (no_further _)) = asks program rest answer [] e w (no_further rest)
   first_before program rest _ (passes _ _ _ n (no_further _)) = no_further (program ∷ rest)
 
-  -- all questions are the first ones
+  -- All calls for programs are first calls, too.
   pub all_first : (programs : List Program) (answers : List Reply) (found : List Candidate) → Offers config filters programs answers found → OffersFirst config filters programs answers
   all_first _ _ _ none = no_further []
   all_first _ _ _ (one_and program programs answers more own others o h) = first_of_one program programs answers more own o (all_first programs more others h)
 
-  -- the list of a program that is wanted was asked for, or not yet
+  -- The first calls for the list of a program that `IsWanted` are first calls for the program.
   pub first_listed : (program : Program) (old new : W) → program.interface ≡ Atf → IsWanted filters program → Answered replies old new (λ answers. ListsFirst config program answers)
       → Answered replies old new (λ answers. OffersFirst config filters (program ∷ []) answers)
   first_listed program old new e w a = answered-as a by
@@ -60,12 +60,12 @@ module _ {W : Type 0} (replies : W → Reply → W → Type 0) (config : Values)
       by _ before_list = no_further (program ∷ [])
       by _ (after_list answer) = asks program [] answer [] e w (no_further [])
 
-  -- the cases of a program were had
+  -- The calls that give the cases of a program are first calls for it.
   pub first_offered : (program : Program) (old new : W) (found : List Candidate) → Answered replies old new (λ answers. OffersOne config filters program answers found)
       → Answered replies old new (λ answers. OffersFirst config filters (program ∷ []) answers)
   first_offered program old new found a = answered-as a (λ answers h. rw append-nil at (first_of_one program [] answers [] found h (no_further [])))
 
-  -- the cases of some programs so far
+  -- `Offering programs old rest new found`: the calls so far, with those of `rest`, are all.
   abbrev pub Offering : List Program → W → List Program → W → List Candidate → Type 0
   Offering programs old rest new found = Answered replies old new (λ answers.
       ((more : List Reply) (others : List Candidate) → Offers config filters rest more others → Offers config filters programs (answers ++ more) (found ++ others))
@@ -79,7 +79,7 @@ module _ {W : Type 0} (replies : W → Reply → W → Type 0) (config : Values)
       λ more k. rw append_assoc (f.1 (asked ++ more) (rw e (first_of_one program after asked more own h k))),
     ))
 
-    -- memory ran out at a program
+    -- The calls before a failed allocation are the first calls for the programs.
     pub offers_stopped : (rest after : List Program) (program : Program) (mid new : W) (found : List Candidate) → rest ≡ program ∷ after → Offering programs old rest mid found
         → Answered replies mid new (λ answers. OffersFirst config filters (program ∷ []) answers) → Answered replies old new (λ answers. OffersFirst config filters programs answers)
     offers_stopped rest after program mid new found e o a =

@@ -1,9 +1,9 @@
--- Selected cases are picked by their places.
+-- Lemmas on the selection of cases by their indexes.
 use Rattle.std.proofs.Common.{Bool, false, true, ◌≡◌, ℕ, ◌+◌, ◌≤◌, List, [], ◌∷◌, ◌++◌, sym, ◌∙◌, arith, append_assoc, map}
 use Rattle.kt_plan.proofs.Common.{common_steps, Filter, places, is_selected, Candidate, item_of, selected_cases, places_from}
 use Rattle.kt_suite.specs.declared.selecting.Item.{Item}
 
--- a place is no earlier than the count
+-- The first index of a selection is at least the index of its first item.
 no_earlier : (test : Item → Bool) (n : ℕ) (items : List Item) (m : ℕ) (ms : List ℕ) → places test n items ≡ m ∷ ms → n ≤ m
 no_earlier test n [] m ms e = absurd (cc)
 no_earlier test n (item ∷ items) m ms e = grind (arith, no_earlier test (n + 1) items m ms)
@@ -12,11 +12,11 @@ module _ (filters : List Filter) (candidate : Candidate) (rest : List Candidate)
   abbrev after : List ℕ
   after = places_from filters (place + 1) rest
 
-  -- what is to be shown of a case that was or wasn't kept
+  -- `Keeps old new left`: after one case, `new` and `left` are right for the remaining cases.
   abbrev pub Keeps : List Candidate → List Candidate → List ℕ → Type 0
   Keeps old new left = (left ≡ after) × (new ++ selected_cases filters rest ≡ old ++ selected_cases filters (candidate ∷ rest))
 
-  -- the next place is the case's own
+  -- A case with the next index is appended.
   pub picked : (cases new : List Candidate) (now others : List ℕ) → now ≡ place ∷ others → new ≡ cases ++ candidate ∷ [] → now ≡ places_from filters place (candidate ∷ rest) → Keeps cases new others
   picked cases new now others is grown h =
       let same : place ∷ others ≡ places_from filters place (candidate ∷ rest) = sym is ∙ h in
@@ -24,7 +24,7 @@ module _ (filters : List Filter) (candidate : Candidate) (rest : List Candidate)
       let selected : is_selected filters (item_of candidate) ≡ true = grind (arith, later) in
       (grind (arith, later), grind (arith, common_steps, append_assoc cases (candidate ∷ []) (selected_cases filters rest)))
 
-  -- the next place is another case's
+  -- A case without the next index is dropped.
   pub passed : (cases : List Candidate) (now : List ℕ) → ((others : List ℕ) → now ≡ place ∷ others → ⊥) → now ≡ places_from filters place (candidate ∷ rest) → Keeps cases cases now
   passed cases now other h =
       let left_out : is_selected filters (item_of candidate) ≡ false = grind (arith, other after) in

@@ -1,4 +1,4 @@
--- The plan of some cases can be run.
+-- Lemmas on the jobs of a plan and their positions.
 use Rattle.std.proofs.Common.{Some, slice_get, ◌≡◌, ℕ, zero, suc, ◌+◌, ◌≤◌, List, [], ◌∷◌, ◌++◌, length, arith, refl, ap, ◌∙◌, sym, subst, add-zero, add-one, append_assoc, append-nil}
 use Rattle.kt_plan.proofs.Common.{Values, Host, Job, Candidate, ArePlanned, no_job, planned, IsJobOf}
 use Rattle.std.proofs.lemmas.Option.{same_Some}
@@ -14,7 +14,7 @@ module _ (config : Values) (host : Host) where
   length_from k _ _ (no_job _) = refl
   length_from k _ _ (planned _ candidate cases first plan is rest) = ap suc (length_from (suc k) cases plan rest)
 
-  -- the jobs of some cases so far
+  -- `Jobs cases position rest plan`: `plan`, with the jobs of `rest`, is the plan of `cases`.
   pub record Jobs (cases : List Candidate) (position : ℕ) (rest : List Candidate) (plan : List Job) : Type 0 where
     pub goes : (more : List Job) → ArePlanned config host position rest more → ArePlanned config host 0 cases (plan ++ more)
     pub room : position + length rest ≤ 100000

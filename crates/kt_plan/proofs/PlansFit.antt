@@ -1,4 +1,4 @@
--- The plan of any cases can be run.
+-- A plan of any cases meets the scheduler's precondition.
 use Rattle.std.proofs.Common.{Some, slice_get, ◌&&◌, ◌≡◌, ◌∙◌, ℕ, zero, suc, Bool, true, List, arith, refl, subst, sym}
 use Rattle.kt_plan.proofs.Common.{Atf, Tap, Plain, Values, Host, Job, IsFit, IsPlan, Candidate, ArePlanned, no_job, planned, IsJobOf, is_atf, meta_in}
 use Rattle.kt_base.specs.declared.child.Interface.{Interface}
@@ -7,7 +7,7 @@ use Rattle.kt_metadata.proofs.Timeouts.{IsTimeout, timeout-within}
 use Rattle.kt_plan.proofs.PlanLaws.{placed_from}
 use Rattle.std.proofs.lemmas.Option.{same_Some}
 
--- only an ATF program has cleanups
+-- Only an ATF program has cleanups.
 atf_alone : (interface : Interface) (declared : Bool) → (is_atf interface && declared) ≡ true → interface ≡ Atf
 atf_alone Atf declared e = refl
 atf_alone Tap declared e = absurd (cc)

@@ -1,11 +1,11 @@
--- What a command selects, step by step.
+-- Lemmas on the selection of a command, step by step.
 use Rattle.std.proofs.Common.{Ok, Err, Bool, ℕ, List, ◌++◌, inl, inr}
 use Rattle.kt_plan.proofs.Common.{Chain, Asked, Answered, CaseOptions, Chosen, Settings, Stop, CollectsOrShort, Collected, Collects, SettlesOrShort, Settles, leads_by, of_tree, of_host, Reply, chain-append}
 use Rattle.kt_plan.specs.Selecting.{SelectsOrShort, collecting, selected, settling, uncollected, unsettled}
 use Rattle.kt_plan.proofs.QuestionChains.{chain_of_host, chain_of_tree}
 
 module _ {W : Type 0} (asks : W → Asked → W → Type 0) (replies : W → Reply → W → Type 0) where
-  -- the settings were refused
+  -- An error in the settings is the error of the selection.
   pub unsettled_answer : (needed : Bool) (options : CaseOptions) (old new : W) (fault : Stop)
       → Answered replies old new (λ answers. SettlesOrShort needed options answers (Err fault))
       → Answered (leads_by asks replies) old new (λ questions. SelectsOrShort needed options questions (Err fault))
@@ -25,7 +25,7 @@ module _ {W : Type 0} (asks : W → Asked → W → Type 0) (replies : W → Rep
       chain-append (leads_by asks replies) (of_host answers) (of_tree asked ++ of_host lists) a b e (chain_of_host asks replies answers a b x)
       (chain-append (leads_by asks replies) (of_tree asked) (of_host lists) b d e (chain_of_tree asks replies asked b d y) (chain_of_host asks replies lists d e z))
 
-  -- the tree was refused, or its cases
+  -- An error in the Kyuafiles or the cases is the error of the selection.
   pub uncollected_answer : (needed : Bool) (options : CaseOptions) (old mid new : W) (settings : Settings) (fault : Stop)
       → Answered replies old mid (λ answers. SettlesOrShort needed options answers (Ok settings))
       → Collected asks replies settings options.kyuafile mid new (Err fault)
@@ -40,7 +40,7 @@ module _ {W : Type 0} (asks : W → Asked → W → Type 0) (replies : W → Rep
   collects_is settings kyuafile asked lists chosen (inl s) = absurd s.0
   collects_is settings kyuafile asked lists chosen (inr s) = s
 
-  -- cases were selected
+  -- Settings and selected cases are a selection.
   pub selected_answer : (needed : Bool) (options : CaseOptions) (old mid new : W) (settings : Settings) (chosen : Chosen)
       → Answered replies old mid (λ answers. SettlesOrShort needed options answers (Ok settings))
       → Collected asks replies settings options.kyuafile mid new (Ok chosen)

@@ -1,4 +1,4 @@
--- The settings of a command.
+-- Lemmas on the settings of a command.
 use Rattle.std.proofs.Common.{Result, Ok, Err, IsErrAnd, ◌≡◌, Bool, List, sym, ap, ◌∙◌, subst, ◌⊎◌, inl, inr}
 use Rattle.kt_plan.proofs.Common.{err_from_is_err_and, Definition, Values, Answered, Filter, Configured, Gives, OrShort, SettlesOrShort, Configures, Filters, Settles, settled, unconfigured, unfiltered, IsShort, Reply, CaseOptions, Settings, Stop}
 use Rattle.kt_base.specs.declared.no_memory.NoMemory.{NoMemory as OutOfMemory}
@@ -6,7 +6,7 @@ use Rattle.kt_plan.specs.declared.stop.Stop.TheVariants as stop
 use Rattle.kt_plan.proofs.Chains.{answered-as}
 use Rattle.kt_plan.proofs.Configurations.{Configuration, configuration_first, with_definitions}
 
--- memory ran out
+-- The error of a failed allocation is `IsShort`.
 pub stops_short : {T : Type 0} (result : Result T Stop) (refusal : OutOfMemory) → IsErrAnd result (λ e. e ≡ stop.NoMemory refusal) → IsShort result
 stops_short {T} result refusal r =
     let p = err_from_is_err_and result r in
@@ -16,7 +16,7 @@ module _ {W : Type 0} (replies : W → Reply → W → Type 0) (old new : W) (ne
   abbrev pub Settled : Result Settings Stop → Type 0
   Settled result = Answered replies old new (λ answers. SettlesOrShort needs_case options answers result)
 
-  -- there is no configuration
+  -- The error of the configuration is that of the settings.
   pub not_configured : (found : Result Values Stop) (result : Result Settings Stop) (fault : Stop) → found ≡ Err fault → IsErrAnd result (λ e. e ≡ fault) → Configuration replies old new options found → Settled result
   not_configured found result fault e r a =
       let p = err_from_is_err_and result r in
@@ -32,7 +32,7 @@ module _ {W : Type 0} (replies : W → Reply → W → Type 0) (old new : W) (ne
       by answers (inr c) = inr (meant answers c.meant c.means c.gives)
 
   module _ (found : Result Values Stop) (config : Values) (e : found ≡ Ok config) (a : Configuration replies old new options found) where
-    -- the filters are wrong
+    -- The error of the filters is that of the settings.
     pub not_filtered : (read : Result (List Filter) Stop) (result : Result Settings Stop) (fault : Stop) → read ≡ Err fault → IsErrAnd result (λ x. x ≡ fault)
         → IsShort read ⊎ Filters needs_case options.filters read → Settled result
     not_filtered read result fault f r h =
@@ -46,7 +46,7 @@ module _ {W : Type 0} (replies : W → Reply → W → Type 0) (old new : W) (ne
         by answers definitions m (inl s) = inl (s, configuration_first options answers (Ok definitions) m)
         by answers definitions m (inr w) = inr (unfiltered definitions fault m w)
 
-    -- all is right
+    -- A configuration and filters are settings.
     pub all_settled : (read : Result (List Filter) Stop) (filters : List Filter) → read ≡ Ok filters → IsShort read ⊎ Filters needs_case options.filters read
         → Settled (Ok (record { config = config; filters = filters }))
     all_settled read filters f h =

@@ -1,4 +1,4 @@
--- The words of stops as characters and as bytes.
+-- Lemmas on the error messages as characters and as bytes.
 use Rattle.std.proofs.Common.{◌≡◌, refl}
 use Rattle.kt_plan.proofs.Common.{chars, encode, utf8, ConfigFault, config_words, FilterFault, utf8-script}
 use Rattle.kt_script.specs.declared.fault.ScriptFault.{ScriptFault}

@@ -1,9 +1,9 @@
--- Whether some filter selects a case that a program could have.
+-- Lemmas on filters that may select a case of a program.
 use Rattle.std.proofs.Common.{◌≡◌, ℕ, ◌<◌, List, [], ◌∷◌, sym, subst, inl, inr, Contains, arith}
 use Rattle.kt_plan.proofs.Common.{Filter, MayMatch}
 use Rattle.std.proofs.lemmas.List.Elements.{Contains-append_left, Contains-append_right, Contains-append_cases, Contains-push, Contains-push_cases}
 
--- one of some filters selects a case of a program
+-- `AnyMatches filters path`: one of `filters` may select a case of the program at `path`.
 abbrev pub AnyMatches : List Filter → List ℕ → Type 0
 AnyMatches filters path = (one : Filter) × Contains filters one × MayMatch one path
 
@@ -13,14 +13,14 @@ none_in one h = absurd (let less : h.0 < 0 = h.1 in omega (arith, less))
 only_in : (f one : Filter) → Contains (f ∷ []) one → f ≡ one
 only_in f one h = elim (Contains-push_cases [] f one h) [ inl c ↦ absurd (none_in one c) | inr e ↦ e ]
 
--- the filters to come are among all
+-- `AreAmong rest all`: each filter of `rest` is one of `all`.
 abbrev pub AreAmong : List Filter → List Filter → Type 0
 AreAmong rest all = (one : Filter) → Contains rest one → Contains all one
 
 pub among_after : (f : Filter) (after rest all : List Filter) → rest ≡ f ∷ after → AreAmong rest all → AreAmong after all
 among_after f after rest all e h one c = h one (subst (λ (xs : List Filter). Contains xs one) (sym e) (Contains-append_right (f ∷ []) after one c))
 
--- what selects a case is still to come
+-- `IsAhead rest all path`: if a filter of `all` may select a case, one of `rest` may.
 abbrev pub IsAhead : List Filter → List Filter → List ℕ → Type 0
 IsAhead rest all path = AnyMatches all path → AnyMatches rest path
 

@@ -1,4 +1,4 @@
--- What a command over test cases is configured with, and which filters it has: the first step.
+-- The first step: the configuration and the filters of a command over test cases.
 use Rattle.std.specs.Prelude.{ℕ, Bool, true, false, not, ◌≡◌, ◌<◌, ◌&&◌, List, [], ◌∷◌, ◌++◌, Option, Some, None, Result, Ok, Err, is_some, slice_get}
 use Rattle.std.specs.Option.{option_map_or}
 use Rattle.kt_plan.specs.Types.{CaseOptions, Definition, Failed, Filter, FilterFault, Missing, ReadFault, Settings, Stop}
@@ -15,91 +15,102 @@ use Rattle.kt_suite.specs.Filters.{filter_meaning}
 use Rattle.kt_plan.specs.declared.stop.Stop.TheVariants as stop
 use Rattle.kt_plan.specs.Reply.{Reply, ReadConfig}
 
--- ---- words in order
+-- ---- arguments in order
 
--- what a word means, or the stop for its fault
+-- `or_stop stop_for result`: `result` with its error converted to a `Stop`.
 abbrev pub or_stop : {A E : Type 0} → (E → Stop) → Result A E → Result A Stop
 or_stop stop_for (Ok meaning) = Ok meaning
 or_stop stop_for (Err fault) = Err (stop_for fault)
 
--- what one word means before what the others mean: after a stop nothing counts
+-- `in_front first rest`: the meaning of one argument, followed by those of the others. The first
+-- error counts.
 abbrev pub in_front : {A : Type 0} → Result A Stop → Result (List A) Stop → Result (List A) Stop
 in_front (Err fault) rest = Err fault
 in_front (Ok first) (Ok rest) = Ok (first ∷ rest)
 in_front (Ok first) (Err fault) = Err fault
 
--- what words mean, or the stop at the first that is wrong
+-- `each_of meaning words`: the meanings of `words`, or the `Stop` of the first argument with an
+-- error.
 abbrev pub each_of : {A : Type 0} → (List ℕ → Result A Stop) → List (List ℕ) → Result (List A) Stop
 each_of meaning [] = Ok []
 each_of meaning (word ∷ words) = in_front (meaning word) (each_of meaning words)
 
--- these before what words mean
+-- `behind before result`: `before`, followed by the meanings in `result`.
 abbrev pub behind : {A : Type 0} → List A → Result (List A) Stop → Result (List A) Stop
 behind before (Ok more) = Ok (before ++ more)
 behind before (Err fault) = Err fault
 
 -- ---- variables
 
--- what a word of `-v` defines, or why it stops the command; a name without a value has a bad value
+-- `word_meaning word`: the definition of the argument `word` of `-v`, or its `Stop`. A name without
+-- a value has a bad value.
 abbrev pub word_meaning : List ℕ → Result Definition Stop
 word_meaning word =
     or_stop (stop.Variable (before 61 word)) (option_map_or (definition_named (before 61 word)) (after 61 word) (Err BadValue))
 
--- what the words of `-v` define, or the stop at the first that is wrong
+-- `words_meaning words`: the definitions of the arguments `words` of `-v`, or the `Stop` of the
+-- first argument with an error.
 abbrev pub words_meaning : List (List ℕ) → Result (List Definition) Stop
 words_meaning words = each_of word_meaning words
 
 -- ---- the configuration
 
--- the file isn't there, or reading it failed for another reason than memory
+-- `IsUnread fault`: the file is missing, or a read failed for a reason other than memory.
 pub data IsUnread : ReadFault → Type 0 where
   missing : IsUnread Missing
   failed : IsUnread Failed
 
--- what the bytes of a configuration file define, or why they stop the command
+-- `IsConfiguration bytes meant`: the definitions of a configuration file with these bytes, or its
+-- `Stop`.
 pub data IsConfiguration (bytes : List ℕ) : Result (List Definition) Stop → Type 0 where
   refused : (fault : ConfigFault) → IsDue bytes fault → IsConfiguration bytes (Err (stop.Configuration fault))
   read : (stmts : List Stmt) (definitions : List Definition) → Spells bytes stmts → outcome_of stmts ≡ Ok definitions → IsConfiguration bytes (Ok definitions)
 
--- what the configuration file defines, if one is given, or why it stops the command
+-- `ReadsConfig path replies meant`: the definitions of the configuration file, if there is one, or
+-- its `Stop`.
 pub data ReadsConfig : Option (List ℕ) → List Reply → Result (List Definition) Stop → Type 0 where
   none : ReadsConfig None [] (Ok [])
   unread : (path : List ℕ) (fault : ReadFault) → IsUnread fault → ReadsConfig (Some path) (ReadConfig path (Err fault) ∷ []) (Err stop.UnreadConfiguration)
   seen : (path bytes : List ℕ) (meant : Result (List Definition) Stop) → IsConfiguration bytes meant
       → ReadsConfig (Some path) (ReadConfig path (Ok bytes) ∷ []) meant
 
--- what the configuration file and then the words of `-v` define, or the stop at the first fault
+-- `Configures options replies meant`: the definitions of the configuration file, followed by those
+-- of `-v`, or the `Stop` of the first error.
 pub data Configures (options : CaseOptions) (answers : List Reply) : Result (List Definition) Stop → Type 0 where
   stopped : (fault : Stop) → ReadsConfig options.config answers (Err fault) → Configures options answers (Err fault)
   defined : (before : List Definition) → ReadsConfig options.config answers (Ok before) → Configures options answers (behind before (words_meaning options.variables))
 
 -- ---- filters
 
--- the filter of a word, or why it stops the command
+-- `filter_of word`: the filter of the argument `word`, or its `Stop`.
 abbrev pub filter_of : List ℕ → Result Filter Stop
 filter_of word = or_stop (stop.Filter word) (filter_meaning word)
 
--- the filters of some words, or the stop at the first that is wrong
+-- `filters_of words`: the filters of the arguments `words`, or the `Stop` of the first argument
+-- that is not a filter.
 abbrev pub filters_of : List (List ℕ) → Result (List Filter) Stop
 filters_of words = each_of filter_of words
 
--- the filter at a position shares a case with an earlier one, and no filter before it does
+-- `IsClash words filters word fault`: the filter of `word` is the first that selects a case of an
+-- earlier filter.
 pub record IsClash (words : List (List ℕ)) (filters : List Filter) (word : List ℕ) (fault : FilterFault) : Type 0 where
   pub position : ℕ
   pub at : overlap_fault filters position ≡ Some fault
   pub first : (before : ℕ) → before < position → overlap_fault filters before ≡ None
   pub named : slice_get words position ≡ Some word
 
--- there is one filter, of one case
+-- `names_one_case filters`: there is exactly one filter, and it names a case.
 abbrev pub names_one_case : List Filter → Bool
 names_one_case (filter ∷ []) = is_some filter.case_name
 names_one_case filters = false
 
--- one filter of one case is needed, and there isn't
+-- `lacks_case needs_case filters`: exactly one filter that names a case is needed, and `filters`
+-- are others.
 abbrev pub lacks_case : Bool → List Filter → Bool
 lacks_case needs_case filters = needs_case && not (names_one_case filters)
 
--- the filters are right, or why they stop the command
+-- `Filters needs_case words result`: the filters of the arguments `words`, or the `Stop` of the
+-- first error.
 pub data Filters (needs_case : Bool) (words : List (List ℕ)) : Result (List Filter) Stop → Type 0 where
   unparsed : (fault : Stop) → filters_of words ≡ Err fault → Filters needs_case words (Err fault)
   clash : (filters : List Filter) (word : List ℕ) (fault : FilterFault) → filters_of words ≡ Ok filters → IsClash words filters word fault
@@ -111,7 +122,8 @@ pub data Filters (needs_case : Bool) (words : List (List ℕ)) : Result (List Fi
 
 -- ---- the whole step
 
--- the settings of a command, or the stop at the first fault: its configuration file, the words of `-v`, its filters
+-- `Settles needs_case options replies result`: the settings of a command, or the `Stop` of the
+-- first error in its configuration file, the arguments of `-v` or its filters.
 pub data Settles (needs_case : Bool) (options : CaseOptions) (answers : List Reply) : Result Settings Stop → Type 0 where
   unconfigured : (fault : Stop) → Configures options answers (Err fault) → Settles needs_case options answers (Err fault)
   unfiltered : (definitions : List Definition) (fault : Stop) → Configures options answers (Ok definitions) → Filters needs_case options.filters (Err fault)
@@ -119,7 +131,7 @@ pub data Settles (needs_case : Bool) (options : CaseOptions) (answers : List Rep
   settled : (definitions : List Definition) (settings : Settings) → Configures options answers (Ok definitions) → Holds settings.config definitions
       → Filters needs_case options.filters (Ok settings.filters) → Settles needs_case options answers (Ok settings)
 
--- the first questions for the configuration file: it is asked for, or not yet
+-- `ReadsFirst path replies`: the first calls for the configuration file: none, or its read.
 pub data ReadsFirst : Option (List ℕ) → List Reply → Type 0 where
   before_file : (path : Option (List ℕ)) → ReadsFirst path []
   after_file : (path : List ℕ) (answer : Result (List ℕ) ReadFault) → ReadsFirst (Some path) (ReadConfig path answer ∷ [])

@@ -1,4 +1,4 @@
--- What the Kyuafile of a command registers.
+-- The programs that the Kyuafile of a command registers.
 use Rattle.std.specs.Prelude.{ℕ, true, false, List, [], ◌≡◌, Err}
 use Rattle.kt_plan.specs.Types.{Asked, NoMemory as OutOfMemory, SuiteFault}
 use Rattle.kt_suite.specs.Paths.{name_in}
@@ -7,13 +7,15 @@ use Rattle.kt_suite.specs.declared.cause.SuiteCause.TheVariants.{NoMemory, Unrea
 use Rattle.kt_suite.specs.Faults.{fault_at}
 use Rattle.kt_suite.specs.Registered.{Outcome, Registered, Unfinished}
 
--- what it registers, for these answers of its tree. A path that names no file, as one that ends in a
--- slash, is unreadable: the fault has the path as it was given, and nothing is asked.
+-- `Loads kyuafile asked outcome`: the programs that `kyuafile` registers, by the calls `asked` to
+-- the tree. A path without a file name, such as one that ends in a slash, is unreadable. The error
+-- then has the path as it was given, and no call is made.
 pub data Loads (kyuafile : List ℕ) : List Asked → Outcome → Type 0 where
   unnamed : is_empty (name_in kyuafile) ≡ true → Loads kyuafile [] (Err (fault_at kyuafile 0 Unreadable))
   named : (asked : List Asked) (outcome : Outcome) → is_empty (name_in kyuafile) ≡ false → Registered asked (name_in kyuafile) outcome → Loads kyuafile asked outcome
 
--- the first questions to the tree, if memory ran out. They are all of them if the tree itself answered so.
+-- `LoadsFirst kyuafile asked`: the first calls to the tree, if an allocation fails. They are all
+-- calls if an allocation of the tree failed.
 pub data LoadsFirst (kyuafile : List ℕ) : List Asked → Type 0 where
   before_tree : LoadsFirst kyuafile []
   unfinished : (asked : List Asked) (outcome : Outcome) → Unfinished asked (name_in kyuafile) outcome → LoadsFirst kyuafile asked

@@ -1,4 +1,4 @@
--- What the host is asked for the selected cases, and the plan of them: the third step.
+-- The third step: the properties of the host that the selected cases may require, and their plan.
 use Rattle.std.specs.Prelude.{ℕ, suc, Bool, true, false, ◌≡◌, ◌&&◌, List, [], ◌∷◌, ◌++◌, Option, Some, None, map}
 use Rattle.std.specs.List.{list_any}
 use Rattle.std.specs.Option.{option_map}
@@ -15,49 +15,51 @@ use Rattle.kt_plan.specs.Collecting.{variables_for}
 use Rattle.kt_plan.specs.Questions.{AreFirst}
 use Rattle.kt_plan.specs.Reply.{Reply, Finds, IsRoot, HasMemory, HasDisk}
 
--- the effective properties of a case
+-- `meta_in candidate`: the effective properties of a case.
 abbrev pub meta_in : Candidate → Meta
 meta_in candidate = effective candidate.case.props
 
--- each of these words, with what it names
+-- `needs_in need words`: the requirements of `words`, each of the kind `need`.
 abbrev pub needs_in : Need → List (List ℕ) → List (Need × List ℕ)
 needs_in need words = map (λ word. (need, word)) words
 
--- what must be found of these kinds
+-- `needs_among needs meta`: the requirements of the kinds `needs` in the properties `meta`.
 abbrev pub needs_among : List Need → Meta → List (Need × List ℕ)
 needs_among [] meta = []
 needs_among (need ∷ needs) meta = needs_in need (needed need meta) ++ needs_among needs meta
 
--- what must be found for a case, kind after kind; nothing if its list has a fault
+-- `needs_by fault meta`: the requirements of a case, kind after kind, none if its list has an
+-- error.
 abbrev pub needs_by : Option Reason → Meta → List (Need × List ℕ)
 needs_by (Some reason) meta = []
 needs_by None meta = needs_among all_needs meta
 
--- what must be found for some cases, in their order
+-- `needs_of candidates`: the requirements of cases, in order.
 abbrev pub needs_of : List Candidate → List (Need × List ℕ)
 needs_of [] = []
 needs_of (candidate ∷ candidates) = needs_by candidate.case.fault (meta_in candidate) ++ needs_of candidates
 
--- the host is asked whether each of these is found, in their order
+-- `LooksFor needs replies`: the host checks each requirement, in order.
 pub data LooksFor : List (Need × List ℕ) → List Reply → Type 0 where
   nothing : LooksFor [] []
   asked : (need : Need) (word : List ℕ) (needs : List (Need × List ℕ)) (answer : Bool) (answers : List Reply) → LooksFor needs answers
       → LooksFor ((need, word) ∷ needs) (Finds need word answer ∷ answers)
 
--- an answer says that this is there
+-- `finds need word reply`: `reply` reports that the required file or program exists.
 abbrev pub finds : Need → List ℕ → Reply → Bool
 finds need word (Finds other_need other answer) = is_same_need other_need other need word && answer
 finds need word other = false
 
--- the host is asked whether the runner is root, for its memory and its disk space, and for what the cases require to be found; it is there
--- if one of the answers says so
+-- `Surveys candidates replies host`: `host` has the results of the checks for root, memory, disk
+-- space and the requirements. A file or a program exists if a check has found it.
 pub record Surveys (candidates : List Candidate) (answers : List Reply) (host : Host) : Type 0 where
   pub looked : List Reply
   pub asked : answers ≡ IsRoot host.root ∷ HasMemory host.memory ∷ HasDisk host.disk ∷ looked
   pub all : LooksFor (needs_of candidates) looked
   pub found : (need : Need) (word : List ℕ) → is_found need host word ≡ list_any (finds need word) looked
 
--- the first questions to the host, if memory ran out: those for files and programs come last
+-- `SurveysFirst candidates replies`: the first calls to the host, if an allocation fails. The
+-- checks of files and programs come last.
 pub record SurveysFirst (candidates : List Candidate) (answers : List Reply) : Type 0 where
   pub root : Bool
   pub memory : Option ℕ
@@ -66,17 +68,19 @@ pub record SurveysFirst (candidates : List Candidate) (answers : List Reply) : T
   pub asked : answers ≡ IsRoot root ∷ HasMemory memory ∷ HasDisk disk ∷ looked
   pub first : AreFirst (LooksFor (needs_of candidates)) looked
 
--- an interface has cleanups
+-- `is_atf interface`: the interface is ATF, which has cleanups.
 abbrev pub is_atf : Interface → Bool
 is_atf Atf = true
 is_atf other = false
 
--- the verdict of a case that isn't to be started: broken for the fault of its list, else skipped for its first unmet requirement
+-- `IsDecided fault unmet decided`: the verdict of a case that must not be started: broken for the
+-- error of its list, or skipped for its first unmet requirement.
 abbrev pub IsDecided : Option Reason → Option (List ℕ) → Option Judged → Type 0
 IsDecided (Some reason) unmet decided = decided ≡ Some (broken (reason_text reason))
 IsDecided None unmet decided = decided ≡ option_map skipped unmet
 
--- the job of a case at a position
+-- `IsJobOf config host position candidate job`: `job` is that of the case `candidate` at
+-- `position`.
 pub record IsJobOf (config : Values) (host : Host) (position : ℕ) (candidate : Candidate) (job : Job) : Type 0 where
   pub at : job.position ≡ position
   pub interface : job.interface ≡ candidate.interface
@@ -89,7 +93,8 @@ pub record IsJobOf (config : Values) (host : Host) (position : ℕ) (candidate :
   pub decided : IsDecided candidate.case.fault (first_reason (rows (meta_in candidate) config candidate.suite host)) job.decided
   pub meta : job.meta ≡ listing candidate.case.props
 
--- one job for each case, in order, the first at this position
+-- `ArePlanned config host position candidates jobs`: there is one job for each case, in order, the
+-- first at `position`.
 pub data ArePlanned (config : Values) (host : Host) : ℕ → List Candidate → List Job → Type 0 where
   no_job : (position : ℕ) → ArePlanned config host position [] []
   planned : (position : ℕ) (candidate : Candidate) (candidates : List Candidate) (job : Job) (jobs : List Job)

@@ -1,9 +1,10 @@
--- What the host was asked, with its answers.
+-- Calls to the host, with their results.
 use Rattle.std.specs.Prelude.{ℕ, Bool, List, Option, Result}
 use Rattle.kt_plan.specs.Types.{Listing, Need, Program, ReadFault, Variable}
 
--- a question to the host with its answer: the bytes of a configuration file, what a program lists with the variables of its suite,
--- whether a required file or program is found, whether the runner is root, memory and disk space in bytes, the moment
+-- A call to the host with its result: a read of a configuration file, a list of a program's cases,
+-- a check of a required file or program, a check for root, memory or disk space in bytes, or a read
+-- of the clock.
 pub data Reply : Type 0 where
   ReadConfig : (path : List ℕ) (answer : Result (List ℕ) ReadFault) → Reply
   Lists : (program : Program) (variables : List Variable) (answer : Listing) → Reply

@@ -1,4 +1,4 @@
--- What the options of a command select.
+-- The selection of test cases by the options of a command.
 use Rattle.std.specs.Prelude.{Bool, List, ◌++◌, ◌⊎◌, Result, Ok, Err}
 use Rattle.kt_plan.specs.Types.{Asked, CaseOptions, Chosen, Picked, Settings, Stop}
 use Rattle.kt_plan.specs.Collecting.{Collects, CollectsFirst}
@@ -7,8 +7,8 @@ use Rattle.kt_plan.specs.Questions.{Question, of_tree, of_host}
 use Rattle.kt_plan.specs.Stops.{IsShort}
 use Rattle.kt_plan.specs.Reply.{Reply}
 
--- what the options of a command select, by these questions, or the first fault that stops it: the configuration and the filters, and then the tree
--- and its lists
+-- `Selects needed options questions result`: the selected cases, or the first error that stops the
+-- command. The configuration and the filters are read first, then the tree and its lists.
 pub data Selects (needed : Bool) (options : CaseOptions) : List Question → Result Picked Stop → Type 0 where
   unsettled : (answers : List Reply) (fault : Stop) → Settles needed options answers (Err fault) → Selects needed options (of_host answers) (Err fault)
   uncollected : (answers : List Reply) (settings : Settings) (asked : List Asked) (lists : List Reply) (fault : Stop) → Settles needed options answers (Ok settings)
@@ -17,12 +17,13 @@ pub data Selects (needed : Bool) (options : CaseOptions) : List Question → Res
       → Collects settings options.kyuafile asked lists (Ok chosen)
       → Selects needed options (of_host answers ++ (of_tree asked ++ of_host lists)) (Ok (record { settings = settings; chosen = chosen }))
 
--- the first questions for a selection, if memory ran out
+-- `SelectsFirst needed options questions`: the first calls of a selection, if an allocation fails.
 pub data SelectsFirst (needed : Bool) (options : CaseOptions) : List Question → Type 0 where
   settling : (answers : List Reply) → ReadsFirst options.config answers → SelectsFirst needed options (of_host answers)
   collecting : (answers : List Reply) (settings : Settings) (asked : List Asked) (lists : List Reply) → Settles needed options answers (Ok settings)
       → CollectsFirst settings options.kyuafile asked lists → SelectsFirst needed options (of_host answers ++ (of_tree asked ++ of_host lists))
 
--- a selection, or memory ran out after the first questions for it
+-- `SelectsOrShort needed options questions result`: a selection, or its first calls if an
+-- allocation fails.
 abbrev pub SelectsOrShort : Bool → CaseOptions → List Question → Result Picked Stop → Type 0
 SelectsOrShort needed options questions result = (IsShort result × SelectsFirst needed options questions) ⊎ Selects needed options questions result

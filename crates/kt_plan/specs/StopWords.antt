@@ -1,15 +1,15 @@
--- The words of a stop, as its line has them.
+-- The error messages of a `Stop`.
 use Rattle.std.specs.Prelude.{ℕ, List, ◌++◌, codes}
 use Rattle.kt_plan.specs.Types.{Stop}
 use Rattle.kt_config.specs.FaultWords.{config_words}
 use Rattle.kt_suite.specs.FaultWords.{fault_words, filter_words}
 use Rattle.kt_plan.specs.declared.stop.Stop.TheVariants as stop
 
--- a word in quotes, and what is wrong with it
+-- `quoted_words what word fault`: the message of an error in the argument `word`.
 abbrev pub quoted_words : List ℕ → List ℕ → List ℕ → List ℕ
 quoted_words what word fault = what ++ codes " '" ++ word ++ codes "': " ++ fault
 
--- the words of a stop
+-- `stop_words stop`: the error message of `stop`.
 abbrev pub stop_words : Stop → List ℕ
 stop_words (stop.NoMemory refusal) = codes "out of memory"
 stop_words stop.UnreadConfiguration = codes "configuration: could not be read"

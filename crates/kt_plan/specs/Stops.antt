@@ -1,13 +1,13 @@
--- Whether only a lack of memory stopped the steps of a command.
+-- The `Stop` of a failed allocation.
 use Rattle.std.specs.Prelude.{◌≡◌, Result, Ok, Err}
 use Rattle.kt_plan.specs.Types.{NoMemory as OutOfMemory, Stop}
 use Rattle.kt_plan.specs.declared.stop.Stop.TheVariants as stop
 
--- memory ran out
+-- `RanOut fault`: `fault` is that of a failed allocation.
 abbrev pub RanOut : Stop → Type 0
 RanOut fault = (refusal : OutOfMemory) × (fault ≡ stop.NoMemory refusal)
 
--- memory ran out before there was an answer
+-- `IsShort result`: `result` is the error of a failed allocation.
 abbrev pub IsShort : {T : Type 0} → Result T Stop → Type 0
 IsShort (Ok x) = ⊥
 IsShort (Err fault) = RanOut fault

@@ -1,4 +1,5 @@
-//! What a command over test cases selects, and the plan that it makes of them: the steps before anything runs.
+//! The steps of a command over test cases before a test starts: its settings, the selected cases,
+//! and their plan.
 #![tactic(auto)]
 
 mod cases;

@@ -9,27 +9,35 @@ use kt_config::ConfigFault;
 use kt_suite::{FilterFault, SelectFault, SuiteFault};
 use std::io::Write;
 
-/// Why a command over test cases ended before it did anything: the first fault of its steps.
+/// Errors returned by [`select_cases`](crate::select_cases): the first error of a command over test
+/// cases.
 #[derive(Drop)]
 pub enum Stop {
+    /// An allocation failed.
     NoMemory(NoMemory),
-    /// The configuration file could not be read.
+    /// The configuration file can't be read.
     UnreadConfiguration,
-    /// The configuration file was refused.
+    /// The configuration file has an error.
     Configuration(ConfigFault),
-    /// An argument of `-v` was refused: its name, or all of it if it has no `=`.
+    /// An argument of `-v` has an error. The text is the name of the variable, or the whole
+    /// argument if it lacks a `=`.
     Variable(Text, ConfigFault),
-    /// A filter was refused: the argument as it was given.
+    /// A filter has an error. The text is the argument as it was given.
     Filter(Text, FilterFault),
-    /// `debug` needs one filter, of one case.
+    /// `debug` was not given exactly one filter that names a case.
     NeedsCase,
+    /// A Kyuafile has an error.
     Tree(SuiteFault),
     /// There are more than 100,000 cases to select from.
     TooManyCases,
 }
 
 impl Stop {
-    /// Writes the words of the fault's line.
+    /// Writes the text of the error message, without a line end.
+    ///
+    /// # Errors
+    ///
+    /// - `OutputFault`: a write fails. A proper prefix of the text has been written.
     pub fn print<W: Write>(&self, out: &mut W) -> Result<(), OutputFault>
         ensures { Shows (W.contents out.old) (W.contents out.new) (is_err result)
             (utf8 (stop_words self.now)) }
@@ -47,6 +55,7 @@ impl Stop {
     }
 }
 
+/// Writes the message of an error in the configuration file.
 fn print_configuration<W: Write>(fault: ConfigFault, out: &mut W) -> Result<(), OutputFault>
     ensures { Shows (W.contents out.old) (W.contents out.new) (is_err result)
         (utf8 (stop_words (stop.Configuration fault))) }
@@ -54,7 +63,7 @@ fn print_configuration<W: Write>(fault: ConfigFault, out: &mut W) -> Result<(), 
     emit_all(&[b"configuration: ", fault.words().as_bytes()], out)
 }
 
-/// Writes what is wrong with a word.
+/// Writes the message of an error in an argument: `WHAT 'WORD': FAULT`.
 fn print_quoted<W: Write>(
     what: &str,
     word: &Text,
@@ -76,6 +85,7 @@ fn print_quoted<W: Write>(
     )
 }
 
+/// Writes the message of an error in an argument of `-v`.
 fn print_variable<W: Write>(name: &Text, fault: ConfigFault, out: &mut W) -> Result<(), OutputFault>
     ensures { Shows (W.contents out.old) (W.contents out.new) (is_err result)
         (utf8 (stop_words (stop.Variable name.now fault))) }
@@ -83,6 +93,7 @@ fn print_variable<W: Write>(name: &Text, fault: ConfigFault, out: &mut W) -> Res
     print_quoted("variable", name, fault.words(), out)
 }
 
+/// Writes the message of an error in a filter.
 fn print_filter<W: Write>(word: &Text, fault: FilterFault, out: &mut W) -> Result<(), OutputFault>
     ensures { Shows (W.contents out.old) (W.contents out.new) (is_err result)
         (utf8 (stop_words (stop.Filter word.now fault))) }

@@ -4,61 +4,75 @@ use kt_metadata::Need;
 use kt_sched::Launcher;
 use kt_suite::{Program, ReadFault, Tree};
 
-/// What commands ask: the files of a test suite, a launcher of test programs, and the host.
+/// An interface to the environment of a command: the files of a test suite, a launcher of test
+/// programs, and the host.
 pub trait World: Tree + Launcher {
     ghost use Rattle.std.specs.Prelude.{ℕ, ◌≡◌};
     ghost use Rattle.kt_plan.specs.Common.{Role, IsIdle, IsMoment, Asked, Reply, ReadConfig, Lists, Finds, IsRoot, HasMemory, HasDisk, Now};
 
-    /// Whether this answer of the host leads from the first state to the second.
+    /// `replies old reply new`: a call to the host, with its result `reply`, may take the world
+    /// from the state `old` to `new`.
     ghost replies: { Self → Reply → Self → Type 0 };
 
-    /// The bytes of a configuration file, whose path is seen from the working directory. One byte more than a script may
-    /// have is enough.
+    /// Reads a configuration file.
+    ///
+    /// A relative path starts at the working directory. An implementation may stop one byte after
+    /// the greatest size of a script.
+    ///
+    /// # Errors
+    ///
+    /// - `Missing`: there is no such file.
+    /// - `Failed`: the file can't be read or is not a regular file.
+    /// - `Memory`: an allocation fails.
     fn config(&mut self, path: &Text) -> Result<Bytes, ReadFault>
         ensures { replies self.old (ReadConfig path.now result) self.new };
 
-    /// What an ATF program lists, given the variables of its test suite. Nothing may run meanwhile.
+    /// Lists the test cases of an ATF program by running it with the variables of its suite. No
+    /// other test program may be running.
     fn list(&mut self, program: &Program, variables: &Variables) -> Listing
         requires { IsIdle (Self.running self.old) (Self.pending self.old) }
         ensures { replies self.old (Lists program.now variables.now result) self.new };
 
-    /// Whether there is a file at an absolute path (`required_files` of kyuafile(5)).
+    /// Returns `true` if there is a file at an absolute path (`required_files` of kyuafile(5)).
     fn file_exists(&mut self, path: &Text) -> bool
         ensures { replies self.old (Finds Need.File path.now result) self.new };
 
-    /// Whether a program is found: at an absolute path, or by its name in a directory of `PATH` (`required_programs` of
-    /// kyuafile(5)).
+    /// Returns `true` if a program is found at an absolute path, or by its name in a directory of
+    /// `PATH` (`required_programs` of kyuafile(5)).
     fn program_found(&mut self, name: &Text) -> bool
         ensures { replies self.old (Finds Need.Program name.now result) self.new };
 
-    /// Whether the runner is root.
+    /// Returns `true` if the runner is root.
     fn is_root(&mut self) -> bool
         ensures { replies self.old (IsRoot result) self.new };
 
-    /// Physical memory in bytes, if the host knows it.
+    /// Returns the physical memory in bytes, or `None` if the host can't report it.
     fn memory(&mut self) -> Option<u64>
         ensures { replies self.old (HasMemory result) self.new };
 
-    /// Free disk space in bytes, if the host knows it.
+    /// Returns the free disk space in bytes, or `None` if the host can't report it.
     fn disk(&mut self) -> Option<u64>
         ensures { replies self.old (HasDisk result) self.new };
 
-    /// The moment, in milliseconds since 1970 in UTC; 0 if the clock failed or is out of range.
+    /// Returns the current time, in milliseconds since 1970 in UTC. Returns 0 if the clock fails or
+    /// its time is out of range.
     fn now(&mut self) -> u64
         ensures reply { replies self.old (Now result) self.new }
         ensures moment { IsMoment result };
 
-    /// No question to the tree changes what runs.
+    /// `runs_on`: no call to the tree changes the running children.
     ghost runs_on: { (s t : Self) (q : Asked) → Self.asks s q t → (k : ℕ) (r : Role)
         → Self.running t k r ≡ Self.running s k r };
 
+    /// `pends_on`: no call to the tree changes the pending cleanups.
     ghost pends_on: { (s t : Self) (q : Asked) → Self.asks s q t → (k : ℕ)
         → Self.pending t k ≡ Self.pending s k };
 
-    /// No question to the host does.
+    /// `runs_by_reply`: no call to the host changes the running children.
     ghost runs_by_reply: { (s t : Self) (q : Reply) → Self.replies s q t → (k : ℕ) (r : Role)
         → Self.running t k r ≡ Self.running s k r };
 
+    /// `pends_by_reply`: no call to the host changes the pending cleanups.
     ghost pends_by_reply: { (s t : Self) (q : Reply) → Self.replies s q t → (k : ℕ)
         → Self.pending t k ≡ Self.pending s k };
 }

@@ -1,4 +1,4 @@
--- Which cases the programs of a tree have, and which of them are selected: the second step.
+-- Private definitions of the second step: the cases of a suite's programs, and their selection.
 use Rattle.std.specs.Prelude.{ℕ, ◌≡◌, ◌⊎◌, List, [], ◌∷◌, map, Result, Err}
 use Rattle.kt_plan.specs.Types.{Asked, Candidate, Chosen, Filter, Listing, Program, Settings, Stop, SuiteFault, Values}
 use Rattle.kt_base.specs.Chains.{Chain}
@@ -10,29 +10,34 @@ use Rattle.kt_plan.specs.Stops.{IsShort}
 use Rattle.kt_plan.specs.Reply.{Reply, Lists}
 use Rattle.kt_plan.specs.Collecting.{Collects, CollectsFirst, item_of, variables_for}
 
--- memory ran out while a tree was loaded
+-- `RanShort outcome`: an allocation failed while the tree was loaded.
 abbrev pub RanShort : Outcome → Type 0
 RanShort outcome = (fault : SuiteFault) × IsNoMemory fault × (outcome ≡ Err fault)
 
--- what a Kyuafile registers, or memory ran out after the first questions
+-- `LoadsOrShort kyuafile asked outcome`: the programs that `kyuafile` registers, or the first calls
+-- if an allocation fails.
 abbrev pub LoadsOrShort : List ℕ → List Asked → Outcome → Type 0
 LoadsOrShort kyuafile asked outcome = (RanShort outcome × LoadsFirst kyuafile asked) ⊎ Loads kyuafile asked outcome
 
--- the places of the cases that filters select, the first case at this place
+-- `places_from filters place cases`: the indexes of the cases that `filters` select. The first case
+-- has the index `place`.
 abbrev pub places_from : List Filter → ℕ → List Candidate → List ℕ
 places_from filters place cases = places (is_selected filters) place (map item_of cases)
 
--- the first question for the cases of a program, if memory ran out: its list is asked for, or not yet
+-- `ListsFirst config program replies`: the first calls for a program's cases, none or its list, if
+-- an allocation fails.
 pub data ListsFirst (config : Values) (program : Program) : List Reply → Type 0 where
   before_list : ListsFirst config program []
   after_list : (listing : Listing) → ListsFirst config program (Lists program (variables_for config program.suite) listing ∷ [])
 
--- the selected cases, or memory ran out after the first questions for them
+-- `CollectsOrShort settings kyuafile asked replies result`: the selected cases, or the first calls
+-- for them if an allocation fails.
 abbrev pub CollectsOrShort : Settings → List ℕ → List Asked → List Reply → Result Chosen Stop → Type 0
 CollectsOrShort settings kyuafile asked answers result = (IsShort result × CollectsFirst settings kyuafile asked answers) ⊎ Collects settings kyuafile asked answers result
 
 module _ {W : Type 0} (asks : W → Asked → W → Type 0) (replies : W → Reply → W → Type 0) where
-  -- a world was asked for the tree and then for the lists, and this came of it
+  -- `Collected settings kyuafile old new result`: the calls to the tree and then those for the
+  -- lists take the world from `old` to `new` with `result`.
   pub record Collected (settings : Settings) (kyuafile : List ℕ) (old new : W) (result : Result Chosen Stop) : Type 0 where
     pub asked : List Asked
     pub answers : List Reply

@@ -7,7 +7,7 @@ use kt_base::{Items, NoMemory};
 use kt_suite::{Filter, Item, SelectFault, select};
 use std::alloc::Global;
 
-/// The cases as filters see them.
+/// Returns the program path and the name of each case, which filters need.
 fn items_of(alloc: Global, candidates: &[Candidate]) -> Result<Vec<Item>, NoMemory>
     ensures { IfOk result (λ items. items.items ≡ map item_of candidates.now) }
 {
@@ -20,7 +20,7 @@ fn items_of(alloc: Global, candidates: &[Candidate]) -> Result<Vec<Item>, NoMemo
     Ok(items)
 }
 
-/// Appends a case if the first of these places is its own, and returns the places that are left.
+/// Appends a case if the first of `places` is its index, and returns the remaining indexes.
 fn keep<'a>(
     cases: &mut Items<Candidate>,
     candidate: Candidate,
@@ -42,7 +42,7 @@ fn keep<'a>(
     }
 }
 
-/// The selected cases, by their places.
+/// Returns the cases whose indexes are in `places`, which is ascending.
 fn kept(
     alloc: Global,
     found: Items<Candidate>,
@@ -62,7 +62,7 @@ fn kept(
     Ok(cases)
 }
 
-/// What filters select of some cases.
+/// Selects cases by filters. Fails with `TooManyCases` for more than 100,000 cases.
 pub fn choose(alloc: Global, filters: &[Filter], found: Items<Candidate>) -> Result<Chosen, Stop>
     ensures chosen { IfOk result (λ chosen. chosen ≡ chosen_of filters.now found) }
     ensures few { OnOk result (length found ≤ most_items) }

@@ -12,6 +12,7 @@ use kt_suite::{Program, SuiteCause, SuiteFault, Tree, load, split_path};
 use kt_words::CaseOptions;
 use std::alloc::Global;
 
+/// Returns the error of a Kyuafile for which an allocation failed.
 fn out_of_memory(alloc: Global, refusal: NoMemory) -> SuiteFault
     ensures { result ≡ no_memory refusal }
 {
@@ -22,7 +23,7 @@ fn out_of_memory(alloc: Global, refusal: NoMemory) -> SuiteFault
     }
 }
 
-/// The fault of a file as a whole.
+/// Returns an error of a whole file, without a line number.
 fn fault_of(alloc: Global, file: &Text, cause: SuiteCause) -> SuiteFault
     ensures { Blames file.now 0 cause result }
 {
@@ -36,7 +37,8 @@ fn fault_of(alloc: Global, file: &Text, cause: SuiteCause) -> SuiteFault
     }
 }
 
-/// The programs that a Kyuafile registers, whose directory is the root of the tree.
+/// Loads the programs that a Kyuafile registers, in order. The directory of the file must be the
+/// root of `tree`.
 pub fn programs_of<T: Tree>(
     alloc: Global,
     kyuafile: &Text,
@@ -56,7 +58,7 @@ pub fn programs_of<T: Tree>(
     load(alloc, tree, &root)
 }
 
-/// Why a tree that was refused stops a command.
+/// Returns the `Stop` of a command whose Kyuafiles have an error.
 fn tree_stop(fault: SuiteFault) -> Stop
     ensures { ((refusal : OutOfMemory) × (result ≡ stop.NoMemory refusal)
         × (fault.cause ≡ SuiteCause.NoMemory refusal))
@@ -68,12 +70,12 @@ fn tree_stop(fault: SuiteFault) -> Stop
     }
 }
 
-/// The selected cases of a tree: the Kyuafiles are read, each ATF program that some filter may match is asked for its
-/// list, one after the other, and the filters select among all cases (kyua(1)).
+/// Selects the cases of a suite (kyua(1)): reads the Kyuafiles, lists the cases of each ATF program
+/// that the filters do not exclude, and applies the filters to all cases.
 ///
-/// The whole tree is read first, so a faulty Kyuafile starts no program. A list that can't be had is no fault: it makes
-/// one case, which will be broken, so that the other programs are still tested. The limit of 100,000 holds before the
-/// filters select, and is looked at after the last list.
+/// All Kyuafiles are read first, so a faulty Kyuafile starts no program. A list that can't be used
+/// gives one case, which will be reported as broken, so the other programs are still tested. The
+/// limit of 100,000 cases applies before the filters, and is checked after the last list.
 pub fn collect<W: World>(
     alloc: Global,
     settings: &Settings,
@@ -94,8 +96,24 @@ pub fn collect<W: World>(
     choose(alloc, settings.filters.as_slice(), found)
 }
 
-/// What the options of a command select, or the first fault that stops it. `needed` says that the command needs exactly
-/// one filter, of one case.
+/// Selects the test cases that the options of a command name. `needed` is `true` if the command
+/// needs exactly one filter that names a case.
+///
+/// # Errors
+///
+/// The first error is returned, in this order:
+///
+/// - `UnreadConfiguration`: the configuration file can't be read.
+/// - `Configuration`: the configuration file has an error.
+/// - `Variable`: an argument of `-v` has an error.
+/// - `Filter`: an argument is not a filter, or two filters select the same case.
+/// - `NeedsCase`: `needed` is `true`, and there is not exactly one filter that names a case.
+/// - `Tree`: a Kyuafile has an error.
+/// - `TooManyCases`: there are more than 100,000 cases to select from.
+///
+/// At any step:
+///
+/// - `NoMemory`: an allocation fails.
 pub fn select_cases<W: World>(
     alloc: Global,
     needed: bool,

@@ -9,7 +9,7 @@ use kt_config::Config;
 use kt_suite::{Filter, Program};
 use std::alloc::Global;
 
-/// The cases that an ATF program lists, given the variables of its suite.
+/// Lists the cases of an ATF program by running it with the variables of its suite.
 fn listed_cases<W: World>(
     alloc: Global,
     config: &Config,
@@ -28,7 +28,8 @@ fn listed_cases<W: World>(
     Ok(found)
 }
 
-/// The cases of a program. An ATF program is asked for its list if its cases are wanted, and else has none.
+/// Returns the cases of a program. An ATF program of which no filter may select a case is not run,
+/// and has no cases here.
 fn own_cases<W: World>(
     alloc: Global,
     settings: &Settings,
@@ -57,7 +58,7 @@ fn own_cases<W: World>(
     }
 }
 
-/// Appends the cases of a program, each with memory of its own.
+/// Appends the cases of a program, with copies of its path and its suite.
 fn add_candidates(
     program: &Program,
     cases: Items<CaseDef>,
@@ -78,7 +79,8 @@ fn add_candidates(
     Ok(())
 }
 
-/// The cases of some programs, in their order. Each list is asked for while nothing runs.
+/// Returns the cases of programs, in their order. Each list is made while no other program is
+/// running.
 pub fn offered<W: World>(
     alloc: Global,
     settings: &Settings,
@@ -99,7 +101,7 @@ pub fn offered<W: World>(
     Ok(found)
 }
 
-/// Whether one of some filters selects some case that a program could have.
+/// Returns `true` if a filter may select a case of the program at `path`.
 fn may_match_any(filters: &[Filter], path: &Text) -> bool
     ensures { IsTrue result ↔ ((one : Filter) × Contains filters.now one × MayMatch one path.now) }
 {
@@ -111,8 +113,8 @@ fn may_match_any(filters: &[Filter], path: &Text) -> bool
     false
 }
 
-/// Whether the cases of a program are wanted: there is no filter, or one of them selects some case
-/// that it could have. It takes no memory.
+/// Returns `true` if there is no filter, or if a filter may select a case of the program. Nothing
+/// is allocated.
 fn is_wanted(filters: &[Filter], program: &Program) -> bool
     ensures { IsTrue result ↔ IsWanted filters.now program.now }
 {

@@ -6,7 +6,7 @@ use kt_base::{Items, NoMemory, Text};
 use kt_suite::{Filter, FilterFault, check_disjoint};
 use std::alloc::Global;
 
-/// The filter of a word.
+/// Parses an argument as a filter. Returns a `Stop` if the argument is not a filter.
 fn filter_of(alloc: Global, word: &Text) -> Result<Result<Filter, Stop>, NoMemory>
     ensures { IfOk result (λ outcome. outcome ≡ filter_of word.now) }
 {
@@ -17,7 +17,8 @@ fn filter_of(alloc: Global, word: &Text) -> Result<Result<Filter, Stop>, NoMemor
     }
 }
 
-/// The filters of words, in order, up to the first that is wrong.
+/// Parses arguments as filters, in order. Returns a `Stop` for the first argument that is not a
+/// filter.
 fn parse_filters(alloc: Global, words: &[Text]) -> Result<Result<Items<Filter>, Stop>, NoMemory>
     ensures { IfOk result (λ outcome. outcome ≡ filters_of words.now) }
 {
@@ -31,7 +32,8 @@ fn parse_filters(alloc: Global, words: &[Text]) -> Result<Result<Items<Filter>, 
     Ok(Ok(filters))
 }
 
-/// The position that a fault of several filters names.
+/// Returns the position of the filter that an error of several filters names, or 0 for another
+/// error.
 fn position_of(fault: FilterFault) -> usize
     ensures { result ≡ position_in fault }
 {
@@ -41,7 +43,8 @@ fn position_of(fault: FilterFault) -> usize
     }
 }
 
-/// The stop at the first filter that shares a case with an earlier one, if there is one.
+/// Returns a `Stop` for the first filter that selects a case of an earlier filter, or `None` if
+/// there is none.
 fn clash_of(words: &[Text], filters: &[Filter]) -> Result<Option<Stop>, NoMemory>
     requires { length words.now ≡ length filters.now }
     ensures { IfOk result (λ found. ChecksTogether words.now filters.now found) }
@@ -55,7 +58,7 @@ fn clash_of(words: &[Text], filters: &[Filter]) -> Result<Option<Stop>, NoMemory
     }
 }
 
-/// Whether there is one filter, of one case.
+/// Returns `true` if there is exactly one filter and it names a case.
 fn names_one_case(filters: &[Filter]) -> bool
     ensures { result ≡ names_one_case filters.now }
 {
@@ -65,15 +68,18 @@ fn names_one_case(filters: &[Filter]) -> bool
     }
 }
 
-/// Whether one filter of one case is needed, and there isn't.
+/// Returns `true` if exactly one filter that names a case is needed and the filters are others.
 fn lacks_case(needs_case: bool, filters: &[Filter]) -> bool
     ensures { result ≡ lacks_case needs_case filters.now }
 {
     needs_case && !names_one_case(filters)
 }
 
-/// The filters of words. The first word that is no filter is refused, then the first filter that shares a case with an
-/// earlier one, and then, if a case is needed, anything but one filter of one case.
+/// Parses the filters of a command.
+///
+/// The errors are checked in this order: the first argument that is not a filter, the first filter
+/// that selects a case of an earlier filter, and, if `needs_case` is `true`, anything but exactly
+/// one filter that names a case.
 pub fn read_filters(alloc: Global, needs_case: bool, words: &[Text]) -> Result<Items<Filter>, Stop>
     ensures { IsShort result ⊎ Filters needs_case words.now result }
 {

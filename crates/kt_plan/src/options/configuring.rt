@@ -9,7 +9,7 @@ use kt_suite::ReadFault;
 use kt_words::CaseOptions;
 use std::alloc::Global;
 
-/// The variables of a suite, none if it has none.
+/// Returns a copy of the variables of a suite, empty if the configuration has none for the suite.
 pub fn variables_for(alloc: Global, config: &Config, suite: &Text) -> Result<Variables, NoMemory>
     ensures { IfOk result (λ variables. variables ≡ variables_for config.now suite.now) }
 {
@@ -19,7 +19,8 @@ pub fn variables_for(alloc: Global, config: &Config, suite: &Text) -> Result<Var
     }
 }
 
-/// Sets a variable, or stops at its name.
+/// Sets a variable of the configuration. Returns a `Stop` with the variable's name if the
+/// configuration rejects the variable.
 fn set(config: &mut Config, name: Text, value: &Text) -> Result<Option<Stop>, NoMemory>
     ensures { IfOk result (λ stop. GivesOne config.old (config_or_stop config.new stop)
         (or_stop (Stop.Variable name) (definition_named name value.now))) }
@@ -31,7 +32,8 @@ fn set(config: &mut Config, name: Text, value: &Text) -> Result<Option<Stop>, No
     }
 }
 
-/// Sets what a word `NAME=VALUE` defines, or stops at its name.
+/// Sets the variable of an argument `NAME=VALUE`. Returns a `Stop` if the argument lacks a `=` or
+/// the configuration rejects the variable.
 fn set_word(config: &mut Config, word: &Text) -> Result<Option<Stop>, NoMemory>
     ensures { IfOk result (λ stop.
         GivesOne config.old (config_or_stop config.new stop) (word_meaning word.now)) }
@@ -43,7 +45,7 @@ fn set_word(config: &mut Config, word: &Text) -> Result<Option<Stop>, NoMemory>
     }
 }
 
-/// The configuration that the bytes of a file spell.
+/// Parses the bytes of a configuration file. Returns a `Stop` if they have an error.
 fn config_of(alloc: Global, bytes: &[u8]) -> Result<Result<Config, Stop>, NoMemory>
     ensures { IfOk result (Configured (IsConfiguration bytes.now)) }
 {
@@ -54,7 +56,7 @@ fn config_of(alloc: Global, bytes: &[u8]) -> Result<Result<Config, Stop>, NoMemo
     }
 }
 
-/// Why a command stops whose configuration file can't be read.
+/// Returns the `Stop` of a command whose configuration file can't be read.
 fn unread_stop(fault: ReadFault) -> Stop
     ensures { result ≡ unread_stop fault }
 {
@@ -64,7 +66,7 @@ fn unread_stop(fault: ReadFault) -> Stop
     }
 }
 
-/// Reads the configuration file.
+/// Reads and parses a configuration file.
 fn read_config<W: World>(alloc: Global, path: &Text, world: &mut W) -> Result<Config, Stop>
     ensures { Answered W.replies world.old world.new (λ answers. OrShort result (Some path.now)
         answers (Configured (ReadsConfig (Some path.now) answers) result)) }
@@ -75,7 +77,8 @@ fn read_config<W: World>(alloc: Global, path: &Text, world: &mut W) -> Result<Co
     }
 }
 
-/// Reads the configuration file, if one is given.
+/// Reads and parses the configuration file of a command, or creates an empty configuration if no
+/// file is given.
 fn config_given<W: World>(
     alloc: Global,
     options: &CaseOptions,
@@ -90,7 +93,8 @@ fn config_given<W: World>(
     }
 }
 
-/// Sets what the words of `-v` define, in order, up to the first that is wrong.
+/// Sets the variables of the arguments of `-v`, in order. Returns a `Stop` for the first argument
+/// with an error.
 fn set_words(config: Config, words: &[Text]) -> Result<Result<Config, Stop>, NoMemory>
     ensures { IfOk result (λ outcome. GivesMore config outcome (words_meaning words.now)) }
 {
@@ -103,7 +107,7 @@ fn set_words(config: Config, words: &[Text]) -> Result<Result<Config, Stop>, NoM
     Ok(Ok(config))
 }
 
-/// The configuration of a command: its file, and then the words of `-v`.
+/// Creates the configuration of a command: reads its file, and then sets the variables of `-v`.
 fn configure<W: World>(alloc: Global, options: &CaseOptions, world: &mut W) -> Result<Config, Stop>
     ensures { Answered W.replies world.old world.new (λ answers. OrShort result
         options.now.config answers (Configured (Configures options.now answers) result)) }
@@ -112,8 +116,11 @@ fn configure<W: World>(alloc: Global, options: &CaseOptions, world: &mut W) -> R
     set_words(config, options.variables.as_slice())?
 }
 
-/// Reads what a command over test cases is configured with, and its filters. The first fault stops the command: of the
-/// configuration file, of the words of `-v`, of a filter, of the filters together, and that `debug` needs one case.
+/// Reads the settings of a command over test cases: its configuration and its filters.
+///
+/// The first error stops the command. Errors are checked in this order: the configuration file, the
+/// arguments of `-v`, each filter, the filters together, and the need of `debug` for exactly one
+/// case.
 pub fn settle<W: World>(
     alloc: Global,
     needs_case: bool,

@@ -1,4 +1,4 @@
-//! The settings of a command over test cases, by its options and its configuration.
+//! The settings of a command over test cases: its configuration and its filters.
 
 pub(crate) mod case_filters;
 pub(crate) mod configuring;
@@ -7,10 +7,11 @@ use kt_base::Items;
 use kt_config::Config;
 use kt_suite::Filter;
 
-/// What a command over test cases is configured with, and the cases that it is to select.
+/// A configuration of a command over test cases, with its filters.
 #[derive(Drop)]
 pub struct Settings {
+    /// The configuration, from the configuration file and the arguments of `-v`.
     pub config: Config,
-    /// A filter for each word that was given, in order. No two share a case.
+    /// The filters in the order of their arguments. No two filters select the same case.
     pub filters: Items<Filter>,
 }

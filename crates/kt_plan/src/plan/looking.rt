@@ -6,7 +6,7 @@ use kt_base::{NoMemory, Text};
 use kt_metadata::{Host, Need};
 use std::alloc::Global;
 
-/// Asks whether something that is required is found.
+/// Returns `true` if the host has a required file or program.
 fn is_found<W: World>(need: Need, word: &Text, world: &mut W) -> bool
     ensures { W.replies world.old (Finds need word.now result) world.new }
 {
@@ -16,7 +16,7 @@ fn is_found<W: World>(need: Need, word: &Text, world: &mut W) -> bool
     }
 }
 
-/// Asks for something that is required, and notes it if it is there.
+/// Checks that a required file or program exists, and records it in `host` if it does.
 fn look_for_word<W: World>(
     need: Need,
     word: &Text,
@@ -34,7 +34,8 @@ fn look_for_word<W: World>(
     Ok(())
 }
 
-/// Asks for each of some required words of a kind, in order, and notes those that are there.
+/// Checks that each required file, or each required program, exists, in order, and records those
+/// that do.
 fn look_for_words<W: World>(
     need: Need,
     words: &[Text],
@@ -51,7 +52,7 @@ fn look_for_words<W: World>(
     Ok(())
 }
 
-/// The kinds of what a case may require, none if its list has a fault.
+/// Returns the kinds of requirements of a case to be checked, none if its list has an error.
 fn kinds_of(candidate: &Candidate) -> &'static [Need]
     ensures { needs_among result.now (meta_in candidate.now)
         ≡ needs_by candidate.now.case.fault (meta_in candidate.now) }
@@ -62,7 +63,8 @@ fn kinds_of(candidate: &Candidate) -> &'static [Need]
     }
 }
 
-/// Asks for what a case requires, in order, and notes what is there.
+/// Checks that the files and the programs that a case requires exist, in order, and records those
+/// that do.
 fn look_for_case<W: World>(
     candidate: &Candidate,
     world: &mut W,
@@ -81,7 +83,8 @@ fn look_for_case<W: World>(
     Ok(())
 }
 
-/// Asks for what each of some cases requires, in their order, and notes what is there.
+/// Checks that the files and the programs that cases require exist, in the order of the cases, and
+/// records those that do.
 fn look_for_all<W: World>(
     cases: &[Candidate],
     world: &mut W,
@@ -97,11 +100,12 @@ fn look_for_all<W: World>(
     Ok(())
 }
 
-/// Asks the host for what some cases may require: whether the runner is root, memory and disk
-/// space, and the required files and programs of each case whose list has no fault.
+/// Reads the properties of the host that cases may require: whether the runner is root, memory,
+/// disk space, and the required files and programs.
 ///
-/// Root, memory and disk are asked for even if no case requires them. A word of several cases is
-/// asked for by each; if the answers differ, it counts as found.
+/// Root, memory and disk space are read even if no case requires them. Cases whose list has an
+/// error require nothing. A file or a program that several cases require is checked for each. If
+/// the results differ, the file or the program counts as found.
 pub fn survey<W: World>(alloc: Global, cases: &[Candidate], world: &mut W) -> Result<Host, NoMemory>
     requires { IsIdle (W.running world.old) (W.pending world.old) }
     ensures surveyed { Answered W.replies world.old world.new (λ answers. MatchResult result

@@ -1,4 +1,4 @@
-//! The plan of the selected cases, with what the host was asked for it.
+//! The plan of the selected cases, and the properties of the host that it depends on.
 
 pub(crate) mod looking;
 pub(crate) mod planning;

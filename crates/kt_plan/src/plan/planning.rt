@@ -11,7 +11,7 @@ use kt_metadata::{Host, Meta, unmet};
 use kt_sched::Job;
 use std::alloc::Global;
 
-/// An equal reason with memory of its own.
+/// Returns a copy of a reason.
 fn copy_of_reason(reason: &Reason) -> Result<Reason, NoMemory>
     ensures { IfOk result (λ copy. copy ≡ reason.now) }
 {
@@ -24,7 +24,7 @@ fn copy_of_reason(reason: &Reason) -> Result<Reason, NoMemory>
     }
 }
 
-/// Whether a case declares a cleanup, which only cases of ATF programs may have.
+/// Returns `true` if a case declares a cleanup. Only cases of ATF programs may have cleanups.
 fn declares_cleanup(interface: Interface, meta: &Meta) -> bool
     ensures { result ≡ (is_atf interface && meta.now.has_cleanup) }
 {
@@ -34,7 +34,8 @@ fn declares_cleanup(interface: Interface, meta: &Meta) -> bool
     }
 }
 
-/// The verdict of a case that isn't to be started: its list has a fault, or else a requirement isn't met.
+/// Returns the verdict of a case that must not be started, or `None` for another case. A case is
+/// broken if its list has an error, and otherwise skipped if a requirement is not met.
 fn decided(
     alloc: Global,
     candidate: &Candidate,
@@ -54,7 +55,7 @@ fn decided(
     }
 }
 
-/// The names that a case's job has: its program and its own.
+/// Returns copies of the case's program path and name.
 fn names_of(candidate: &Candidate) -> Result<(Text, Text), NoMemory>
     ensures { IfOk result (λ names. (names.0 ≡ candidate.now.path)
         × (names.1 ≡ candidate.now.case.name)) }
@@ -62,7 +63,7 @@ fn names_of(candidate: &Candidate) -> Result<(Text, Text), NoMemory>
     Ok((candidate.path.copy()?, candidate.case.name.copy()?))
 }
 
-/// The job of a case whose verdict is known, if it isn't to be started.
+/// Creates the job of a case. `decided` is the verdict of a case that must not be started.
 fn job_of(
     position: u32,
     candidate: &Candidate,
@@ -92,7 +93,7 @@ fn job_of(
     })
 }
 
-/// The job of a case at a position, with the variables of its suite.
+/// Creates the job of a case at a position of the plan. `vars` are the variables of its suite.
 fn job_at(
     alloc: Global,
     config: &Config,
@@ -109,10 +110,12 @@ fn job_at(
     job_of(position, candidate, vars, &meta, decided)
 }
 
-/// The plan of some cases, at most 100,000: one job a case, in order. A case whose list has a fault
-/// is broken before it is started, and one with an unmet requirement is skipped; the list is looked
-/// at first. The host isn't asked again while the plan runs, so a file that a case makes meets no
-/// requirement of another. Neighbours of one suite share the memory of its variables.
+/// Creates the plan of at most 100,000 cases: one job for each case, in order.
+///
+/// A case whose list has an error is broken without a start. Otherwise a case with an unmet
+/// requirement is skipped. The host is not checked again during the run, so a file that one case
+/// creates meets no requirement of another. Adjacent cases of one suite share the memory of its
+/// variables.
 pub fn make_plan(
     alloc: Global,
     config: &Config,
@@ -135,7 +138,12 @@ pub fn make_plan(
     Ok(plan)
 }
 
-/// Asks the host for what some cases require, and makes the plan of them.
+/// Creates the plan of at most 100,000 cases: reads the properties of the host that they may
+/// require, and decides which cases are skipped.
+///
+/// # Errors
+///
+/// - `NoMemory`: an allocation fails.
 pub fn prepare<W: World>(
     alloc: Global,
     config: &Config,

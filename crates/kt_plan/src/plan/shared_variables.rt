@@ -3,10 +3,12 @@ use kt_base::{NoMemory, Text, Variables};
 use kt_config::Config;
 use std::alloc::Global;
 
-/// The variables of a suite, whose memory the jobs of its cases share.
+/// A set of a suite's variables, whose memory the jobs of its cases share.
 #[derive(Drop)]
 pub struct SharedVariables {
+    /// The name of the suite.
     pub suite: Text,
+    /// The variables of the suite.
     pub variables: Variables,
 }
 
@@ -14,7 +16,7 @@ impl SharedVariables {
     ghost use Rattle.std.specs.Prelude.{◌≡◌, IfOk};
     ghost use Rattle.kt_plan.specs.Common.{variables_for};
 
-    /// The variables of this suite.
+    /// Creates the shared variables of a suite.
     pub fn of(alloc: Global, config: &Config, suite: &Text) -> Result<SharedVariables, NoMemory>
         ensures suite { IfOk result (λ shared. shared.suite ≡ suite.now) }
         ensures variables { IfOk result (λ shared.
@@ -27,7 +29,8 @@ impl SharedVariables {
         })
     }
 
-    /// The variables of the next case's suite: these, if it is the same suite.
+    /// Returns the shared variables of the next case's suite. If the suite is the same, `self` is
+    /// returned.
     pub fn next(
         self,
         alloc: Global,

@@ -2,7 +2,7 @@ use Rattle.std.proofs.Common.{drop}
 use Rattle.kt_plan.proofs.Wanting.{AreAmong, IsAhead}
 use Rattle.kt_plan.proofs.cases.offering.may_match_any.Given as goal
 
--- the rest is among all filters, and one that selects a case is in the rest
+-- The remaining filters are some of all, and include each that may select a case.
 abbrev pub invariant-loop-filter : goal.invariant-loop-filter
 invariant-loop-filter l = record {
   among : AreAmong (drop l.filter-index l.filters) l.filters;
