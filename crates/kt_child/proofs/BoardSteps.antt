@@ -26,7 +26,7 @@ all_later : (a : Alive) (old new : List Alive) (calls : List Call) → Chain Hea
 all_later a old new [] h = ap (λ t. a ∷ t) h
 all_later a old new (call ∷ calls) (mid, first, rest) = (a ∷ mid, later a old mid call first, all_later a mid new calls rest)
 
--- `asked k result done` and `after_poll_of`: the calls of one poll, and the child after it.
+-- `asked k answer done` and `after_poll_of`: the calls of one poll, and the child after it.
 abbrev asked : Watched → Result Polled OsFault → Bool → List Call
 asked k answer done = asked_by_poll (child_of k.case) k.limit k.watch answer done
 
@@ -63,8 +63,7 @@ turn_heard (k ∷ ks) calls on (answer, done, more, e, went, turn) =
     let r = turn_heard ks more (All-tail IsOn k ks on) turn in
     (first_heard k ks answer done more calls (alive_of (map advanced ks)) g.0 e r.0, All-cons IsOn (advanced k) (map advanced ks) (g.1, is.1) r.1)
 
--- `OverAt ks calls after place outcome`: the child at `place` finishes by its responses; `after`
--- are left.
+-- `OverAt ks calls after place outcome`: the child at `place` has finished; `after` are left.
 abbrev pub OverAt : List Watched → List Call → List Watched → ℕ → Outcome → Type 0
 OverAt ks calls after place outcome =
     (alive : List Alive) × (a : Alive) × IsOver (alive_of ks) calls alive place a outcome

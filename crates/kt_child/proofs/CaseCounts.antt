@@ -10,7 +10,7 @@ pub own_role : (r : Role) → same_role r r ≡ true
 own_role Body = refl
 own_role Cleanup = refl
 
--- `one_if` as a conditional.
+-- The number `one_if b` is a conditional.
 pub one_if_is : (b : Bool) → one_if b ≡ (if b then 1 else 0)
 one_if_is true = refl
 one_if_is false = refl

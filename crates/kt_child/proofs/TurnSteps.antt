@@ -19,8 +19,7 @@ set_next zero (k ∷ s) d = refl
 set_next (suc i) [] d = refl
 set_next (suc i) (k ∷ s) d = ap (λ t. advanced k ∷ t) (set_next i s d)
 
--- `OnePoll leads now new turn name k`: one poll of the child `k` by its name, with the state
--- `turn`.
+-- `OnePoll leads now new turn name k`: one poll of the child `k` gives the state `turn`.
 abbrev pub OnePoll : {O : Type 0} → (O → Call → O → Type 0) → O → O → AfterPoll → Child → Watched → Type 0
 OnePoll leads now new turn name k =
     (answer : Result Polled OsFault) × (done : Bool)

@@ -54,28 +54,28 @@ TakesCase root old job Cleanup c new =
     (place : ℕ) × (owed : Case) × (slice_get old.owed place ≡ Some owed) × (owed.position ≡ job.position)
     × (new.next ≡ old.next) × (new.owed ≡ remove old.owed place) × (c ≡ case_of job Cleanup owed.attempt owed.paths)
 
--- `alive_after alive job c result`: the running children after a start with this result. A started
--- child is the last, without responses.
+-- `alive_after alive job c result`: the running children after a start with the result `result`. A
+-- started child is the last, without responses.
 abbrev pub alive_after : List Alive → Job → Case → StartAnswer → List Alive
 alive_after alive job c (StartedAt moment) = alive ++ record { case = c; limit = limit_of job c.role; heard = [] } ∷ []
 alive_after alive job c (RefusedFor cause) = alive
 
 -- `source` is the directory of the root Kyuafile, and `root` that of all attempts.
 module _ (source root : List ℕ) where
-  -- `Starts old job role calls result new`: `calls` start a child of `job` with this result, from
-  -- the board `old` to `new`. A body is refused if no attempt number is left.
+  -- `Starts old job role calls answer new`: `calls` start a child of `job` with the result
+  -- `answer`, from the board `old` to `new`. A body is refused if no attempt number is left.
   abbrev pub Starts : Board → Job → Role → List Call → StartAnswer → Board → Type 0
   Starts old job role calls answer new =
       ((role ≡ Body) × (old.next ≡ 2 ^ 64 - 1) × (answer ≡ RefusedFor Directory) × (calls ≡ []) × (new ≡ old))
       ⊎ ((c : Case) × TakesCase root old job role c new × Begun (spawning_of source job c) calls answer
       × (new.alive ≡ alive_after old.alive job c answer))
 
--- `hears a response`: the child `a` with one more response.
+-- `hears a answer`: the child `a` with one more response.
 abbrev pub hears : Alive → Heard → Alive
 hears a answer = record { case = a.case; limit = a.limit; heard = a.heard ++ answer ∷ [] }
 
--- `Hears old call new`: the result of `call` is a response of the child that `call` names. A pause
--- concerns no child. Names are unique (`IsApart` of Numbers).
+-- `Hears old call new`: the child that `call` names gets the result of `call` as a response. A
+-- pause concerns no child. Names are unique (`IsApart` of Numbers).
 pub data Hears : List Alive → Call → List Alive → Type 0 where
   polled : (a : Alive) (others : List Alive) (answer : Result Polled OsFault)
       → Hears (a ∷ others) (Poll (child_of a.case) answer) (hears a (HeardPoll answer) ∷ others)

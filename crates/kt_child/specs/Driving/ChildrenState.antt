@@ -17,16 +17,18 @@ idle_state = record { children = []; pending = [] }
 abbrev pub cases_of : List Watched → List Case
 cases_of children = map (λ k. k.case) children
 
--- `shown c`: the part of the case `c` that the scheduler's contracts cite.
+-- `shown c`: the properties of the case `c` that the scheduler's contracts cite.
 abbrev pub shown : Case → Shown
 shown c = record { interface = c.interface; cleanup = c.cleanup }
 
--- `shown_at cases k r`: that part of the first of `cases` at position `k` in the role `r`.
+-- `shown_at cases k r`: the properties (`shown`) of the first of `cases` at the position `k` in the
+-- role `r`.
 abbrev pub shown_at : List Case → ℕ → Role → Option Shown
 shown_at [] k r = None
 shown_at (c ∷ cases) k r = if k == c.position && same_role r c.role then Some (shown c) else shown_at cases k r
 
--- `shown_in b k r`: that part of the running child at position `k` in the role `r`.
+-- `shown_in b k r`: the properties (`shown`) of the running child at the position `k` in the role
+-- `r`.
 abbrev pub shown_in : ChildrenState → ℕ → Role → Option Shown
 shown_in b = shown_at (cases_of b.children)
 

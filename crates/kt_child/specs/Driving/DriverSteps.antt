@@ -8,7 +8,7 @@ use Rattle.kt_child.specs.Driving.Lists.{ListsBy}
 
 -- `leads` is the relation of the system's calls.
 module _ {O : Type 0} (leads : O → Call → O → Type 0) where
-  -- `DriverStarts old job role result new`: `new` is the driver `old` after a start of `job`'s
+  -- `DriverStarts old job role answer new`: `new` is the driver `old` after a start of `job`'s
   -- child. Its directories `source` and `root` are unchanged.
   abbrev pub DriverStarts : Driver O → Job → Role → StartAnswer → Driver O → Type 0
   DriverStarts old job role answer new =
@@ -22,7 +22,7 @@ module _ {O : Type 0} (leads : O → Call → O → Type 0) where
       ((calls : List Call) × Chain leads old.os calls new.os × Waited old.running.children (board old) calls ended new.running.children (board new))
       × (new.source ≡ old.source) × (new.root ≡ old.root)
 
-  -- `DriverLists old program variables result new`: `new` is the driver `old` after a list of
+  -- `DriverLists old program variables answer new`: `new` is the driver `old` after a list of
   -- `program`'s cases. The running children are unchanged.
   abbrev pub DriverLists : Driver O → List ℕ → List Variable → Listing → Driver O → Type 0
   DriverLists old program variables answer new =

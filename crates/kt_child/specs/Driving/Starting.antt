@@ -15,8 +15,8 @@ pub record Ask : Type 0 where
   pub call : Result (Unit {0}) OsFault → Call
   pub cause : Refused
 
--- `cause_of cause fault`: the cause of a start that a failed call refuses: memory if an allocation
--- of the call failed, and otherwise `cause`.
+-- `cause_of cause fault`: the cause of a start that is refused after a failed call: memory if an
+-- allocation of the call failed, and otherwise `cause`.
 abbrev pub cause_of : Refused → OsFault → Refused
 cause_of cause Failed = cause
 cause_of cause (Memory refusal) = NoMemory
@@ -86,12 +86,12 @@ Started p calls (RefusedFor cause) = SetUp p calls (Err cause)
 abbrev pub spawned : ℕ → Case → Watched
 spawned limit c = record { case = c; limit = limit; watch = fresh }
 
--- `Unbegun role dir calls result`: a start for which an allocation failed. Its only call removes
+-- `Unbegun role dir calls answer`: a start for which an allocation failed. Its only call removes
 -- the directory of a cleanup.
 abbrev pub Unbegun : Role → List ℕ → List Call → StartAnswer → Type 0
 Unbegun role dir calls answer = Removes (same_role role Cleanup) dir calls × (answer ≡ RefusedFor NoMemory)
 
--- `Begun plan calls result`: a start of a driver, refused because an allocation failed, or made by
--- its calls.
+-- `Begun plan calls answer`: a start of a driver: either an allocation failed before it
+-- (`Unbegun`), or its calls were made (`Started`).
 abbrev pub Begun : Spawning → List Call → StartAnswer → Type 0
 Begun plan calls answer = Unbegun plan.child.role plan.dir calls answer ⊎ Started plan calls answer

@@ -6,7 +6,7 @@ use Rattle.kt_child.specs.declared.ending.ReadEnd.TheVariants.{Missing, Unreadab
 use Rattle.kt_child.specs.Ending.Reads.{bytes_of}
 use Rattle.kt_child.specs.System.Calls.{Call, ReadPart}
 
--- `next_part path part limit got result`: the read of the next part after `got` bytes.
+-- `next_part path part limit got answer`: the read of the next part after `got` bytes.
 abbrev pub next_part : List ℕ → ℕ → ℕ → ℕ → Result FileRead OsFault → Call
 next_part path part limit got answer = ReadPart path got (min part (limit - got)) answer
 
@@ -28,7 +28,7 @@ IsEnd limit got (Ok (Part bytes follows)) end =
     ((0 < length bytes) × (end ≡ Some Unreadable)) ⊎ (end ≡ end_of limit got (Part bytes follows))
 
 -- `Reads path part limit got calls end bytes`: `calls` read the rest of a file after the bytes
--- `got`. `end` is how the read ends, and `bytes` are all bytes of the file so far.
+-- `got`. `end` is how the read ends, and `bytes` are all bytes that were read.
 pub data Reads (path : List ℕ) (part limit : ℕ) : List ℕ → List Call → ReadEnd → List ℕ → Type 0 where
   last : (got : List ℕ) (answer : Result FileRead OsFault) (end : ReadEnd) → IsEnd limit (length got) answer (Some end)
       → Reads path part limit got (next_part path part limit (length got) answer ∷ []) end (got ++ bytes_of answer)

@@ -10,18 +10,18 @@ use Rattle.kt_child.specs.Host.HostStands.{Stand, Proceeds, AllProceed, AllStay,
 use Rattle.kt_child.specs.Ending.Reads.{IsReadWithin}
 use Rattle.kt_child.specs.System.Calls.{Call, SetLimit, OpenOutput, Spawn, Poll, Kill, Pause, ReadFile, ReadPart}
 
--- `IsFilled limit result`: a read after which more bytes follow returns exactly `limit` bytes.
+-- `IsFilled limit answer`: a read after which more bytes follow returns exactly `limit` bytes.
 abbrev pub IsFilled : ℕ → Result FileRead OsFault → Type 0
 IsFilled limit (Ok (Part bytes true)) = length bytes ≡ limit
 IsFilled limit answer = Unit {0}
 
--- `IsSaidMissing result`: a file is `Missing` only if an error of the system has the kind
+-- `IsSaidMissing answer`: a file is `Missing` only if an error of the system has the kind
 -- `NotFound`.
 abbrev pub IsSaidMissing : Result FileRead OsFault → Type 0
 IsSaidMissing (Ok Missing) = (error : Error) × (error_kind error ≡ NotFound)
 IsSaidMissing answer = Unit {0}
 
--- `IsHostRead limit result`: a read returns at most `limit` bytes, and exactly `limit` if more
+-- `IsHostRead limit answer`: a read returns at most `limit` bytes, and exactly `limit` if more
 -- follow.
 abbrev pub IsHostRead : ℕ → Result FileRead OsFault → Type 0
 IsHostRead limit answer = IsReadWithin limit answer × IsFilled limit answer × IsSaidMissing answer
@@ -39,14 +39,14 @@ IsFront limit xs (Ok (Part bytes false)) = (bytes ≡ xs) × (length xs ≤ limi
 abbrev pub TakesAtMost : ℕ → Option (List ℕ) → Option (List ℕ) → Type 0
 TakesAtMost limit left rest = IfSome left (λ xs. IsSomeAnd rest (λ ys. length xs ≤ length ys + limit))
 
--- `IsOpened result`: the result of a read of an opened file, which is never `Missing`.
+-- `IsOpened answer`: the result of a read of an opened file, which is never `Missing`.
 abbrev pub IsOpened : Result FileRead OsFault → Type 0
 IsOpened (Ok Missing) = ⊥
 IsOpened answer = Unit {0}
 
 -- `IsPolledOf bits result`: the meaning of the wait status `bits` (wait(2)). If its low 7 bits are
--- 0, the child exited, and bits 8 to 15 are the exit status. Otherwise they are the signal that
--- ended the child, or 127 if the child has not ended. Bit 7 reports a core dump.
+-- 0, the child exited, and bits 8 to 15 are the exit status. Otherwise the low 7 bits are the
+-- signal that ended the child, or 127 if the child has not ended. Bit 7 reports a core dump.
 abbrev pub IsPolledOf : ℕ → Result Polled OsFault → Type 0
 IsPolledOf bits (Ok Running) = ⊥
 IsPolledOf bits (Ok (Exited code)) = (bits % 128 ≡ 0) × (code ≡ bits / 256 % 256)
@@ -54,7 +54,7 @@ IsPolledOf bits (Ok (Signaled signal core)) =
     (signal ≡ bits % 128) × (bits % 128 ≢ 0) × (bits % 128 ≢ 127) × (core ≡ (bits / 128 % 2 == 1))
 IsPolledOf bits (Err _) = bits % 128 ≡ 127
 
--- `TellsEnd child old result new IsLast`: the end of `child` follows from the wait status of its
+-- `TellsEnd child old answer new IsLast`: the end of `child` follows from the wait status of its
 -- process. If a pause found the end, it is that status. The child is then the last whose end was
 -- reported, and no longer among the children.
 abbrev pub TellsEnd : Child → (Child → Stand) → Result Polled OsFault → (Child → Stand) → (Child → ExitStatus → Type 0) → Type 0
@@ -62,7 +62,7 @@ TellsEnd child old answer new IsLast =
     (status : ExitStatus) × IsSome (old child) × Proceeds (old child) (Some (Some status)) × IsPolledOf (status_bits status) answer
     × IsLast child status × (new child ≡ None) × OthersStay child old new
 
--- `HostPolls child old result new IsLast late`: the result of a poll. A child is reported as
+-- `HostPolls child old answer new IsLast late`: the result of a poll. A child is reported as
 -- running only if it has a process. No end of it was found, unless some child was late. A failed
 -- poll may remove the child.
 abbrev pub HostPolls : Child → (Child → Stand) → Result Polled OsFault → (Child → Stand) → (Child → ExitStatus → Type 0) → Option Bool → Type 0

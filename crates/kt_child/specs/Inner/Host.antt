@@ -54,12 +54,13 @@ IsAt from old new = 0 < from → IfSome old (λ position. new ≡ Some from)
 abbrev pub IsEarly : ℕ → ℕ → ℕ → Type 0
 IsEarly limit answers millis = 1000 * limit + millis < 20 * (answers + 1)
 
--- `IsFree limit answers`: the next `Running` response belongs to the first half of the timeout's.
+-- `IsFree limit answers`: the next `Running` response is in the first half of the timeout's
+-- responses.
 abbrev pub IsFree : ℕ → ℕ → Type 0
 IsFree limit answers = answers + 1 ≤ 50 * limit
 
--- `whole_slice children since`: the interval between two checks of `children` children, in
--- microseconds, `since` microseconds after the last end. It is 50 and a sixteenth of `since`, at
+-- `whole_slice children since`: the interval at which `children` children are checked for an end,
+-- in microseconds, `since` microseconds after the last end. It is 50 and a sixteenth of `since`, at
 -- most 350. It is at least 14 for each child after the eighth, and at least a 384th of `since` for
 -- each child and four more. At most 512 children count.
 abbrev pub whole_slice : ℕ → ℕ → ℕ
@@ -67,8 +68,8 @@ whole_slice children since =
     max (max (min (50 + since / 16) 350) (14 * (min children 512 - 8))) (since * (min children 512 + 4) / 384)
 
 -- `next_slice children pauses micros`: the length of the next slice of a pause, in microseconds. It
--- is that of at most eight children, at least 3 for each child after the eighth, and at most the
--- rest of the pause of 10,000 microseconds.
+-- is the interval of at most eight children. It is at least 3 for each child after the eighth, and
+-- at most the rest of the pause of 10,000.
 abbrev pub next_slice : ℕ → ℕ → ℕ → ℕ
 next_slice children pauses micros =
     min (max (whole_slice (min children 8) (10000 * pauses + micros)) (3 * (min children 512 - 8))) (10000 - micros)

@@ -8,7 +8,7 @@ use Rattle.kt_child.specs.Driving.DriverSteps.{DriverStarts}
 use Rattle.kt_sched.specs.Children.{pending_after_start, running_after_start}
 use Rattle.kt_sched.specs.Trace.{HasMoment}
 
--- `IsStart leads old job role result new`: a start of a driver with its timestamp, and the running
+-- `IsStart leads old job role answer new`: a start of a driver with its timestamp, and the running
 -- children and pending cleanups after it.
 pub record IsStart {O : Type 0} (leads : O → Call → O → Type 0) (old : Driver O) (job : Job) (role : Role) (answer : StartAnswer) (new : Driver O) : Type 0 where
   pub starts : DriverStarts leads old job role answer new

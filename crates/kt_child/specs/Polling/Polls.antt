@@ -17,13 +17,13 @@ is_killed limit w (Err _) = true
 is_killed limit w (Ok Running) = is_due limit w
 is_killed limit w (Ok status) = false
 
--- `asked_by_poll child limit w result done`: the calls of a poll with this result. `done` is the
+-- `asked_by_poll child limit w answer done`: the calls of a poll with this result. `done` is the
 -- result of the kill, if there is one.
 abbrev pub asked_by_poll : Child → ℕ → Watch → Result Polled OsFault → Bool → List Call
 asked_by_poll child limit w answer done =
     if is_killed limit w answer then Poll child answer ∷ Kill child done ∷ [] else Poll child answer ∷ []
 
--- `heard_of limit w result done`: the responses of a child to a poll and to the kill that may
+-- `heard_of limit w answer done`: the responses of a child to a poll and to the kill that may
 -- follow it.
 abbrev pub heard_of : ℕ → Watch → Result Polled OsFault → Bool → List Heard
 heard_of limit w answer done = if is_killed limit w answer then HeardPoll answer ∷ HeardKill done ∷ [] else HeardPoll answer ∷ []

@@ -90,9 +90,9 @@ impl<O: Os + Drop> Launcher for Driver<O> {
     /// Waits until a child has finished, and returns its record.
     ///
     /// The children are polled in turns, in the order of their start. A pause follows each turn
-    /// without a finished child. A child has finished if it has ended, if a poll or the kill at its
-    /// timeout fails, or if it is still running 500 polls after the kill. Evidence for which an
-    /// allocation fails counts as unreadable, and such an output as empty.
+    /// without a finished child. A child has finished if it has ended, or if a poll or the kill at
+    /// its timeout fails. A child that is still running 500 polls after the kill has finished, too.
+    /// Evidence for which an allocation fails counts as unreadable, and such an output as empty.
     fn wait(&mut self) -> Ended {
         self.running.wait(self.alloc, &mut self.os)
     }
@@ -140,7 +140,7 @@ impl<O: Os + Drop> Driver<O> {
         }
     }
 
-    /// Removes the root directory once, and returns the system. A failed removal is ignored.
+    /// Removes the root directory and returns the system. A failed removal is ignored.
     pub fn close(self) -> O
         ensures { (done : Bool) × O.leads self.os (RemoveTree self.root done) result }
     {
@@ -149,8 +149,8 @@ impl<O: Os + Drop> Driver<O> {
         os
     }
 
-    /// Starts a child of a job's case. `attempt` and `paths` are the number and the paths of its
-    /// body.
+    /// Starts a child for the body or the cleanup of a job. `attempt` and `paths` are the number
+    /// and the paths of the body.
     fn begin(&mut self, job: &Job, role: Role, attempt: u64, paths: Paths) -> StartAnswer
         requires fit { IsFit job.now }
         requires free { count_in job.now.position self.old.running ≡ 0 }

@@ -11,11 +11,11 @@ use kt_base::{Interface, NoMemory, Outcome, Refused, Role, Text, Variables};
 use kt_suite::Program;
 use std::alloc::Global;
 
-/// The timeout of a list, in seconds (this profile).
+/// The timeout of a program that lists its test cases, in seconds (this profile).
 const LIST_LIMIT: u64 = 300;
 
-/// Waits for the end of a started list, reads its output and removes its directory. Returns the
-/// outcome and the output.
+/// Waits for the end of a program that lists its test cases, reads its output and removes its
+/// directory. Returns the outcome and the output.
 fn watch_list<O: Os>(os: &mut O, plan: &Spawning, case: Case) -> (Outcome, ListBytes)
     requires { IsOn (spawned plan.now.limit case) }
     ensures { (calls : List Call) × Chain O.leads os.old calls os.new
@@ -43,8 +43,8 @@ fn run_list<O: Os>(os: &mut O, plan: &Spawning, case: Case) -> Listing
     }
 }
 
-/// Returns the case of a list and the plan of its start. `source` is the absolute directory of the
-/// root Kyuafile.
+/// Returns the `Case` of a program that lists its test cases, and the plan of its start. `source`
+/// is the absolute directory of the root Kyuafile.
 fn plan_list(
     alloc: Global,
     source: &Text,
@@ -85,8 +85,9 @@ impl<O: Os + Drop> Driver<O> {
     /// Lists the test cases of an ATF program by running it with the variables of its suite
     /// (atf-test-program(1)).
     ///
-    /// The program runs in a new directory for at most 300 seconds (this profile). The directory is
-    /// then removed. A list is `Unreadable` if a read of it fails.
+    /// The program runs in a new directory, with a timeout of 300 seconds (this profile). The
+    /// directory is then removed; a failed removal is ignored. A list is `Unreadable` if a read of
+    /// it fails.
     ///
     /// # Errors
     ///

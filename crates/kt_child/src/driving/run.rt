@@ -37,7 +37,7 @@ pub fn run_driver<O: Os + Drop, S: Sink>(
 }
 
 /// Theorem: no two attempts of a driver have the same number. An attempt is the start of a body, or
-/// a list.
+/// a list of a program's test cases.
 pub fn law_of_numbers<O: Os + Drop>()
     ensures { AttemptsDiffer O.leads }
 {}

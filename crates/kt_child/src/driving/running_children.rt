@@ -106,7 +106,8 @@ impl RunningChildren {
     ghost use Rattle.kt_child.specs.Common.{IsEvidence, running_after_end, pending_after_end, IsMoment, HasMoment, Chain, Call, IsOn, count_in, Waited, idle_state, is_among, shown_in, Begun, state_after_start, spawned, with_pending, board_of};
     ghost use Rattle.kt_sched.specs.Children.{Child as Shown};
 
-    /// Creates a state without children or pending cleanups. Nothing is allocated.
+    /// Creates an empty list of running children and an empty list of pending cleanups. Nothing is
+    /// allocated.
     pub(crate) fn new(alloc: Global) -> RunningChildren
         ensures { result ≡ idle_state }
     {

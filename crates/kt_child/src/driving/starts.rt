@@ -24,7 +24,7 @@ pub(crate) fn take_number(next: &mut u64) -> Option<u64>
     Some(number)
 }
 
-/// Returns the purpose of a job's child, and its timeout in seconds.
+/// Returns the part of the test program that a job's child runs, and its timeout in seconds.
 pub(crate) fn want_and_limit(job: &Job, role: Role) -> (Want, u64)
     requires { IsFit job.now }
     ensures want { result.0 ≡ want_of role }
@@ -70,7 +70,8 @@ fn words_for(
     )
 }
 
-/// Returns the plan of a child's start. `source` is the absolute directory of the root Kyuafile.
+/// Returns the plan of a child's start: its program, arguments, environment and paths. `source` is
+/// the absolute directory of the root Kyuafile.
 pub(crate) fn spawning(
     alloc: Global,
     source: &Text,
@@ -109,15 +110,15 @@ pub(crate) fn spawning(
 }
 
 /// Returns `Refused::Memory`, the cause of a start for which an allocation failed. No other
-/// function of this crate returns that cause.
+/// function of this crate creates that cause.
 pub(crate) fn memory_refusal(_refusal: NoMemory) -> Refused
     ensures { result ≡ Refused.Memory }
 {
     Refused::Memory
 }
 
-/// Returns the cause of a start that a failed call refuses: `Memory` if an allocation of the call
-/// failed, and otherwise `cause`.
+/// Returns the cause of a start that is refused after a failed call: `Memory` if an allocation of
+/// the call failed, and otherwise `cause`.
 fn cause_of(cause: Refused, fault: OsFault) -> Refused
     ensures { result ≡ cause_of cause fault }
 {
@@ -175,8 +176,8 @@ fn furnish<O: Os>(os: &mut O, plan: &Spawning) -> Result<(), Refused>
     open_and_spawn(os, plan)
 }
 
-/// Starts a body or a list in a new directory. Removes the directory if a later call of the start
-/// fails.
+/// Starts a body, or a program that lists its test cases, in a new directory. Removes the directory
+/// if a later call of the start fails.
 fn set_up_new<O: Os>(os: &mut O, plan: &Spawning) -> Result<(), Refused>
     ensures { (calls : List Call) × Chain O.leads os.old calls os.new
         × SetUpNew (furnish_asks plan.now) plan.now.dir calls result }

@@ -113,8 +113,8 @@ pub(crate) fn kill<P: OpenProcess + Drop, C: Clock>(
     }
 }
 
-/// Returns `true` if a child has ended whose end was not found before. Checks the children from the
-/// index `from` until it finds one.
+/// Returns `true` if it finds a child that has ended and whose end is not known yet. The search
+/// starts at the index `from`.
 fn has_new_end<P: OpenProcess + Drop>(children: &mut Children<P>, from: usize) -> bool
     ensures { AllProceed (stand_in children.old.entries) (stand_in children.new.entries) }
 {

@@ -8,7 +8,7 @@ use std::rt::Clock;
 use std::time::{Duration, Instant};
 use std::{process, thread};
 
-/// The number of sleeps of one millisecond in a poll at most. After that many sleeps, the next
+/// The greatest number of sleeps in a poll, each of one millisecond. After 20 of them, the next
 /// `Running` response is no longer early.
 const SLICES: u32 = 20;
 
@@ -21,8 +21,8 @@ pub(crate) struct HostChild<P: OpenProcess> {
     out: Option<File>,
     /// The file for standard error, before the start.
     err: Option<File>,
-    /// The two output files, from the start until the outputs have been read. A process can't take
-    /// a lease on a file that is open for writing (fcntl(2)).
+    /// The two output files, open from the start at least until the outputs have been read. A
+    /// process can't take a lease on a file that is open for writing (fcntl(2)).
     kept: Option<(File, File)>,
     /// The process, from the start on.
     process: Option<process::Child<P>>,
@@ -201,8 +201,8 @@ impl<P: OpenProcess + Drop> HostChild<P> {
         Ok(())
     }
 
-    /// Returns `true` if the child has ended and its end was not found before. The next poll
-    /// returns the same status.
+    /// Returns `true` if the child has ended and its end is not known yet. The next poll returns
+    /// the same status.
     pub(crate) fn has_new_end(&mut self) -> bool
         ensures proceeds { Proceeds (stand_of self.old) (stand_of self.new) }
         ensures unseen { IsTrue result → self.old.seen ≡ false }

@@ -21,9 +21,10 @@ const TURNS_OF_A_LOOK: u32 = 8;
 
 /// An `Os` of the host, with the processes, files and clocks of the standard library.
 ///
-/// A pause ends when a child has ended, or after 10 milliseconds. If a `Running` response would be
-/// too early, the poll sleeps first. The first directory that is created is the root of all others.
-/// A long removal continues in pauses and in later removals.
+/// A pause ends when a child has ended, or after 10 milliseconds. While a child is polled late, a
+/// pause returns at once. If a `Running` response would be too early, the poll sleeps first. The
+/// first directory that is created is the root of all others. A long removal continues in pauses
+/// and in later removals.
 ///
 /// An end is reported only for a child with a process, by the wait status of that process. The
 /// environment of a child is the runner's environment with the changes of its plan. A read starts

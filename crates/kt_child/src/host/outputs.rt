@@ -30,7 +30,8 @@ const OUTPUT_MODE: u32 = 0o600;
 pub(crate) struct Rights {
     /// `true` if root owns the directories.
     of_root: bool,
-    /// `true` if the umask removes a permission that new directories and files need.
+    /// `true` if the umask removes a permission that new directories and files need, or if that is
+    /// unknown.
     narrow: bool,
 }
 
@@ -101,8 +102,8 @@ fn create_first<R: Files>(rt: &R, path: &str) -> io::Result<Rights> {
     Ok(rights)
 }
 
-/// Creates the private directory to which removals move other directories. If root owns it, returns
-/// whether the umask removes permissions of other users.
+/// Creates the private directory to which removals move other directories. Returns `rights`, with
+/// the effect of the umask on other users' permissions if root owns the directory.
 fn create_place<R: Files>(rt: &R, place: &str, rights: Rights) -> io::Result<Rights> {
     if !rights.of_root {
         create_with(rt, place, PRIVATE_MODE, rights.narrow)?;

@@ -10,7 +10,7 @@ use std::time::Instant;
 /// The greatest length of a pause, in microseconds.
 pub(crate) const PAUSE: u64 = 10_000;
 
-/// Returns the interval between two checks of `children` children for an end, in microseconds.
+/// Returns the interval at which `children` children are checked for an end, in microseconds.
 ///
 /// `since` is the time since the last end, in microseconds. The interval grows with the number of
 /// children, since their check takes longer. It grows with `since`, since an end becomes less
@@ -26,8 +26,8 @@ fn whole_slice(children: usize, since: u64) -> u64
     short.max(many).max(since * (children + 4) / 384)
 }
 
-/// The number of newest children that are checked after each slice. The newest children are more
-/// likely to have ended than the others.
+/// The number of newest children that are checked for an end after each slice. They are more likely
+/// to have ended than the others.
 pub(crate) const NEWEST: usize = 8;
 
 /// Returns the length of the next slice of a pause, in microseconds. `micros` is the part of the
@@ -45,7 +45,7 @@ pub(crate) fn slice_after(children: usize, pauses: u32, micros: u64) -> u64
         .min(PAUSE - micros)
 }
 
-/// Returns `true` if all children must be checked for an end.
+/// Returns `true` if it is time to check all children for an end.
 ///
 /// `micros` is the part of the pause that has passed, in microseconds. `unlooked` is the part since
 /// the last check of all children, and `pauses` the number of pauses since the last end.

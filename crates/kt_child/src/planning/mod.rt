@@ -18,7 +18,8 @@ pub enum Want {
     Cleanup,
 }
 
-/// A purpose of a child, with what its program is started with.
+/// A purpose of a child: the part of the test program that it runs, and the values for its
+/// arguments.
 #[derive(Clone, Copy)]
 pub(crate) struct Purpose<'a> {
     /// The part of the test program that runs.
@@ -38,7 +39,7 @@ pub(crate) struct Purpose<'a> {
 pub(crate) struct Case {
     /// The position of the case in the plan, counted from 0, or 0 for a list.
     pub position: u32,
-    /// The number of the attempt: the start of the case's body, or the list.
+    /// The number of the attempt, which is the start of the case's body or the list.
     pub attempt: u64,
     /// The role of the child that runs or ran last.
     pub role: Role,
