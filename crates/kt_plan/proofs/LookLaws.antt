@@ -79,8 +79,7 @@ module _ {W : Type 0} (replies : W → Reply → W → Type 0) where
   word_asked need name old new answer h = answered-once (Finds need name answer) h ([], asked need name [] answer [] nothing)
 
   module _ (needs : List (Need × List ℕ)) (old : W) (was : Host) where
-    -- `Looking rest new now`: the checks so far, with those of `rest`, are all; `now` is their
-    -- record.
+    -- `Looking rest new now`: the checks so far and those of `rest` are all; `now` is their record.
     abbrev pub Looking : List (Need × List ℕ) → W → Host → Type 0
     Looking rest new now =
         Answered replies old new (λ answers. ((more : List Reply) → LooksFor rest more → LooksFor needs (answers ++ more)) × Notes answers was now)

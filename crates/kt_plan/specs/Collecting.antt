@@ -33,7 +33,7 @@ pub data ListsCases (config : Values) (program : Program) : List Reply → List 
   listed : (listing : Listing) (cases : List CaseDef) → AreCases program.props Atf (Some listing) cases
       → ListsCases config program (Lists program (variables_for config program.suite) listing ∷ []) cases
 
--- `OffersOne config filters program replies found`: `found` are the cases of `program`. An ATF
+-- `OffersOne config filters program answers found`: `found` are the cases of `program`. An ATF
 -- program lists its cases if it `IsWanted`, and otherwise has none here. Another program has the
 -- case `main`.
 pub data OffersOne (config : Values) (filters : List Filter) (program : Program) : List Reply → List Candidate → Type 0 where
@@ -43,13 +43,13 @@ pub data OffersOne (config : Values) (filters : List Filter) (program : Program)
   single : (cases : List CaseDef) → program.interface ≢ Atf → AreCases program.props program.interface None cases
       → OffersOne config filters program [] (candidates_of program cases)
 
--- `Offers config filters programs replies found`: `found` are the cases of `programs`, in order.
+-- `Offers config filters programs answers found`: `found` are the cases of `programs`, in order.
 pub data Offers (config : Values) (filters : List Filter) : List Program → List Reply → List Candidate → Type 0 where
   none : Offers config filters [] [] []
   one_and : (program : Program) (programs : List Program) (answers more : List Reply) (own others : List Candidate) → OffersOne config filters program answers own
       → Offers config filters programs more others → Offers config filters (program ∷ programs) (answers ++ more) (own ++ others)
 
--- `OffersFirst config filters programs replies`: `replies` are the first of the lists of
+-- `OffersFirst config filters programs answers`: `answers` are the first of the lists of
 -- `programs`, in order, if an allocation fails.
 pub data OffersFirst (config : Values) (filters : List Filter) : List Program → List Reply → Type 0 where
   no_further : (programs : List Program) → OffersFirst config filters programs []
@@ -73,8 +73,8 @@ chosen_of filters found = record {
   unmatched = unmatched_places (map item_of found) filters;
 }
 
--- `Collects settings kyuafile asked replies result`: the selected cases of a suite, or the error
--- that stops the command. `asked` are the calls to the tree, and `replies` the lists.
+-- `Collects settings kyuafile asked answers result`: the selected cases of a suite, or the error
+-- that stops the command. `asked` are the calls to the tree, and `answers` the lists.
 pub data Collects (settings : Settings) (kyuafile : List ℕ) : List Asked → List Reply → Result Chosen Stop → Type 0 where
   unloaded : (asked : List Asked) (fault : SuiteFault) → Loads kyuafile asked (Err fault) → Collects settings kyuafile asked [] (Err (stop.Tree fault))
   too_many : (asked : List Asked) (answers : List Reply) (programs : List Program) (found : List Candidate) → Loads kyuafile asked (Ok programs)
@@ -83,7 +83,7 @@ pub data Collects (settings : Settings) (kyuafile : List ℕ) : List Asked → L
       → Offers settings.config settings.filters programs answers found → length found ≤ most_items
       → Collects settings kyuafile asked answers (Ok (chosen_of settings.filters found))
 
--- `CollectsFirst settings kyuafile asked replies`: the first calls of a selection, to the tree and
+-- `CollectsFirst settings kyuafile asked answers`: the first calls of a selection, to the tree and
 -- then for the lists, if an allocation fails.
 pub data CollectsFirst (settings : Settings) (kyuafile : List ℕ) : List Asked → List Reply → Type 0 where
   loading : (asked : List Asked) → LoadsFirst kyuafile asked → CollectsFirst settings kyuafile asked []

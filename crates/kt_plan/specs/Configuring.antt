@@ -74,7 +74,7 @@ pub data ReadsConfig : Option (List ℕ) → List Reply → Result (List Definit
   seen : (path bytes : List ℕ) (meant : Result (List Definition) Stop) → IsConfiguration bytes meant
       → ReadsConfig (Some path) (ReadConfig path (Ok bytes) ∷ []) meant
 
--- `Configures options replies meant`: the definitions of the configuration file, followed by those
+-- `Configures options answers meant`: the definitions of the configuration file, followed by those
 -- of `-v`, or the `Stop` of the first error.
 pub data Configures (options : CaseOptions) (answers : List Reply) : Result (List Definition) Stop → Type 0 where
   stopped : (fault : Stop) → ReadsConfig options.config answers (Err fault) → Configures options answers (Err fault)
@@ -122,7 +122,7 @@ pub data Filters (needs_case : Bool) (words : List (List ℕ)) : Result (List Fi
 
 -- ---- the whole step
 
--- `Settles needs_case options replies result`: the settings of a command, or the `Stop` of the
+-- `Settles needs_case options answers result`: the settings of a command, or the `Stop` of the
 -- first error in its configuration file, the arguments of `-v` or its filters.
 pub data Settles (needs_case : Bool) (options : CaseOptions) (answers : List Reply) : Result Settings Stop → Type 0 where
   unconfigured : (fault : Stop) → Configures options answers (Err fault) → Settles needs_case options answers (Err fault)

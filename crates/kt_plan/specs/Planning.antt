@@ -39,7 +39,7 @@ abbrev pub needs_of : List Candidate → List (Need × List ℕ)
 needs_of [] = []
 needs_of (candidate ∷ candidates) = needs_by candidate.case.fault (meta_in candidate) ++ needs_of candidates
 
--- `LooksFor needs replies`: the host checks each requirement, in order.
+-- `LooksFor needs answers`: the host checks each requirement, in order.
 pub data LooksFor : List (Need × List ℕ) → List Reply → Type 0 where
   nothing : LooksFor [] []
   asked : (need : Need) (word : List ℕ) (needs : List (Need × List ℕ)) (answer : Bool) (answers : List Reply) → LooksFor needs answers
@@ -50,7 +50,7 @@ abbrev pub finds : Need → List ℕ → Reply → Bool
 finds need word (Finds other_need other answer) = is_same_need other_need other need word && answer
 finds need word other = false
 
--- `Surveys candidates replies host`: `host` has the results of the checks for root, memory, disk
+-- `Surveys candidates answers host`: `host` has the results of the checks for root, memory, disk
 -- space and the requirements. A file or a program exists if a check has found it.
 pub record Surveys (candidates : List Candidate) (answers : List Reply) (host : Host) : Type 0 where
   pub looked : List Reply
@@ -58,7 +58,7 @@ pub record Surveys (candidates : List Candidate) (answers : List Reply) (host : 
   pub all : LooksFor (needs_of candidates) looked
   pub found : (need : Need) (word : List ℕ) → is_found need host word ≡ list_any (finds need word) looked
 
--- `SurveysFirst candidates replies`: the first calls to the host, if an allocation fails. The
+-- `SurveysFirst candidates answers`: the first calls to the host, if an allocation fails. The
 -- checks of files and programs come last.
 pub record SurveysFirst (candidates : List Candidate) (answers : List Reply) : Type 0 where
   pub root : Bool

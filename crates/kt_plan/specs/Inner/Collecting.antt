@@ -30,7 +30,7 @@ pub data ListsFirst (config : Values) (program : Program) : List Reply → Type 
   before_list : ListsFirst config program []
   after_list : (listing : Listing) → ListsFirst config program (Lists program (variables_for config program.suite) listing ∷ [])
 
--- `CollectsOrShort settings kyuafile asked replies result`: the selected cases, or the first calls
+-- `CollectsOrShort settings kyuafile asked answers result`: the selected cases, or the first calls
 -- for them if an allocation fails.
 abbrev pub CollectsOrShort : Settings → List ℕ → List Asked → List Reply → Result Chosen Stop → Type 0
 CollectsOrShort settings kyuafile asked answers result = (IsShort result × CollectsFirst settings kyuafile asked answers) ⊎ Collects settings kyuafile asked answers result

@@ -15,8 +15,8 @@ unread_stop Missing = stop.UnreadConfiguration
 unread_stop Failed = stop.UnreadConfiguration
 unread_stop (Memory refusal) = stop.NoMemory refusal
 
--- `Gives outcome meant`: a configuration with the last values of the definitions `meant`, or the
--- same `Stop`.
+-- `Gives outcome meant`: `outcome` is a configuration with the last values of the definitions
+-- `meant`, or the same `Stop`.
 abbrev pub Gives : Result Values Stop → Result (List Definition) Stop → Type 0
 Gives (Ok config) (Ok definitions) = Holds config definitions
 Gives (Ok config) (Err fault) = ⊥
@@ -30,15 +30,16 @@ pub record Configured (Means : Result (List Definition) Stop → Type 0) (outcom
   pub gives : Gives outcome meant
 
 -- `GivesMore config outcome meant`: `outcome` is `config` with the definitions `meant` after its
--- own.
+-- own, or the `Stop` of `meant`.
 abbrev pub GivesMore : Values → Result Values Stop → Result (List Definition) Stop → Type 0
 GivesMore config outcome meant = (before : List Definition) → Holds config before → Gives outcome (behind before meant)
 
--- `GivesOne config outcome meant`: `outcome` is `config` with the definition `meant` after its own.
+-- `GivesOne config outcome meant`: `outcome` is `config` with the definition `meant` after its own,
+-- or the `Stop` of `meant`.
 abbrev pub GivesOne : Values → Result Values Stop → Result Definition Stop → Type 0
 GivesOne config outcome meant = GivesMore config outcome (in_front meant (Ok []))
 
--- `config_or_stop config stop`: `config`, unless there is a `Stop`.
+-- `config_or_stop config stop`: `config`, or the `Stop` if there is one.
 abbrev pub config_or_stop : Values → Option Stop → Result Values Stop
 config_or_stop config None = Ok config
 config_or_stop config (Some fault) = Err fault
@@ -55,12 +56,12 @@ pub data ChecksTogether (words : List (List ℕ)) (filters : List Filter) : Opti
   apart : IsDisjoint filters → ChecksTogether words filters None
   shared : (word : List ℕ) (fault : FilterFault) → IsClash words filters word fault → ChecksTogether words filters (Some (stop.Filter word fault))
 
--- `OrShort result path replies fact`: `fact` is true, or an allocation failed after the first
+-- `OrShort result path answers fact`: `fact` is true, or an allocation failed after the first
 -- calls.
 abbrev pub OrShort : {T : Type 0} → Result T Stop → Option (List ℕ) → List Reply → Type 0 → Type 0
 OrShort result path answers fact = (IsShort result × ReadsFirst path answers) ⊎ fact
 
--- `SettlesOrShort needs_case options replies result`: the settings, or the first calls if an
+-- `SettlesOrShort needs_case options answers result`: the settings, or the first calls if an
 -- allocation fails.
 abbrev pub SettlesOrShort : Bool → CaseOptions → List Reply → Result Settings Stop → Type 0
 SettlesOrShort needs_case options answers result = OrShort result options.config answers (Settles needs_case options answers result)

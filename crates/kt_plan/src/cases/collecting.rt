@@ -12,7 +12,7 @@ use kt_suite::{Program, SuiteCause, SuiteFault, Tree, load, split_path};
 use kt_words::CaseOptions;
 use std::alloc::Global;
 
-/// Returns the error of a Kyuafile for which an allocation failed.
+/// Creates the error of a suite for which an allocation failed.
 fn out_of_memory(alloc: Global, refusal: NoMemory) -> SuiteFault
     ensures { result ≡ no_memory refusal }
 {
@@ -23,7 +23,7 @@ fn out_of_memory(alloc: Global, refusal: NoMemory) -> SuiteFault
     }
 }
 
-/// Returns an error of a whole file, without a line number.
+/// Creates an error that concerns a whole Kyuafile, without a line number.
 fn fault_of(alloc: Global, file: &Text, cause: SuiteCause) -> SuiteFault
     ensures { Blames file.now 0 cause result }
 {

@@ -77,9 +77,9 @@ fn lacks_case(needs_case: bool, filters: &[Filter]) -> bool
 
 /// Parses the filters of a command.
 ///
-/// The errors are checked in this order: the first argument that is not a filter, the first filter
-/// that selects a case of an earlier filter, and, if `needs_case` is `true`, anything but exactly
-/// one filter that names a case.
+/// The errors are checked in this order: an argument that is not a filter, and a filter that
+/// selects a case of an earlier filter. The last is `NeedsCase`, if `needs_case` is `true` and
+/// there is not exactly one filter that names a case.
 pub fn read_filters(alloc: Global, needs_case: bool, words: &[Text]) -> Result<Items<Filter>, Stop>
     ensures { IsShort result ⊎ Filters needs_case words.now result }
 {

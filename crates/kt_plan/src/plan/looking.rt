@@ -34,8 +34,8 @@ fn look_for_word<W: World>(
     Ok(())
 }
 
-/// Checks that each required file, or each required program, exists, in order, and records those
-/// that do.
+/// Checks that each required file or program of one kind exists, in order, and records those that
+/// do.
 fn look_for_words<W: World>(
     need: Need,
     words: &[Text],
@@ -52,7 +52,8 @@ fn look_for_words<W: World>(
     Ok(())
 }
 
-/// Returns the kinds of requirements of a case to be checked, none if its list has an error.
+/// Returns the kinds of requirements that must be checked for a case. Returns none if the list of
+/// its program has an error.
 fn kinds_of(candidate: &Candidate) -> &'static [Need]
     ensures { needs_among result.now (meta_in candidate.now)
         ≡ needs_by candidate.now.case.fault (meta_in candidate.now) }
@@ -100,12 +101,12 @@ fn look_for_all<W: World>(
     Ok(())
 }
 
-/// Reads the properties of the host that cases may require: whether the runner is root, memory,
-/// disk space, and the required files and programs.
+/// Reads the properties of the host that cases may require: whether the user is root, the memory,
+/// the disk space, and the required files and programs.
 ///
-/// Root, memory and disk space are read even if no case requires them. Cases whose list has an
-/// error require nothing. A file or a program that several cases require is checked for each. If
-/// the results differ, the file or the program counts as found.
+/// The user, the memory and the disk space are read even if no case requires them. Cases whose list
+/// has an error require nothing. A file or a program that several cases require is checked for
+/// each. If the results differ, the file or the program counts as found.
 pub fn survey<W: World>(alloc: Global, cases: &[Candidate], world: &mut W) -> Result<Host, NoMemory>
     requires { IsIdle (W.running world.old) (W.pending world.old) }
     ensures surveyed { Answered W.replies world.old world.new (λ answers. MatchResult result

@@ -55,7 +55,7 @@ fn decided(
     }
 }
 
-/// Returns copies of the case's program path and name.
+/// Returns copies of a case's program path and name.
 fn names_of(candidate: &Candidate) -> Result<(Text, Text), NoMemory>
     ensures { IfOk result (λ names. (names.0 ≡ candidate.now.path)
         × (names.1 ≡ candidate.now.case.name)) }
