@@ -26,10 +26,11 @@ all_later : (a : Alive) (old new : List Alive) (calls : List Call) → Chain Hea
 all_later a old new [] h = ap (λ t. a ∷ t) h
 all_later a old new (call ∷ calls) (mid, first, rest) = (a ∷ mid, later a old mid call first, all_later a mid new calls rest)
 
--- `asked k answer done` and `after_poll_of`: the calls of one poll, and the child after it.
+-- `asked k answer done`: the calls of one poll of the child `k`.
 abbrev asked : Watched → Result Polled OsFault → Bool → List Call
 asked k answer done = asked_by_poll (child_of k.case) k.limit k.watch answer done
 
+-- `after_poll_of k answer done`: the child `k` after one poll, with all its responses.
 abbrev after_poll_of : Watched → Result Polled OsFault → Bool → Alive
 after_poll_of k answer done = answering k (answered k.limit k.watch ++ heard_of k.limit k.watch answer done)
 

@@ -10,7 +10,7 @@ pub own_role : (r : Role) → same_role r r ≡ true
 own_role Body = refl
 own_role Cleanup = refl
 
--- The number `one_if b` is a conditional.
+-- The definition of `one_if` as a conditional.
 pub one_if_is : (b : Bool) → one_if b ≡ (if b then 1 else 0)
 one_if_is true = refl
 one_if_is false = refl
@@ -46,12 +46,14 @@ among_counts (c ∷ cases) k = step (k == c.position) (is_among cases k) (count_
 pub none_among : (cases : List Case) (i : ℕ) → is_among cases i ≡ false → count_at i cases ≡ 0
 none_among cases i p = grind (arith, nat_tests, among_counts cases i)
 
--- Counts after an element was appended or removed.
+-- Counts of a number `n` among the values `f x` of a list.
 module _ {X : Type 0} (f : X → ℕ) (n : ℕ) where
+  -- Appending an element adds one to the count if its value is `n`.
   pub times_more : (xs : List X) (x : X) → times n (map f (xs ++ x ∷ [])) ≡ times n (map f xs) + one_if (n == f x)
   times_more [] x = omega arith
   times_more (y ∷ xs) x = omega (arith, times_more xs x)
 
+  -- Removing an element takes one from the count if its value is `n`.
   pub times_less : (xs : List X) (p : ℕ) (x : X) → slice_get xs p ≡ Some x → times n (map f (remove xs p)) + one_if (n == f x) ≡ times n (map f xs)
   times_less [] p x h = absurd (cc (h))
   times_less (y ∷ xs) zero x h = omega (arith, ap (λ t. one_if (n == f t)) (same_Some y x h))

@@ -5,15 +5,18 @@ use Rattle.std.specs.Option.{option_map}
 use Rattle.std.proofs.lemmas.Option.{slice_get-map}
 use Rattle.indexmap.proofs.SetLemmas.{map-remove}
 
+-- The first part of a turn doesn't change the cases.
 pub cases_below : (n : ℕ) (ks : List Watched) → cases_of (advanced_below n ks) ≡ cases_of ks
 cases_below zero ks = refl
 cases_below (suc n) [] = refl
 cases_below (suc n) (k ∷ ks) = ap (λ t. k.case ∷ t) (cases_below n ks)
 
+-- A turn doesn't change the cases.
 pub cases_turn : (ks : List Watched) → cases_of (map advanced ks) ≡ cases_of ks
 cases_turn [] = refl
 cases_turn (k ∷ ks) = ap (λ t. k.case ∷ t) (cases_turn ks)
 
+-- A wait doesn't change the cases of the children that it polls.
 pub cases_waited : (ks : List Watched) (calls : List Call) (place : ℕ) (outcome : Outcome) (after : List Watched)
     → WaitedOn ks calls place outcome after → cases_of after ≡ cases_of ks
 cases_waited _ _ _ _ _ (last_turn ks calls place outcome polled) = cases_below place ks

@@ -7,11 +7,13 @@ use Rattle.kt_child.proofs.Common.{and_parts, Role, Body, Cleanup, same_role, Ch
 use Rattle.kt_child.proofs.CaseCounts.{same_position}
 use Rattle.std.proofs.lemmas.Option.{same_Some}
 
+-- Roles that `same_role` accepts are equal.
 same_role_is : (a b : Role) → same_role a b ≡ true → a ≡ b
 same_role_is Body Body e = refl
 same_role_is Cleanup Cleanup e = refl
 same_role_is a b e = absurd (cc)
 
+-- Names that `same_child` accepts are equal.
 same_child_is : (a b : Child) → same_child a b ≡ true → a ≡ b
 same_child_is a b e =
     let w = and_parts (a.attempt == b.attempt) (same_role a.role b.role) e in
@@ -27,14 +29,17 @@ all_stay child old new own others c = by (same_child child c) refl
     by true e = rw (← same_child_is child c e) own
     by false e = others c e
 
+-- An unchanged state is a step of `Proceeds`.
 proceeds_same : (a : Stand) → Proceeds a a
 proceeds_same None = refl
 proceeds_same (Some None) = refl
 proceeds_same (Some (Some status)) = refl
 
+-- `Proceeds` is true of states that are equal to two others of which it is true.
 pub proceeds_by : (a b c d : Stand) → a ≡ c → b ≡ d → Proceeds c d → Proceeds a b
 proceeds_by a b c d e f p = rw (e, f) p
 
+-- Two steps of `AllProceed`, one after the other, are one step.
 pub all_proceed_more : (a b c : Child → Stand) → AllProceed a b → AllProceed b c → AllProceed a c
 all_proceed_more a b c p q k = more (a k) (b k) (c k) (p k) (q k)
   where
@@ -45,6 +50,7 @@ all_proceed_more a b c p q k = more (a k) (b k) (c k) (p k) (q k)
     more a b c p q = rw p at q
 
 module _ {P I O E : Type 0} where
+  -- A step at the first or a later entry of a map is a step of the child that is found.
   proceeds_if : (b : Bool) (x y : HostChild P I O E) (l m : Option (HostChild P I O E)) → Proceeds (stand_of x) (stand_of y)
       → Proceeds (option_and_then stand_of l) (option_and_then stand_of m)
       → Proceeds (option_and_then stand_of (cond b (Some x) l)) (option_and_then stand_of (cond b (Some y) m))

@@ -28,13 +28,16 @@ pub attempts_differ : {O : Type 0} (leads : O → Call → O → Type 0) → Att
 attempts_differ leads attempt requests d e f is lt served all =
     omega (arith, (serves leads d e attempt served).1 is lt, all_rise leads requests e f all)
 
+-- The count of a number in two joined lists is the sum of its counts.
 times_join : (n : ℕ) (xs ys : List ℕ) → times n (xs ++ ys) ≡ times n xs + times n ys
 times_join n [] ys = omega arith
 times_join n (x ∷ xs) ys = omega (arith, times_join n xs ys)
 
+-- `runs_by a`: the attempt number of the running child `a`.
 abbrev runs_by : Alive → ℕ
 runs_by a = a.case.attempt
 
+-- `owed_by c`: the attempt number of the pending case `c`.
 abbrev owed_by : Case → ℕ
 owed_by c = c.attempt
 
@@ -45,6 +48,7 @@ call_kept _ _ _ (killed a others done) = refl
 call_kept _ _ _ (later a others after call h) = ap (λ t. a.case.attempt ∷ t) (call_kept others after call h)
 call_kept _ _ _ (paused alive done) = refl
 
+-- No list of calls changes the attempt numbers of the running children.
 calls_kept : (calls : List Call) (old new : List Alive) → Chain Hears old calls new → map runs_by new ≡ map runs_by old
 calls_kept [] old new h = ap (map runs_by) h
 calls_kept (call ∷ calls) old new (mid, first, rest) = calls_kept calls mid new rest ∙ call_kept old mid call first
@@ -71,6 +75,7 @@ fewer t old new apart le h n =
     let y = times_join n (map runs_by new.alive) (map owed_by new.owed) in
     apart_still t n (times n (numbers old)) (times n (numbers new)) old.next new.next le (omega (arith, h n, x, y)) (apart n)
 
+-- The attempt numbers on a board are different after an end.
 ends_apart : (old new : Board) (calls : List Call) (e : Ended) → Ends old calls e new → IsApart old → IsApart new
 ends_apart old new calls e s apart =
     fewer false old new apart (omega (arith, s.next)) (λ n.
@@ -83,6 +88,7 @@ ends_apart old new calls e s apart =
       ap (λ t. times n (map owed_by t)) s.owed,
     ))
 
+-- The attempt numbers on a board are different after a start.
 starts_apart : (source root : List ℕ) (old new : Board) (job : Job) (role : Role) (calls : List Call) (answer : StartAnswer)
     → Starts source root old job role calls answer new → IsApart old → IsApart new
 starts_apart source root old new job role calls answer (inl (r, l, refused, none, same)) apart = subst IsApart (sym same) apart
@@ -106,6 +112,7 @@ starts_apart source root old new job Body calls answer (inr (c, ((lt, number, ne
       ap (λ (t : Case). one_if (n == t.attempt)) case,
     ))
 
+-- The attempt numbers on a board are different after a run.
 runs_apart : (plan : List Job) (source root : List ℕ) (old : Board) (T : Trace) (calls : List Call) (new : Board) → Runs plan source root old T calls new → IsApart old → IsApart new
 runs_apart plan source root old NoEvent calls new (none, same) apart = subst IsApart (sym same) apart
 runs_apart plan source root old (Then T (Started i role answer)) calls new (mid, before, asked, e, runs, (job, at, s)) apart =

@@ -18,9 +18,11 @@ tested a n e = grind (arith, nat_tests)
 failed : (a n : ℕ) → (a + 1 == n) ≡ false → a < n → a + 1 < n
 failed a n e lt = let d : a + 1 ≢ n = grind (arith, nat_tests) in omega arith
 
+-- `killed_at b a`: the poll counts of a child after `b` polls, a kill, and `a` more polls.
 abbrev killed_at : ℕ → ℕ → Watch
 killed_at b a = record { before = b; killed = true; after = a }
 
+-- `alive_at b`: the poll counts of a child before a kill, after `b` polls.
 abbrev alive_at : ℕ → Watch
 alive_at b = record { before = b; killed = false; after = 0 }
 
@@ -30,6 +32,7 @@ Goes limit w answer done =
     after_poll limit w answer done ≡ More
     → (answered limit (watch_after limit w) ≡ answered limit w ++ heard_of limit w answer done) × IsWatched limit (watch_after limit w)
 
+-- A poll of a killed child that still runs extends its responses.
 goes_killed : (limit b a : ℕ) (answer : Result Polled OsFault) (done : Bool) → a < 500 → Goes limit (killed_at b a) answer done
 goes_killed limit b a (Ok Running) done lt e = by (a + 1 == 500) refl e
   where
@@ -43,6 +46,7 @@ goes_killed limit b a (Ok Running) done lt e = by (a + 1 == 500) refl e
         (ap (λ u. R ++ HeardKill true ∷ u) (once_more a) ∙ sym (append_assoc R (HeardKill true ∷ replicate a running) (running ∷ [])), failed a 500 t lt)
 goes_killed limit b a answer done lt e = absurd (cc)
 
+-- A poll of a child before a kill that still runs extends its responses.
 goes_alive : (limit b : ℕ) (answer : Result Polled OsFault) (done : Bool) → b < 100 * limit → Goes limit (alive_at b) answer done
 goes_alive limit b (Ok Running) done lt e = by (b + 1 == 100 * limit) refl done e
   where
@@ -62,6 +66,7 @@ goes_alive limit b answer done lt e = absurd (cc)
 abbrev Tells : ℕ → Watch → Result Polled OsFault → Bool → Outcome → Type 0
 Tells limit w answer done o = after_poll limit w answer done ≡ Ended o → Yields limit (answered limit w ++ heard_of limit w answer done) o
 
+-- Equal ends have equal outcomes.
 same_end : (o p : Outcome) → Ended o ≡ Ended p → p ≡ o
 same_end o p e = cc
 
@@ -77,6 +82,7 @@ killed_rows limit b a (Ok Running) done o lt e = by (a + 1 == 500) refl e
     by true t e = inr (inl (sym (once_more a) ∙ ap (λ n. replicate n running) (tested a 500 t), same_end WaitFailed o e))
     by false t e = absurd (cc)
 
+-- The outcome of a last poll after a kill follows from all responses.
 tells_killed : (limit b a : ℕ) (answer : Result Polled OsFault) (done : Bool) (o : Outcome) → a < 500 → Tells limit (killed_at b a) answer done o
 tells_killed limit b a answer done o lt e =
     let hs = heard_of limit (killed_at b a) answer done in
@@ -109,10 +115,12 @@ of_watch P limit after before w is = by w.killed w.after is
     by true a lt = after w.before a lt
     by false a (lt, none) = rw none (before w.before lt)
 
+-- A poll of a running child that still runs extends its responses.
 pub goes_on : (limit : ℕ) (w : Watch) (answer : Result Polled OsFault) (done : Bool) → IsWatched limit w → Goes limit w answer done
 goes_on limit w answer done =
     of_watch (λ v. Goes limit v answer done) limit (λ b a. goes_killed limit b a answer done) (λ b. goes_alive limit b answer done) w
 
+-- The outcome of the last poll of a running child follows from all its responses.
 pub ends_so : (limit : ℕ) (w : Watch) (answer : Result Polled OsFault) (done : Bool) (o : Outcome) → IsWatched limit w → Tells limit w answer done o
 ends_so limit w answer done o =
     of_watch (λ v. Tells limit v answer done o) limit (λ b a. tells_killed limit b a answer done o) (λ b. tells_alive limit b answer done o) w

@@ -12,6 +12,7 @@ Taking has_taken leads path part limit start now reader got =
 
 -- For a reader that is fed a file from its start.
 module _ {R O : Type 0} (has_taken : R → List ℕ → Type 0) (leads : O → Call → O → Type 0) (path : List ℕ) (part limit : ℕ) (start : O) where
+  -- A part after which more follows leaves a rest that completes the read.
   pub taking_more : (now new : O) (reader reader' : R) (got got' : ℕ) (answer : Result FileRead OsFault)
       → Taking has_taken leads path part limit start now reader got
       → leads now (next_part path part limit got answer) new
@@ -29,6 +30,7 @@ module _ {R O : Type 0} (has_taken : R → List ℕ → Type 0) (leads : O → C
         λ rest end bytes h. rw append_assoc (on (call ∷ rest) end bytes (more taken bytes answer rest end (rw e at goes) h)),
       )
 
+  -- The last part completes the read.
   pub taking_over : (now new : O) (reader reader' : R) (got : ℕ) (answer : Result FileRead OsFault) (end : ReadEnd)
       → Taking has_taken leads path part limit start now reader got
       → leads now (next_part path part limit got answer) new

@@ -84,6 +84,7 @@ module _ (old new : ChildrenState) (calls : List Call) (e : Ended) (once : Once 
   few : count_at w.over.case.position (cases_of old.children) ≤ 1
   few = omega (arith, once w.over.case.position)
 
+  -- The finished child was shown before the wait.
   over_shown : shown_in old w.over.case.position w.over.case.role ≡ Some (shown w.over.case)
   over_shown = shown_there (cases_of old.children) w.place w.over.case (waited_cases old new calls e w).1 few
 
@@ -103,6 +104,7 @@ module _ (old new : ChildrenState) (calls : List Call) (e : Ended) (once : Once 
   waited_pending k =
       rw (w.left.8, w.left.9) (ap (λ t. is_among t k) w.pending ∙ among_owed (cases_of old.children) old.pending w.over.case k over_shown)
 
+-- The polls and the calls after them are the calls of one wait.
 pub waited_all : {O : Type 0} (leads : O → Call → O → Type 0) (a b d : O) (old new : ChildrenState) (children after : List Watched) (place : ℕ) (outcome : Outcome) (k : Watched) (e : Ended)
     → (calls : List Call) × Chain leads a calls b × WaitedOn children calls place outcome after
     → (calls : List Call) × Chain leads b calls d × Leaves k.case calls outcome e

@@ -13,6 +13,7 @@ watched_at zero s d = refl
 watched_at (suc i) [] d = refl
 watched_at (suc i) (k ∷ s) d = watched_at i s d
 
+-- Advancing the child at index `i` after the first `i` children advances one more.
 set_next : (i : ℕ) (s : List Watched) (d : Watched) → set (advanced_below i s) i (advanced (get_or s i d)) ≡ advanced_below (suc i) s
 set_next zero [] d = refl
 set_next zero (k ∷ s) d = refl
@@ -26,6 +27,7 @@ OnePoll leads now new turn name k =
     × Chain leads now (asked_by_poll name k.limit k.watch answer done) new
     × (turn ≡ after_poll k.limit k.watch answer done)
 
+-- A poll of one more child, after which it still runs, extends a turn.
 polled_snoc : (ks : List Watched) (k : Watched) (xs : List Call) (answer : Result Polled OsFault) (done : Bool)
     → PolledAll ks xs → More ≡ after_poll k.limit k.watch answer done
     → PolledAll (ks ++ k ∷ []) (xs ++ asked_by_poll (child_of k.case) k.limit k.watch answer done)
@@ -44,6 +46,7 @@ polled_snoc (j ∷ ks) k xs answer done (a, d, more, eq, went, rest) e =
 
 -- For a turn over the children of `init`, at the index `i`.
 module _ (init children : List Watched) (i : ℕ) (d : Watched) (lt : i < length init) (e : children ≡ advanced_below i init) where
+  -- A poll of the next child, after which it still runs, extends the calls of the turn.
   pub step_more : {O : Type 0} (leads : O → Call → O → Type 0) (start now new : O) (name : Child) → name ≡ child_of (get_or children i d).case
       → (calls : List Call) × Chain leads start calls now × PolledAll (take i init) calls
       → OnePoll leads now new More name (get_or children i d)
@@ -55,6 +58,7 @@ module _ (init children : List Watched) (i : ℕ) (d : Watched) (lt : i < length
       let both = chain_append leads start now new calls ys chain o.2 in
       (calls ++ ys, both, rw (take_more init i d lt) (polled_snoc (take i init) k calls o.0 o.1 polled o.3))
 
+  -- A poll of the next child with which it finishes ends the turn.
   pub step_over : {O : Type 0} (leads : O → Call → O → Type 0) (start now new : O) (name : Child) → name ≡ child_of (get_or children i d).case
       → (outcome : Outcome) → All IsOn init
       → (calls : List Call) × Chain leads start calls now × PolledAll (take i init) calls
@@ -72,9 +76,11 @@ module _ (init children : List Watched) (i : ℕ) (d : Watched) (lt : i < length
   pub same_at : (f : Watched) → get_or children i d ≡ get_or children i f
   same_at f = rw (e, watched_at i init d, watched_at i init f) (get_or_default init i d f lt)
 
+  -- Storing the poll counts of the next child advances it.
   pub step_set : (f : Watched) (w : Watch) → w ≡ watch_after (get_or children i d).limit (get_or children i d).watch
       → set children i (record { case = (get_or children i f).case; limit = (get_or children i f).limit; watch = w }) ≡ advanced_below (i + 1) init
   step_set f w g = rw (g, same_at f, e, watched_at i init f, add-one i) (set_next i init f)
 
+  -- The child at index `i` is running.
   pub on_at : All IsOn init → IsOn (get_or children i d)
   on_at h = rw (e, watched_at i init d) (All-get_or IsOn init i d lt h)

@@ -7,10 +7,12 @@ use Rattle.kt_child.proofs.Chains.{chain_append}
 abbrev polls_left : Watched → ℕ
 polls_left k = (100 * k.limit - k.watch.before) + (500 - k.watch.after)
 
+-- `first_left children`: the number of polls that the first child has left, or 0 without children.
 abbrev pub first_left : List Watched → ℕ
 first_left [] = 0
 first_left (k ∷ s) = polls_left k
 
+-- Advancing all children one by one is a whole turn.
 pub all_advanced : (s : List Watched) → advanced_below (length s) s ≡ map advanced s
 all_advanced [] = refl
 all_advanced (k ∷ s) = ap (λ t. advanced k ∷ t) (all_advanced s)
@@ -21,6 +23,7 @@ Waiting leads start init now children =
     (calls : List Call) × Chain leads start calls now
     × ((more : List Call) (place : ℕ) (outcome : Outcome) (after : List Watched) → WaitedOn children more place outcome after → WaitedOn init (calls ++ more) place outcome after)
 
+-- A turn without a finished child, and a pause, extend the wait.
 pub waiting_more : {O : Type 0} (leads : O → Call → O → Type 0) (start now mid new : O) (init children : List Watched) (d : Bool)
     → Waiting leads start init now children
     → (calls : List Call) × Chain leads now calls mid × PolledAll children calls
@@ -36,6 +39,7 @@ waiting_more leads start now mid new init children d (calls, chain, on) (ys, cha
       (whole_turn children after ys more d place outcome polled (rw (all_advanced children) at waited))),
 )
 
+-- A turn with a finished child completes the wait.
 pub waiting_over : {O : Type 0} (leads : O → Call → O → Type 0) (start now new : O) (init children last : List Watched) (place : ℕ) (outcome : Outcome)
     → Waiting leads start init now children
     → (calls : List Call) × Chain leads now calls new × PolledUntil children place calls outcome
