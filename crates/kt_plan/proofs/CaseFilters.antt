@@ -8,6 +8,7 @@ use Rattle.kt_plan.specs.declared.stop.Stop.TheVariants as stop
 
 -- ---- the number of filters
 
+-- One meaning before the others adds one to their number.
 length_in_front : {A : Type 0} (m : Result A Stop) (rest : Result (List A) Stop) (all : List A) (n : ℕ) → in_front m rest ≡ Ok all → ((more : List A) → rest ≡ Ok more → n ≡ length more) → suc n ≡ length all
 length_in_front (Err fault) rest all n e f = absurd (cc)
 length_in_front (Ok one) (Err fault) all n e f = absurd (cc)
@@ -20,10 +21,12 @@ length_of_each meaning (word ∷ words) all e = length_in_front (meaning word) (
 
 -- ---- the filter that an error names
 
+-- The error of two filters names the position of the later filter.
 position_found : (position : ℕ) (filter : Filter) (found : Option Filter) (fault : FilterFault) → option_map (of.clash position filter) found ≡ Some fault → position_in fault ≡ position
 position_found position filter None fault e = absurd (cc)
 position_found position filter (Some earlier) fault e = let same : of.clash position filter earlier ≡ fault = cc in rw (← same) (grind arith)
 
+-- An error that is found at a position names that position, which is one of the list.
 fault_found : (filters : List Filter) (position : ℕ) (o : Option Filter) (fault : FilterFault) → slice_get filters position ≡ o
     → option_and_then (λ (filter : Filter). option_map (of.clash position filter) (find (overlap filter) (take position filters))) o ≡ Some fault
     → (position_in fault ≡ position) × (position < length filters)
@@ -55,6 +58,7 @@ names_word words filters fault n found word same f at read copied =
 -- ---- the filters of a command
 
 module _ (needs_case : Bool) (words : List (List ℕ)) where
+  -- `Reads result`: the filters of the arguments, or a failed allocation.
   abbrev pub Reads : Result (List Filter) Stop → Type 0
   Reads result = IsShort result ⊎ Filters needs_case words result
 
@@ -73,10 +77,12 @@ module _ (needs_case : Bool) (words : List (List ℕ)) where
   is_apart filters None n (apart d) = d
   is_apart filters (Some fault) n t = absurd (n fault refl)
 
+  -- Filters without exactly one that names a case end the read with `NeedsCase`.
   pub not_one_case : (filters : List Filter) (found : Option Stop) → filters_of words ≡ Ok filters → ((fault : Stop) → found ≡ Some fault → ⊥) → ChecksTogether words filters found
       → true ≡ lacks_case needs_case filters → Reads (Err stop.NeedsCase)
   not_one_case filters found e n t l = inr (unnamed filters e (is_apart filters found n t) (sym l))
 
+  -- Disjoint filters that meet `needs_case` are the result.
   pub all_right : (filters : List Filter) (found : Option Stop) → filters_of words ≡ Ok filters → ((fault : Stop) → found ≡ Some fault → ⊥) → ChecksTogether words filters found
       → false ≡ lacks_case needs_case filters → Reads (Ok filters)
   all_right filters found e n t l = inr (right filters e (is_apart filters found n t) (sym l))

@@ -11,6 +11,7 @@ use Rattle.kt_plan.proofs.OfferLaws.{all_first}
 never_short : (fault : SuiteFault) → (IsNoMemory fault → ⊥) → RanShort (Err fault) → ⊥
 never_short fault never s = let e = s.2 in let same : fault ≡ s.0 = cc in never (s.1.0, same ∙ s.1.1)
 
+-- Programs that were loaded are those that the Kyuafile registers.
 loaded_all : (programs : List Program) (asked : List Asked) (kyuafile : List ℕ) → LoadsOrShort kyuafile asked (Ok programs) → Loads kyuafile asked (Ok programs)
 loaded_all programs asked kyuafile (inl s) = let e = s.0.2 in absurd (cc)
 loaded_all programs asked kyuafile (inr l) = l
@@ -39,6 +40,7 @@ module _ {W : Type 0} (asks : W → Asked → W → Type 0) (replies : W → Rep
       by (inr is) (inr l) = inr (subst (λ (w : Stop). Collects settings kyuafile a.asked [] (Err w)) (sym is.0) (unloaded a.asked fault l))
 
   module _ (programs : List Program) (new : W) (a : Answered asks old mid (λ asked. LoadsOrShort kyuafile asked (Ok programs))) where
+    -- The programs are those that the Kyuafile registers.
     loads : Loads kyuafile a.asked (Ok programs)
     loads = loaded_all programs a.asked kyuafile a.holds
 
@@ -59,9 +61,11 @@ module _ {W : Type 0} (asks : W → Asked → W → Type 0) (replies : W → Rep
 
     module _ (shown : List Program) (filters : List Filter) (found : List Candidate) (same : shown ≡ programs) (own : filters ≡ settings.filters)
         (b : Answered replies mid new (λ answers. Offers settings.config settings.filters shown answers found)) where
+      -- The calls to the tree and for the lists are those of the selection.
       collected : (r : Result Chosen Stop) → CollectsOrShort settings kyuafile a.asked b.asked r → Collected asks replies settings kyuafile old new r
       collected r h = record { asked = a.asked; answers = b.asked; loaded = mid; chain = a.chain; lists = b.chain; holds = h }
 
+      -- The cases are those of the programs.
       offers : Offers settings.config settings.filters programs b.asked found
       offers = subst (λ (ps : List Program). Offers settings.config settings.filters ps b.asked found) same b.holds
 

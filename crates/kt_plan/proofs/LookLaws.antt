@@ -84,6 +84,7 @@ module _ {W : Type 0} (replies : W → Reply → W → Type 0) where
     Looking rest new now =
         Answered replies old new (λ answers. ((more : List Reply) → LooksFor rest more → LooksFor needs (answers ++ more)) × Notes answers was now)
 
+    -- The checks of the next requirements extend the checks so far.
     pub looking_next : (rest some after : List (Need × List ℕ)) (mid new : W) (then now : Host) → rest ≡ some ++ after → Looking rest mid then
         → Answered replies mid new (λ answers. LooksFor some answers × Notes answers then now) → Looking after new now
     looking_next rest some after mid new then now e l a = answered-then l a (λ answers own g h. (
@@ -101,6 +102,7 @@ module _ {W : Type 0} (replies : W → Reply → W → Type 0) where
           subst (λ (ts : List Reply). LooksFor needs ts) (rejoined answers own h.0 others.0) (g.0 ((own ++ h.0) ++ others.0) (rw e (looks_append some after (own ++ h.0) others.0 h.1 others.1))),
         ))
 
+    -- Without remaining requirements, the checks so far are all.
     pub looking_all : (rest : List (Need × List ℕ)) (new : W) (now : Host) → rest ≡ [] → Looking rest new now → Answered replies old new (λ answers. LooksFor needs answers × Notes answers was now)
     looking_all rest new now e l = answered-as l (λ answers g. (rw append-nil at (g.0 [] (rw e nothing)), g.1))
 

@@ -21,14 +21,17 @@ lists_cases replies config program variables old new answer cases e h a =
     answered-once (Lists program (variables_for config program.suite) answer) (subst (λ (vs : List Variable). replies old (Lists program vs answer) new) e h) (listed answer cases a)
 
 module _ {W : Type 0} (replies : W → Reply → W → Type 0) (config : Values) (filters : List Filter) where
+  -- The list of an ATF program that `IsWanted` gives its cases.
   pub offers_listed : (program : Program) (old new : W) (cases : List CaseDef) → program.interface ≡ Atf → IsWanted filters program → Answered replies old new (λ answers. ListsCases config program answers cases)
       → Answered replies old new (λ answers. OffersOne config filters program answers (candidates_of program cases))
   offers_listed program old new cases e w a = answered-as a (λ answers h. listing answers cases e w h)
 
+  -- An ATF program that is not `IsWanted` has no cases and no calls.
   pub offers_none : (program : Program) (world : W) (cases : List CaseDef) → program.interface ≡ Atf → (IsWanted filters program → ⊥) → cases ≡ []
       → Answered replies world world (λ answers. OffersOne config filters program answers (candidates_of program cases))
   offers_none program world cases e n c = asked_nothing replies world _ (subst (λ (cs : List CaseDef). OffersOne config filters program [] (candidates_of program cs)) (sym c) (unlisted e n))
 
+  -- A program of another interface has its cases without a call.
   pub offers_single : (program : Program) (world : W) (cases : List CaseDef) → program.interface ≢ Atf → AreCases program.props program.interface None cases
       → Answered replies world world (λ answers. OffersOne config filters program answers (candidates_of program cases))
   offers_single program world cases n a = asked_nothing replies world _ (single cases n a)
@@ -72,6 +75,7 @@ module _ {W : Type 0} (replies : W → Reply → W → Type 0) (config : Values)
       × ((more : List Reply) → OffersFirst config filters rest more → OffersFirst config filters programs (answers ++ more)))
 
   module _ (programs : List Program) (old : W) where
+    -- The cases of the next program extend the cases so far.
     pub offers_next : (rest after : List Program) (program : Program) (mid new : W) (found grown : List Candidate) (cases : List CaseDef) → rest ≡ program ∷ after → Offering programs old rest mid found
         → Answered replies mid new (λ answers. OffersOne config filters program answers (candidates_of program cases)) → grown ≡ found ++ candidates_of program cases → Offering programs old after new grown
     offers_next rest after program mid new found grown cases e o a g = let own = candidates_of program cases in answered-then o a (λ answers asked f h. (
@@ -85,5 +89,6 @@ module _ {W : Type 0} (replies : W → Reply → W → Type 0) (config : Values)
     offers_stopped rest after program mid new found e o a =
         answered-then o a (λ answers asked f h. f.1 asked (rw e (first_before program after asked h)))
 
+    -- Without remaining programs, the cases so far are all.
     pub offers_all : (rest : List Program) (new : W) (found : List Candidate) → length rest ≡ 0 → Offering programs old rest new found → Answered replies old new (λ answers. Offers config filters programs answers found)
     offers_all rest new found e o = answered-as o (λ answers f. rw (append-nil, append-nil) at (f.0 [] [] (rw (nil_from_length rest e) none)))

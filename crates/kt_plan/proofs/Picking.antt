@@ -9,6 +9,7 @@ no_earlier test n [] m ms e = absurd (cc)
 no_earlier test n (item ∷ items) m ms e = grind (arith, no_earlier test (n + 1) items m ms)
 
 module _ (filters : List Filter) (candidate : Candidate) (rest : List Candidate) (place : ℕ) where
+  -- `after`: the indexes of the selected cases after the current one.
   abbrev after : List ℕ
   after = places_from filters (place + 1) rest
 

@@ -14,6 +14,7 @@ atf_alone Tap declared e = absurd (cc)
 atf_alone Plain declared e = absurd (cc)
 
 module _ (config : Values) (host : Host) where
+  -- The job of a case meets the scheduler's precondition.
   job_fits : (position : ℕ) (candidate : Candidate) (job : Job) → IsJobOf config host position candidate job → IsFit job
   job_fits position candidate job is =
       let t = subst IsTimeout (sym is.timeout) (timeout-within (texts_of candidate.case.props)) in
@@ -23,11 +24,13 @@ module _ (config : Values) (host : Host) where
         cleanup = λ e. is.interface ∙ atf_alone candidate.interface (meta_in candidate).has_cleanup (sym is.cleanup ∙ e);
       }
 
+  -- Each job of a plan meets the scheduler's precondition.
   jobs_fit : (position : ℕ) (cases : List Candidate) (plan : List Job) → ArePlanned config host position cases plan → (i : ℕ) (job : Job) → slice_get plan i ≡ Some job → IsFit job
   jobs_fit position _ _ (no_job _) i job e = absurd (cc)
   jobs_fit position _ _ (planned _ candidate cases first plan is rest) zero job e = subst IsFit (same_Some first job e) (job_fits position candidate first is)
   jobs_fit position _ _ (planned _ candidate cases first plan is rest) (suc i) job e = jobs_fit (suc position) cases plan rest i job e
 
+  -- A plan meets the scheduler's precondition.
   pub plan_fits : (cases : List Candidate) (plan : List Job) → ArePlanned config host 0 cases plan → IsPlan plan
   plan_fits cases plan all = record {
     placed = λ i job e. placed_from config host 0 cases plan all i job e ∙ omega arith;

@@ -15,10 +15,12 @@ module _ {W : Type 0} (asks : W → Asked → W → Type 0) (replies : W → Rep
     holds = elim a.holds [ inl s ↦ inl (s.0, settling a.asked s.1) | inr s ↦ inr (unsettled a.asked fault s) ];
   }
 
+  -- Settings that were returned are those of the command.
   settled_is : (needed : Bool) (options : CaseOptions) (answers : List Reply) (settings : Settings) → SettlesOrShort needed options answers (Ok settings) → Settles needed options answers (Ok settings)
   settled_is needed options answers settings (inl s) = absurd s.0
   settled_is needed options answers settings (inr s) = s
 
+  -- Calls to the host, to the tree and for the lists are calls to the world.
   chain_to : (answers : List Reply) (asked : List Asked) (lists : List Reply) (a b d e : W) → Chain replies a answers b → Chain asks b asked d → Chain replies d lists e
       → Chain (leads_by asks replies) a (of_host answers ++ (of_tree asked ++ of_host lists)) e
   chain_to answers asked lists a b d e x y z =
@@ -36,6 +38,7 @@ module _ {W : Type 0} (asks : W → Asked → W → Type 0) (replies : W → Rep
     holds = elim c.holds [ inl s ↦ inl (s.0, collecting a.asked settings c.asked c.answers (settled_is needed options a.asked settings a.holds) s.1) | inr s ↦ inr (uncollected a.asked settings c.asked c.answers fault (settled_is needed options a.asked settings a.holds) s) ];
   }
 
+  -- Cases that were returned are the selected cases.
   collects_is : (settings : Settings) (kyuafile : List ℕ) (asked : List Asked) (lists : List Reply) (chosen : Chosen) → CollectsOrShort settings kyuafile asked lists (Ok chosen) → Collects settings kyuafile asked lists (Ok chosen)
   collects_is settings kyuafile asked lists chosen (inl s) = absurd s.0
   collects_is settings kyuafile asked lists chosen (inr s) = s

@@ -13,6 +13,7 @@ stops_short {T} result refusal r =
     subst (λ (o : Result T Stop). IsShort o) (sym p.1) (refusal, p.2)
 
 module _ {W : Type 0} (replies : W → Reply → W → Type 0) (old new : W) (needs_case : Bool) (options : CaseOptions) where
+  -- `Settled result`: the calls from `old` to `new` read the settings with `result`.
   abbrev pub Settled : Result Settings Stop → Type 0
   Settled result = Answered replies old new (λ answers. SettlesOrShort needs_case options answers result)
 

@@ -8,21 +8,25 @@ use Rattle.kt_script.specs.declared.fault.ScriptFault.TheVariants as script
 use Rattle.kt_config.specs.declared.fault.ConfigFault.TheVariants as config
 use Rattle.kt_suite.specs.declared.filter.FilterFault.TheVariants as filter
 
+-- The message of a script error consists of its characters.
 chars-script : (fault : ScriptFault) → chars (script_words fault) ≡ script_words fault
 unfolding chars
 chars-script (script.NoMemory refusal) = refl
 chars-script fault = refl
 
+-- The message of a configuration error consists of its characters.
 pub chars-config : (fault : ConfigFault) → chars (config_words fault) ≡ config_words fault
 unfolding chars
 chars-config (config.Script fault) = chars-script fault
 chars-config fault = refl
 
+-- The message of a filter error consists of its characters.
 pub chars-filter : (fault : FilterFault) → chars (filter_words fault) ≡ filter_words fault
 unfolding chars
 chars-filter (filter.NoMemory refusal) = refl
 chars-filter fault = refl
 
+-- The message of a configuration error is its own UTF-8.
 pub utf8-config : (fault : ConfigFault) → utf8 (config_words fault) ≡ config_words fault
 unfolding encode
 utf8-config (config.Script fault) = utf8-script fault

@@ -7,9 +7,11 @@ use Rattle.std.proofs.lemmas.List.Elements.{Contains-append_left, Contains-appen
 abbrev pub AnyMatches : List Filter → List ℕ → Type 0
 AnyMatches filters path = (one : Filter) × Contains filters one × MayMatch one path
 
+-- An empty list contains no filter.
 none_in : (one : Filter) → Contains [] one → ⊥
 none_in one h = absurd (let less : h.0 < 0 = h.1 in omega (arith, less))
 
+-- A list of one filter contains only that filter.
 only_in : (f one : Filter) → Contains (f ∷ []) one → f ≡ one
 only_in f one h = elim (Contains-push_cases [] f one h) [ inl c ↦ absurd (none_in one c) | inr e ↦ e ]
 
@@ -17,6 +19,7 @@ only_in f one h = elim (Contains-push_cases [] f one h) [ inl c ↦ absurd (none
 abbrev pub AreAmong : List Filter → List Filter → Type 0
 AreAmong rest all = (one : Filter) → Contains rest one → Contains all one
 
+-- The filters after the next one are some of all.
 pub among_after : (f : Filter) (after rest all : List Filter) → rest ≡ f ∷ after → AreAmong rest all → AreAmong after all
 among_after f after rest all e h one c = h one (subst (λ (xs : List Filter). Contains xs one) (sym e) (Contains-append_right (f ∷ []) after one c))
 
@@ -24,6 +27,7 @@ among_after f after rest all e h one c = h one (subst (λ (xs : List Filter). Co
 abbrev pub IsAhead : List Filter → List Filter → List ℕ → Type 0
 IsAhead rest all path = AnyMatches all path → AnyMatches rest path
 
+-- A next filter that selects no case leaves the property to the filters after it.
 pub ahead_after : (f : Filter) (after rest all : List Filter) (path : List ℕ) → rest ≡ f ∷ after → (MayMatch f path → ⊥) → IsAhead rest all path → IsAhead after all path
 ahead_after f after rest all path e never h any =
     let found = h any in
