@@ -80,6 +80,15 @@ impl<O: Os + Drop> Launcher for Driver<O> {
     /// The driver allocates before its first call to the system. If its allocation fails, it makes
     /// no call, except that it removes the directory of a refused cleanup. The bodies and lists of
     /// a driver have different attempt numbers.
+    ///
+    /// # Errors
+    ///
+    /// The result is `StartAnswer::Refused` with one of these causes:
+    ///
+    /// - `Directory`: no attempt number is left, or a directory can't be created.
+    /// - `Output`: an output file can't be created.
+    /// - `Spawn`: the system can't start the program.
+    /// - `Memory`: an allocation of the driver or of a call fails.
     fn start(&mut self, job: &Job, role: Role) -> StartAnswer {
         match role {
             Role::Body => self.start_body(job),
@@ -91,8 +100,9 @@ impl<O: Os + Drop> Launcher for Driver<O> {
     ///
     /// The children are polled in turns, in the order of their start. A pause follows each turn
     /// without a finished child. A child has finished if it has ended, or if a poll or the kill at
-    /// its timeout fails. A child that is still running 500 polls after the kill has finished, too.
-    /// Evidence for which an allocation fails counts as unreadable, and such an output as empty.
+    /// its timeout fails. A child that is still running 500 polls after the kill counts as
+    /// finished, too. Evidence for which a read or an allocation fails counts as unreadable, and
+    /// such an output is empty.
     fn wait(&mut self) -> Ended {
         self.running.wait(self.alloc, &mut self.os)
     }
@@ -113,7 +123,7 @@ impl<O: Os + Drop> Driver<O> {
     ///
     /// Each error returns `os`, too.
     ///
-    /// - `NoMemory`: an allocation fails.
+    /// - `NoMemory`: the allocation of a path fails.
     /// - `NoWorkDirectory`: none of the 1,000 directories can be created.
     pub fn new(
         alloc: Global,

@@ -96,7 +96,7 @@ impl<O: Os + Drop> Driver<O> {
     /// - `Directory`: no attempt number is left, or a directory can't be created.
     /// - `Output`: an output file can't be created.
     /// - `Spawn`: the system can't start the program.
-    /// - `Memory`: an allocation fails.
+    /// - `Memory`: an allocation of the driver or of a call fails.
     pub fn list(&mut self, program: &Program, variables: &Variables) -> Listing
         ensures listed { ListsBy O.leads self.old program.now.path variables.now result self.new }
         ensures running { self.new.running ≡ self.old.running }
