@@ -1,9 +1,9 @@
--- What stays as it is from step to step.
+-- Facts that each removal step keeps.
 use Rattle.std.proofs.Common.{◌∙◌, List, ℕ, sym, inl, inr}
 use Rattle.kt_removal.specs.Common.{MayEmpty, Stays}
 use Rattle.kt_removal.specs.declared.removals.Removals.{Removals}
 
--- after two steps
+-- `Stays` is transitive.
 pub stays_then : (a b c : Removals) → Stays a b → Stays b c → Stays a c
 stays_then a b c first second =
     record {
@@ -13,7 +13,7 @@ stays_then a b c first second =
       moved = λ m. second.moved (first.moved m);
     }
 
--- the directory that a step empties may be emptied after it
+-- A directory that a step may empty may be emptied after the step, too.
 pub may_stays : (a b : Removals) (path : List ℕ) → Stays a b → MayEmpty a path → MayEmpty b path
 may_stays a b path s (inl root) = inl (root ∙ sym s.root)
 may_stays a b path s (inr (inl (name, is, number))) = inr (inl (name, rw s.root is, number))

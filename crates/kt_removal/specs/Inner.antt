@@ -1,3 +1,3 @@
--- What private functions do: no public clause cites it.
+-- Definitions for private functions. No public clause cites them.
 pub mod Bounds
 pub mod Removals

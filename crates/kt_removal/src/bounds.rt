@@ -4,25 +4,30 @@ ghost use Rattle.kt_removal.specs.Common.{IsSpent, at_close, at_once, steps_at_c
 use std::rt::Clock;
 use std::time::Instant;
 
-/// The microseconds that a removal takes at once.
+/// The time limit for the removal of a case's directory, in microseconds.
 const AT_ONCE: u64 = 5_000;
 
-/// The microseconds that a step counts for if the clock fails.
+/// The time that a step counts for if the clock fails, in microseconds.
 const STEP: u64 = 100;
 
-/// How long a removal may go on at once.
+/// A limit on the duration of a removal, with the steps that were counted against it.
 #[derive(Clone, Copy)]
 pub(crate) struct Bound {
+    /// The start time, or `None` if the clock failed.
     started: Option<Instant>,
-    /// In microseconds. No more steps than that are taken, whatever the clock says.
+    /// The time limit, in microseconds. It also limits the iterations of each loop, since a clock
+    /// may stop.
     pub(crate) micros: u64,
-    /// The number of steps that are taken in any case.
+    /// The number of steps that are taken before the time limit applies.
     pub(crate) least: u64,
-    /// The steps that were taken.
+    /// The number of steps taken so far.
     steps: u64,
 }
 
-/// Whether a removal has used up its microseconds after these steps.
+/// Returns `true` if a removal has used up its limit of `micros` microseconds.
+///
+/// `taken` is the time since the start of the removal. If the clock failed, each step counts as 100
+/// microseconds.
 fn is_spent(micros: u64, steps: u64, taken: Option<u128>) -> bool
     ensures { IsTrue result ↔ IsSpent micros steps taken }
 {
@@ -32,14 +37,18 @@ fn is_spent(micros: u64, steps: u64, taken: Option<u128>) -> bool
     }
 }
 
-/// The microseconds for the removal of the root directory, while this many others wait.
+/// Returns the time limit for the removal of the root directory, in microseconds.
+///
+/// The limit is 5 seconds, and 10 milliseconds for each of the `waiting` directories in the queue.
 fn closing_micros(waiting: u32) -> u64
     ensures { result ≡ at_close waiting }
 {
     5_000_000 + 10_000 * u64::from(waiting)
 }
 
-/// The least steps of that removal, so that a slow machine leaves nothing behind.
+/// Returns the minimum number of steps for the removal of the root directory.
+///
+/// The minimum lets a slow machine finish the removal after the time limit.
 fn closing_steps(waiting: u32) -> u64
     ensures { result ≡ steps_at_close waiting }
 {
@@ -47,7 +56,7 @@ fn closing_steps(waiting: u32) -> u64
 }
 
 impl Bound {
-    /// The bound of work that begins now.
+    /// Creates a bound of `micros` microseconds that starts now.
     pub(crate) fn starting<C: Clock>(clock: &C, micros: u64) -> Bound
         ensures micros { result.micros ≡ micros }
         ensures least { result.least ≡ 0 }
@@ -61,7 +70,7 @@ impl Bound {
         }
     }
 
-    /// The bound of what a removal does at once.
+    /// Creates the bound for the removal of a case's directory: 5 milliseconds from now.
     pub(crate) fn at_once<C: Clock>(clock: &C) -> Bound
         ensures micros { result.micros ≡ at_once }
         ensures least { result.least ≡ 0 }
@@ -69,7 +78,8 @@ impl Bound {
         Bound::starting(clock, AT_ONCE)
     }
 
-    /// The bound of the removal of the root directory, while this many others wait.
+    /// Creates the bound for the removal of the root directory, while `waiting` directories are in
+    /// the queue.
     pub(crate) fn closing<C: Clock>(clock: &C, waiting: u32) -> Bound
         ensures micros { result.micros ≡ at_close waiting }
         ensures least { result.least ≡ steps_at_close waiting }
@@ -83,20 +93,20 @@ impl Bound {
         }
     }
 
-    /// The microseconds since it began, if the clock works.
+    /// Returns the microseconds since the start of the bound, or `None` if the clock fails.
     fn taken<C: Clock>(&self, clock: &C) -> Option<u128> {
         let started = self.started?;
         let now = Instant::now(clock).ok()?;
         Some(now.duration_since(started).as_micros())
     }
 
-    /// The microseconds since it began, 0 if the clock fails.
+    /// Returns the microseconds since the start of the bound, or 0 if the clock fails.
     pub(crate) fn passed<C: Clock>(&self, clock: &C) -> u64 {
         let taken = self.taken(clock).unwrap_or(0);
         u64::try_from(taken).unwrap_or(u64::MAX)
     }
 
-    /// Counts a step, and returns whether a removal has to stop after it.
+    /// Counts a step, and returns `true` if the removal must stop after it.
     pub(crate) fn is_over<C: Clock>(&mut self, clock: &C) -> bool
         ensures least { IsTrue result → self.old.least ≤ self.new.steps }
         ensures counted { self.new.steps ≡ min (self.old.steps + 1) (2 ^ 64 - 1) }

@@ -3,14 +3,15 @@ ghost use Rattle.kt_removal.specs.Common.{IsCaseOf, IsNumber};
 
 use kt_base::{Text, is_digit};
 
-/// Whether a name is a number.
+/// Returns `true` if a name consists of one or more decimal digits.
 fn is_number(name: &[u8]) -> bool
     ensures { IsTrue result → IsNumber name.now }
 {
     !name.is_empty() && name.iter().all(|c| is_digit(*c))
 }
 
-/// Whether a path is that of a directory of the root that has a number, as the directory of each case.
+/// Returns `true` if `path` is an entry of `root` whose name is a number, as the directory of each
+/// case.
 pub(crate) fn is_case(root: &Text, path: &Text) -> bool
     ensures { IsTrue result → IsCaseOf root.now path.now }
 {

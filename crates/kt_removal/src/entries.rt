@@ -9,10 +9,10 @@ use std::os::unix::fs::{MetadataExt, PermissionsExt};
 use std::rt::Files;
 use std::{fs, io, str};
 
-/// The permissions of the owner to read a directory, to change it and to pass through it.
+/// The permission bits that let the owner read, change and pass through a directory.
 const OWNER_RIGHTS: u32 = 0o700;
 
-/// The path of an entry of a directory. Its name may have any bytes.
+/// Returns the path of the entry `name` of a directory. The name may contain any bytes.
 pub(crate) fn entry_path(alloc: Global, directory: &Text, name: &[u8]) -> Result<Bytes, NoMemory>
     ensures { IfOk result (λ path. path ≡ utf8 directory.now ++ 47 ∷ name.now) }
 {
@@ -22,7 +22,8 @@ pub(crate) fn entry_path(alloc: Global, directory: &Text, name: &[u8]) -> Result
     Ok(path)
 }
 
-/// Whether a name is that of an entry, and not of the directory itself or of the one that holds it.
+/// Returns `true` if `name` is the name of an entry: not empty, without a slash, and neither `.`
+/// nor `..`.
 pub(crate) fn is_name(name: &[u8]) -> bool
     ensures { result ≡ is_name name.now }
 {
@@ -32,7 +33,7 @@ pub(crate) fn is_name(name: &[u8]) -> bool
         && !name.contains(&b'/')
 }
 
-/// The result of a call of the system, by its status.
+/// Converts the status of a system call to a result. On failure, the error is that of `errno`.
 fn answer(status: i32) -> io::Result<()> {
     if status == 0 {
         Ok(())
@@ -41,7 +42,7 @@ fn answer(status: i32) -> io::Result<()> {
     }
 }
 
-// Nothing else removes or moves anything.
+// Only these methods remove or move files, so their clauses bound what a removal may touch.
 impl Removals {
     /// Removes an entry that isn't a directory.
     pub(crate) fn remove_file<R: Files>(&self, rt: &R, path: &[u8]) -> io::Result<()>
@@ -63,14 +64,14 @@ impl Removals {
         }
     }
 
-    /// Removes a directory if it is empty, and returns whether it is gone.
+    /// Removes a directory if it is empty. Returns `true` if the directory was removed.
     pub(crate) fn remove_if_empty<R: Files>(&self, rt: &R, directory: &Text) -> bool
         requires { MayEmpty self.now directory.now }
     {
         fs::remove_dir(rt, directory.as_str()).is_ok()
     }
 
-    /// Moves a directory to the next number.
+    /// Moves the directory `path` to `to`, which is the path of the next number in the queue.
     pub(crate) fn move_to<R: Files>(&self, rt: &R, path: &[u8], to: &Text) -> io::Result<()>
         requires from { MayRemove self.now path.now }
         requires to { to.now ≡ moved_dir self.now.place self.now.moved }
@@ -81,15 +82,21 @@ impl Removals {
         }
     }
 
-    /// Gives the owner of a directory that isn't empty all permissions, and returns whether they were given.
+    /// Gives the owner of a directory all permissions. Returns `true` on success.
+    ///
+    /// The caller has found `path` to be a directory with entries, so it is not a link.
     pub(crate) fn give_rights(&self, path: &[u8]) -> bool
         requires { MayRemove self.now path.now }
     {
         os::chmod(path, OWNER_RIGHTS) == 0
     }
 
-    /// Gives the owner of a directory all permissions. Returns false if the path isn't a directory, but a link, for one, or if
-    /// it lies on another device: then something is mounted there.
+    /// Gives the owner of a directory all permissions, and returns `true` if the directory may be
+    /// emptied.
+    ///
+    /// Returns `false` if the status of `path` can't be read, or if `path` is not a directory. A
+    /// link is not a directory. Returns `false`, too, if `path` is on another device than the root,
+    /// since then a file system is mounted there.
     pub(crate) fn open_up<R: Files>(&self, rt: &R, path: &Text) -> bool
         requires { MayEmpty self.now path.now }
     {
@@ -111,7 +118,8 @@ impl Removals {
         }
     }
 
-    /// Opens a directory to read its names; a link to one isn't followed.
+    /// Opens a directory to read its names. Returns `None` if that fails, or if [`Self::open_up`]
+    /// returns `false`.
     pub(crate) fn open_names<R: Files>(&self, rt: &R, path: &Text) -> Option<R::Dir>
         requires { MayEmpty self.now path.now }
     {

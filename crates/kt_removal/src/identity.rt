@@ -3,17 +3,24 @@ use std::os::unix::fs::MetadataExt;
 use std::rt::Files;
 use std::{fs, io};
 
-/// Which directory one is, whatever leads to it: its device, and its number there.
+/// The identity of a directory, which doesn't depend on its path.
 #[derive(Clone, Copy)]
 pub struct Identity {
+    /// The device number.
     pub(crate) device: u64,
+    /// The inode number on that device.
     number: u64,
 }
 
 impl Identity {
     ghost use Rattle.std.specs.Prelude.{◌≡◌, ◌↔◌, IsTrue};
 
-    /// The identity of a directory. A link to one has none.
+    /// Returns the identity of the directory at `path`.
+    ///
+    /// # Errors
+    ///
+    /// - `NotADirectory`: the path is a link or another file.
+    /// - Any other error: the status of the path can't be read.
     pub fn of<R: Files>(rt: &R, path: &str) -> io::Result<Identity> {
         let found = fs::symlink_metadata(rt, path)?;
         if !found.is_dir() {
@@ -25,14 +32,14 @@ impl Identity {
         })
     }
 
-    /// Whether it is the same directory.
+    /// Returns `true` if both identities are those of one directory.
     fn is_same(self, other: Identity) -> bool
         ensures { IsTrue result ↔ ((self.device ≡ other.device) × (self.number ≡ other.number)) }
     {
         self.device == other.device && self.number == other.number
     }
 
-    /// Whether the directory is what a path leads to.
+    /// Returns `true` if `path` is this directory. A link to the directory doesn't count.
     pub(crate) fn is_at<R: Files>(self, rt: &R, path: &str) -> bool {
         match Identity::of(rt, path) {
             Ok(found) => self.is_same(found),

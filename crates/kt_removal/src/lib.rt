@@ -1,4 +1,4 @@
-//! Directories are removed with all that they hold, a step at a time.
+//! Removes directories with all their entries, in short steps.
 #![tactic(auto)]
 
 mod bounds;

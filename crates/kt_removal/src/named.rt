@@ -6,24 +6,26 @@ use crate::entries::entry_path;
 use kt_base::Text;
 use std::rt::Files;
 
-/// The files that every child has in the directory of its case (this profile).
+/// The name of the file for a child's standard output, in the directory of its case (this profile).
 const OUT: &[u8] = b"out";
 
+/// The name of the file for a child's standard error, in the directory of its case (this profile).
 const ERR: &[u8] = b"err";
 
-/// The file that the body of an ATF case leaves there.
+/// The name of the result file that the body of an ATF case writes.
 const RESULT: &[u8] = b"result";
 
-/// The files that a cleanup has there.
+/// The name of the file for a cleanup's standard output.
 const CLEANUP_OUT: &[u8] = b"cleanup.out";
 
+/// The name of the file for a cleanup's standard error.
 const CLEANUP_ERR: &[u8] = b"cleanup.err";
 
-/// The directory in which a child runs.
+/// The name of the work directory, in which a child runs.
 const WORK: &[u8] = b"work";
 
 impl Removals {
-    /// Removes the file of this name from a directory.
+    /// Removes the file `name` from a directory. A failure is ignored.
     fn remove_named<R: Files + AllocGlobal>(&self, rt: &R, directory: &Text, name: &[u8])
         requires may { MayEmpty self.now directory.now }
         requires name { is_name name.now ≡ true }
@@ -33,7 +35,7 @@ impl Removals {
         }
     }
 
-    /// Removes the work directory if it is empty, and returns whether it is gone.
+    /// Removes the work directory of a case if it is empty. Returns `true` if it was removed.
     fn remove_work<R: Files + AllocGlobal>(&self, rt: &R, directory: &Text) -> bool
         requires { MayEmpty self.now directory.now }
     {
@@ -43,9 +45,11 @@ impl Removals {
         }
     }
 
-    /// Removes the directory of a case that holds nothing but what the driver put there, without
-    /// reading its names, and returns whether it is gone. A link in its place isn't followed, and
-    /// what is mounted there stays.
+    /// Removes the directory of a case if it contains only outputs, a result file and an empty work
+    /// directory. Returns `true` if the directory was removed.
+    ///
+    /// The names in the directory are not read. A link at its path is not followed, and a mounted
+    /// file system is left as it is.
     pub(crate) fn remove_by_names<R: Files + AllocGlobal>(&self, rt: &R, directory: &Text) -> bool
         requires { IsCaseOf self.now.root directory.now }
     {

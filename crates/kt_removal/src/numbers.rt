@@ -4,14 +4,18 @@ ghost use Rattle.kt_removal.specs.Common.{chars, decimal};
 use kt_base::{NoMemory, Text};
 use std::alloc::Global;
 
-/// A number in decimal.
+/// Returns `number` in decimal digits.
 fn number_text(alloc: Global, number: u64) -> Result<Text, NoMemory>
     ensures { IfOk result (λ text. text ≡ decimal number) }
 {
     Ok(Text::from_string(number.to_string(alloc)?))
 }
 
-/// `base`, `between` and the decimal `number`, joined.
+/// Returns `base`, then `between`, then `number` in decimal digits.
+///
+/// # Errors
+///
+/// - `NoMemory`: an allocation fails.
 pub fn numbered_path(
     alloc: Global,
     base: &Text,

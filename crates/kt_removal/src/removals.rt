@@ -13,32 +13,39 @@ use std::rt::{Clock, Files};
 use std::time::Duration;
 use std::{fs, io, thread};
 
-/// The size of the pieces in which names are read, in bytes: at most 42 names.
+/// The size of the buffer for the names of entries, in bytes.
 const PIECE: usize = 1_024;
 
-/// The removals below a root directory, which go on a step at a time.
+/// The removals below a root directory, which proceed in short steps.
 ///
-/// A directory that isn't empty is moved into a place for such directories, and called `0`, `1` and so on there. It is emptied
-/// in its turn, so each path stays short, however deep a directory was. Nothing is done if another directory than that which
-/// was there first, or none, stands where the root or the place should be.
+/// A subdirectory with entries is moved into the queue directory, and renamed to `0`, `1` and so on
+/// there. So is the directory of a case that takes too long to empty. The directories of the queue
+/// are emptied in this order. So each path stays short, even for deeply nested directories.
+///
+/// If the root was removed or replaced by another directory, nothing is removed. If the queue
+/// directory was, no directory is moved into it, and its entries are left until the root is
+/// removed.
 #[derive(Drop)]
 pub struct Removals {
+    /// The path of the root directory.
     pub root: Text,
-    /// A directory of the root.
+    /// The path of the queue directory, which is an entry of the root.
     pub place: Text,
+    /// The identity of the root directory at the start.
     pub(crate) root_itself: Identity,
+    /// The identity of the queue directory when it was created.
     place_itself: Identity,
-    /// The next number.
+    /// The number of the directory that is moved next.
     moved: u64,
-    /// The number that is emptied next.
+    /// The number of the directory that is emptied next.
     done: u64,
-    /// The numbers at which something else was, so that nothing was moved there.
+    /// The numbers without a directory, since the move to them failed.
     gaps: Vec<u64>,
-    /// Whether anything was removed or moved since a slice began with the directory.
+    /// `true` if an entry was removed or moved since the work on the current directory began.
     progress: bool,
 }
 
-/// The path of a directory that was moved, by its number.
+/// Returns the path of the directory with this number in the queue directory `place`.
 fn moved_path(alloc: Global, place: &Text, number: u64) -> Result<Text, NoMemory>
     ensures { IfOk result (λ path. path ≡ moved_dir place.now number) }
 {
@@ -46,7 +53,7 @@ fn moved_path(alloc: Global, place: &Text, number: u64) -> Result<Text, NoMemory
     Ok(path)
 }
 
-/// The first of some names, which a byte 0 ends, and the others.
+/// Splits off the first of several names that each end with byte 0. Returns the name and the rest.
 fn split_name(names: &[u8]) -> Option<(&[u8], &[u8])>
     ensures { IfSome result (λ parts. names.now ≡ parts.0.now ++ 0 ∷ parts.1.now) }
 {
@@ -57,7 +64,13 @@ fn split_name(names: &[u8]) -> Option<(&[u8], &[u8])>
 impl Removals {
     ghost use Rattle.std.specs.Prelude.{◌<◌, ◌↔◌, ◌+◌, ◌-◌, ◌^◌, ◌⊎◌, min, true, IsTrue};
 
-    /// The removals below a root directory, with a directory of it for what is moved. Both were just made.
+    /// Creates the removals below `root`, with the queue directory `place`. Both directories were
+    /// just created.
+    ///
+    /// # Errors
+    ///
+    /// - `NotADirectory`: `root` or `place` is not a directory.
+    /// - Any other error: the status of `root` or `place` can't be read.
     pub fn begin<R: Files + AllocGlobal>(rt: &R, root: Text, place: Text) -> io::Result<Removals>
         ensures root { IfOk result (λ removals. removals.root ≡ root) }
         ensures place { IfOk result (λ removals. removals.place ≡ place) }
@@ -77,54 +90,57 @@ impl Removals {
         })
     }
 
-    /// Whether the place is still the directory that it was.
+    /// Returns `true` if the queue directory was neither removed nor replaced.
     fn has_place<R: Files>(&self, rt: &R) -> bool {
         self.place_itself.is_at(rt, self.place.as_str())
     }
 
-    /// The path of the next directory to be moved.
+    /// Returns the path in the queue that the next moved directory gets.
     fn next_path(&self, alloc: Global) -> Result<Text, NoMemory>
         ensures { IfOk result (λ path. path ≡ moved_dir self.now.place self.now.moved) }
     {
         moved_path(alloc, &self.place, self.moved)
     }
 
-    /// Whether nothing was moved to the number that is next in turn.
+    /// Returns `true` if no directory was moved to the number that is emptied next.
     fn is_gap(&self) -> bool
         ensures { result ≡ list_any (λ n. n == self.now.done) self.now.gaps.items }
     {
         self.gaps.as_slice().contains(&self.done)
     }
 
-    /// How many directories wait, at the most.
+    /// Returns the number of directories in the queue, at most `u32::MAX`. Failed moves count, too.
     fn waiting(&self) -> u32
         ensures { result ≡ waiting self.now.moved self.now.done }
     {
         u32::try_from(self.moved.saturating_sub(self.done)).unwrap_or(u32::MAX)
     }
 
-    /// Whether a moved directory is left.
+    /// Returns `true` if the queue is not empty. Numbers of failed moves count, too.
     fn is_pending(&self) -> bool
         ensures { IsTrue result ↔ (self.now.done < self.now.moved) }
     {
         self.done < self.moved
     }
 
-    /// The path of the next directory to be emptied.
+    /// Returns the path of the directory of the queue that is emptied next.
     fn path(&self, alloc: Global) -> Result<Text, NoMemory>
         ensures { IfOk result (λ path. path ≡ moved_dir self.now.place self.now.done) }
     {
         moved_path(alloc, &self.place, self.done)
     }
 
-    /// Removes an empty directory, or what a process put in the place of one.
+    /// Removes an empty directory, or a file that a process put at its path. Returns `true` on
+    /// success.
     fn remove_held<R: Files>(&self, rt: &R, path: &Text) -> bool
         requires { IsHeld self.now path.now }
     {
         self.remove_if_empty(rt, path) || self.remove_file(rt, path.as_bytes()).is_ok()
     }
 
-    /// Passes over the next number, to which nothing was moved.
+    /// Skips the next number of the queue, since the move to it failed.
+    ///
+    /// If the allocation fails, the number is not skipped, so the next move tries it again.
     fn leave_gap(&mut self)
         ensures stays { Stays self.old self.new }
         ensures gap { (self.new.moved ≡ self.old.moved)
@@ -135,7 +151,7 @@ impl Removals {
         }
     }
 
-    /// Moves a directory to the others, and returns whether it could.
+    /// Moves the directory `path` into the queue. Returns `true` on success.
     fn take<R: Files + AllocGlobal>(&mut self, rt: &R, path: &[u8]) -> bool
         requires { MayRemove self.old path.now }
         ensures stays { Stays self.old self.new }
@@ -153,7 +169,9 @@ impl Removals {
         false
     }
 
-    /// Removes or moves an entry that isn't a file. What is mounted there is busy, and is left as it is.
+    /// Removes an empty directory, or moves a directory with entries into the queue.
+    ///
+    /// A mount point is left as it is: its removal fails because it is busy.
     fn remove_directory<R: Files + AllocGlobal>(&mut self, rt: &R, path: &[u8])
         requires { MayRemove self.old path.now }
         ensures stays { Stays self.old self.new }
@@ -169,7 +187,9 @@ impl Removals {
         }
     }
 
-    /// Removes an entry of a directory. A directory that isn't empty is moved.
+    /// Removes the entry `name` of a directory, or moves it into the queue if it has entries.
+    ///
+    /// The queue directory itself is left, and so is the entry if the allocation of its path fails.
     fn remove_entry<R: Files + AllocGlobal>(&mut self, rt: &R, directory: &Text, name: &[u8])
         requires may { MayEmpty self.old directory.now }
         requires name { is_name name.now ≡ true }
@@ -185,7 +205,7 @@ impl Removals {
         }
     }
 
-    /// Removes the entries of a directory that have these names.
+    /// Removes the entries of a directory that `names` lists. Each name ends with byte 0.
     fn remove_names<R: Files + AllocGlobal>(&mut self, rt: &R, directory: &Text, names: &[u8])
         requires { MayEmpty self.old directory.now }
         ensures stays { Stays self.old self.new }
@@ -202,7 +222,9 @@ impl Removals {
         }
     }
 
-    /// Removes the next entries of a directory. Returns false at its end.
+    /// Reads the next names of a directory and removes these entries.
+    ///
+    /// Returns `false` at the end of the directory, or if the read fails.
     fn remove_piece<R: Files + AllocGlobal>(
         &mut self,
         rt: &R,
@@ -222,7 +244,10 @@ impl Removals {
         }
     }
 
-    /// Ends a moved directory. One to which something was added meanwhile is moved to the end.
+    /// Removes an emptied directory of the queue and moves on to the next number.
+    ///
+    /// If the directory has new entries, it is moved to the end of the queue. If nothing was
+    /// removed from it before, it is left.
     fn finish<R: Files + AllocGlobal>(&mut self, rt: &R, path: &Text)
         requires moved { IsMoved self.old }
         requires path { path.now ≡ moved_dir self.old.place self.old.done }
@@ -237,7 +262,7 @@ impl Removals {
         self.pass();
     }
 
-    /// Goes on to the next number.
+    /// Moves on to the next number of the queue.
     fn pass(&mut self)
         ensures root { self.new.root ≡ self.old.root }
         ensures place { self.new.place ≡ self.old.place }
@@ -248,7 +273,10 @@ impl Removals {
         self.done = self.done.saturating_add(1);
     }
 
-    /// Empties a directory, within a bound after the first piece of its names. Returns whether it came to the end.
+    /// Removes the entries of a directory until its end or until the bound is over.
+    ///
+    /// Returns `true` if the end was reached, or if the directory can't be opened. The names of the
+    /// first read are removed even if the bound is over.
     fn empty<R: Files + Clock + AllocGlobal>(
         &mut self,
         rt: &R,
@@ -272,8 +300,11 @@ impl Removals {
         false
     }
 
-    /// Empties the moved directory that is next in turn, and returns whether it came to the end. One that didn't is begun anew
-    /// later, but if nothing could be removed of it, it is passed over.
+    /// Empties the next directory of the queue. Returns `true` if the end of the directory was
+    /// reached.
+    ///
+    /// Otherwise the next call starts this directory again. If nothing could be removed from it,
+    /// the directory is skipped.
     fn go_through<R: Files + Clock + AllocGlobal>(
         &mut self,
         rt: &R,
@@ -297,7 +328,10 @@ impl Removals {
         ended
     }
 
-    /// Goes on with the next number, and returns whether time is left. If memory is refused, it is tried again.
+    /// Empties the next directory of the queue, or skips a number without one. Returns `true` if
+    /// time is left.
+    ///
+    /// If the allocation of the path fails, the next step tries the directory again.
     fn step<R: Files + Clock + AllocGlobal>(&mut self, rt: &R, bound: &mut Bound) -> bool
         requires { self.old.done < self.old.moved }
         ensures root { self.new.root ≡ self.old.root }
@@ -313,7 +347,9 @@ impl Removals {
         self.go_through(rt, &path, bound)
     }
 
-    /// Goes on with the moved directories, within a bound. If they are not where they were moved, they are left.
+    /// Empties the directories of the queue in order, until the bound is over.
+    ///
+    /// If the queue directory was removed or replaced, its entries are left.
     fn go_on<R: Files + Clock + AllocGlobal>(&mut self, rt: &R, bound: &mut Bound)
         ensures root { self.new.root ≡ self.old.root }
         ensures place { self.new.place ≡ self.old.place }
@@ -332,7 +368,9 @@ impl Removals {
         }
     }
 
-    /// Makes the place anew if it is not what it was: a test may have removed it, or put something there.
+    /// Creates the queue directory again if a test removed or replaced it.
+    ///
+    /// The directories of the old queue are left.
     fn renew_place<R: Files + AllocGlobal>(&mut self, rt: &R)
         ensures root { self.new.root ≡ self.old.root }
         ensures place { self.new.place ≡ self.old.place }
@@ -350,7 +388,7 @@ impl Removals {
         }
     }
 
-    /// Removes the root directory, with all that was left.
+    /// Removes the root directory and all entries that are left in it. Returns `true` on success.
     fn close<R: Files + Clock + AllocGlobal>(&mut self, rt: &R, root: &Text) -> bool
         requires { root.now ≡ self.old.root }
         ensures place { self.new.place ≡ self.old.place }
@@ -360,7 +398,8 @@ impl Removals {
         self.close_within(rt, root, &mut bound)
     }
 
-    /// Removes the root directory, within the bound for the directories that wait.
+    /// Removes the root directory and all entries that are left in it, within a bound. Returns
+    /// `true` on success.
     fn close_within<R: Files + Clock + AllocGlobal>(
         &mut self,
         rt: &R,
@@ -380,7 +419,9 @@ impl Removals {
         self.remove_if_empty(rt, root)
     }
 
-    /// Removes what was passed over, such as a directory with an entry for whose path memory was refused.
+    /// Empties the queue directory once more, for directories that were skipped.
+    ///
+    /// For example, the allocation of an entry's path failed.
     fn try_again<R: Files + Clock + AllocGlobal>(&mut self, rt: &R, bound: &mut Bound)
         ensures root { self.new.root ≡ self.old.root }
         ensures place { self.new.place ≡ self.old.place }
@@ -395,8 +436,8 @@ impl Removals {
         }
     }
 
-    /// Removes a directory by the names that are read in it, or moves it to the others, and returns
-    /// whether it is gone from there.
+    /// Empties and removes the directory of a case, or moves it into the queue if entries are left
+    /// at the end of the bound. Returns `true` if the path no longer exists.
     fn walk<R: Files + Clock + AllocGlobal>(
         &mut self,
         rt: &R,
@@ -411,7 +452,8 @@ impl Removals {
         self.remove_held(rt, tree) || self.take(rt, tree.as_bytes())
     }
 
-    /// Removes the directory of a case, or moves it to the others, and goes on with these.
+    /// Removes the directory of a case or moves it into the queue, then empties the queue within
+    /// the bound. Returns `true` if the path no longer exists.
     fn remove_case<R: Files + Clock + AllocGlobal>(&mut self, rt: &R, tree: &Text) -> bool
         requires { IsCaseOf self.old.root tree.now }
         ensures place { self.new.place ≡ self.old.place }
@@ -422,9 +464,12 @@ impl Removals {
         gone
     }
 
-    /// Removes the root or a directory of it that has a number, with all that it holds, and returns whether it is gone from
-    /// there. No link is followed. A directory that would take too long is moved to the others, for later; the root itself stays
-    /// where it is. Another directory is left as it is, and all are if the root is no longer what it was.
+    /// Removes the root or the directory of a case, with all entries. Returns `true` if the path no
+    /// longer exists.
+    ///
+    /// Links are not followed. A case's directory that takes too long to empty is moved into the
+    /// queue, and is removed later. The root itself is not moved. Any other path is left as it is,
+    /// and so are all paths if the root was removed or replaced.
     pub fn remove_tree<R: Files + Clock + AllocGlobal>(&mut self, rt: &R, tree: &Text) -> bool
         ensures place { self.new.place ≡ self.old.place }
         ensures outside { result ≡ true → (tree.now ≡ self.old.root)
@@ -440,8 +485,10 @@ impl Removals {
     }
 }
 
-/// Spends some microseconds on the removals that are left, or asleep if none is, and returns how many those were. They are
-/// more than these if the system takes longer to remove some names.
+/// Empties the queue for `micros` microseconds, or sleeps for that time if the queue is empty.
+///
+/// Returns the microseconds that passed, or `micros` if fewer passed. More than `micros` pass if
+/// the system takes long to remove an entry.
 pub fn rest<R: Files + Clock + AllocGlobal>(
     removals: &mut Option<Removals>,
     rt: &R,

@@ -1,19 +1,22 @@
--- How long removals go on.
+-- The limits of removals.
 use Rattle.std.specs.Prelude.{ℕ, ◌+◌, ◌*◌, ◌/◌, ◌≤◌, Option, Some, None}
 
--- a removal has used up its microseconds after these steps: by the clock, or if that fails by the steps, 100 microseconds each
+-- `IsSpent micros steps taken`: `taken` microseconds use up a limit of `micros`. If the clock fails
+-- (`None`), each of the `steps` steps counts as 100 microseconds.
 abbrev pub IsSpent : ℕ → ℕ → Option ℕ → Type 0
 IsSpent micros steps (Some taken) = micros ≤ taken
 IsSpent micros steps None = micros / 100 ≤ steps
 
--- the microseconds for what a removal does at once
+-- `at_once`: the time limit for the removal of a case's directory, in microseconds.
 abbrev pub at_once : ℕ
 at_once = 5000
 
--- the microseconds for the last removal, of the root directory, while this many others wait
+-- `at_close waiting`: the time limit for the removal of the root, in microseconds, while `waiting`
+-- directories are in the queue.
 abbrev pub at_close : ℕ → ℕ
 at_close waiting = 5000000 + 10000 * waiting
 
--- and the steps that it takes in any case
+-- `steps_at_close waiting`: the minimum number of steps for the removal of the root, while
+-- `waiting` directories are in the queue.
 abbrev pub steps_at_close : ℕ → ℕ
 steps_at_close waiting = 20000 + 50 * waiting
