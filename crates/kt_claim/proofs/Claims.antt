@@ -1,4 +1,4 @@
--- A file has no other claim than the one that is read.
+-- A file has only the claim that is read.
 use Rattle.std.proofs.Common.{◌≡◌, ℕ, ◌-◌, ◌≤◌, ◌<◌, true, false, eqb, ltb, List, [], ◌∷◌, ◌++◌, length, drop, Option, Some, Result, Ok, Err, refl, ap, sym, subst, ◌∙◌, append_assoc, inl, inr, arith, nat_eq, codes, MatchOption, IfOk}
 use Rattle.kt_claim.proofs.Common.{bytes_eq, prefix_len, ends_with, list_any, list_all, false≢true, lt-ltb, le-ltb, ne_eqb, length-append, is_digit, lossy, is_newline, newline, number, limit, IsReason, IsNumber, with_reason, with_number, Says, line, is, IsClaimOf, word_of, claim_with, numbered, reason_in, with_reason_in, value_of, number_in, with_number_in, claim_of_line, claim_of, Claim, ClaimFault, Word}
 use Rattle.std.proofs.Math.Seq.{take-append_seam, drop-append_seam}
@@ -46,7 +46,7 @@ number_found n rest isn =
     let value : value_of n ≡ Some (number n) = valued n (lt-ltb 0 (length n) isn.0) (lt-ltb (number n) 256 isn.2) in
     rw (all, take-append_seam n (41 ∷ rest), drop-append_seam n (41 ∷ rest), value) refl
 
--- a number in round brackets behind a word
+-- A keyword with a number in round brackets spells `with_number`.
 pub number_parts : (w n r : List ℕ) → (w ++ 40 ∷ (n ++ 41 ∷ 58 ∷ 32 ∷ r)) ++ newline ≡ w ++ with_number n r
 number_parts w n r =
     append_assoc w (40 ∷ (n ++ 41 ∷ 58 ∷ 32 ∷ r)) newline
@@ -76,7 +76,7 @@ said _ _ short (says.expected_exit_of n r isn isr) =
 said _ _ short (says.expected_signal_of n r isn isr) =
     numbered_file (codes "expected_signal") n r (claim.ExpectedSignal (Some (number n)) (lossy r)) isn isr short (digits_clean n (41 ∷ 58 ∷ 32 ∷ r) isn.1 isr.1) (numbered_line word.ExpectedSignal n r isn isr)
 
--- a file has no other claim
+-- Each claim of a file is the claim that is read.
 pub only_claim : (file : List ℕ) (c : Claim) → IsClaimOf file c → claim_of file ≡ c
 only_claim file c (inl h) = said file c h.0 h.1
 only_claim file c (inr h) = subst (λ (o : Option ClaimFault). MatchOption o ((length file ≤ limit) × Says file (claim_of file)) (λ g. claim_of file ≡ claim.Malformed g)) h.1 (read_file file) ∙ sym h.2

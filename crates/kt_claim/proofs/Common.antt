@@ -1,4 +1,4 @@
--- The names that most proofs of this crate cite, passed on from one place. Declares nothing.
+-- The names that most proofs of this crate cite, re-exported. Declares nothing.
 pub use Rattle.std.proofs.lemmas.Bool.{eqb-true, false≢true, le-ltb, lt-ltb, ltb-false, ltb-true, ne_eqb}
 pub use Rattle.std.proofs.lemmas.List.{append-nil, length-append, nil_from_length, take-append-drop}
 pub use Rattle.std.proofs.lemmas.Slice.Eq.{bytes_eq-Decides}

@@ -24,7 +24,7 @@ pub stops_at : (t : Bool) (y x : List ℕ) (ys : List (List ℕ)) → is_bail y 
 stops_at true y x ys is so_far h = rw is refl
 stops_at false y x ys is so_far h = rw is (ap (λ (zs : List (List ℕ)). y ∷ zs) (so_far h))
 
--- behind a bail out nothing is heard
+-- A line after a bail out doesn't count.
 pub heard_none : (ys : List (List ℕ)) (x : List ℕ) → list_any is_bail ys ≡ true → heard (ys ++ x ∷ []) ≡ heard ys
 heard_none [] x h = absurd (false≢true h)
 heard_none (y ∷ ys) x h = stops_at (is_bail y) y x ys refl (heard_none ys x) h

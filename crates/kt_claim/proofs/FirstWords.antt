@@ -1,4 +1,4 @@
--- The word that a line begins with.
+-- The keyword that a line begins with.
 use Rattle.std.proofs.Common.{◌≡◌, ℕ, Bool, true, false, List, refl, sym, subst, codes}
 use Rattle.kt_claim.proofs.Common.{bytes_eq, list_any, bytes_eq-Decides, is_newline, word_of, after_known}
 use Rattle.kt_claim.specs.ResultFile as says
@@ -11,7 +11,7 @@ pub by_word : (t : Bool) (w x : List ℕ) (P : List ℕ → Type 0) → bytes_eq
 by_word true w x P e here next = subst P (sym ((bytes_eq-Decides w x).0 e)) here
 by_word false w x P e here next = next e
 
--- a line that begins with this word
+-- `Read rest w`: the claim that is read agrees with a line of the keyword `w` and `rest`.
 abbrev pub Read : List ℕ → List ℕ → Type 0
 Read rest w = Agrees w rest (after_known (word_of w) rest)
 

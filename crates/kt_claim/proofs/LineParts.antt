@@ -1,4 +1,4 @@
--- What a line's parts are, read byte by byte.
+-- Facts of lines that are read byte by byte.
 use Rattle.std.proofs.Common.{◌≡◌, ℕ, ◌≤◌, Bool, true, false, eqb, List, [], ◌∷◌, ◌++◌, length, drop, Option, Some, None, refl, ap, sym, ◌∙◌, arith, if◌then◌else◌, option_map}
 use Rattle.kt_claim.proofs.Common.{le-ltb, ne_eqb, length-append, is_digit, decimal_from, is_blank, nothing, planning, after_opening, opened, below_limit, trimmed, begins, front, past, ends_plan, planned_from, directive_in, skips, plan_for}
 use Rattle.kt_claim.specs.declared.begun.Opening.{Opening}
@@ -14,7 +14,7 @@ pub none_at_all : (t : Bool) (found : Option ℕ) → found ≡ None → (if t t
 none_at_all true found none = none
 none_at_all false found none = refl
 
--- a number that is too large grows no smaller
+-- A number that is too large remains too large with more digits.
 pub plans_none : (n : ℕ) (text more : List ℕ) → 1000000000 ≤ n
     → planning None ≡ planning (option_map (plan_for (skips (directive_in false more))) (planned_from (Some n) text))
 plans_none n text more le =
@@ -23,7 +23,7 @@ plans_none n text more le =
 
 -- ---- the word that a line begins with
 
--- a word of which nothing is lacking
+-- If no byte of an opening is missing, the bytes after the opening decide.
 pub whole_word : (o : Opening) (lacks more : List ℕ) → length lacks ≡ 0 → after_opening o more ≡ opened o (begins lacks more) (drop (length lacks) more)
 whole_word o [] more none = refl
 whole_word o (c ∷ lacks) more none = absurd (omega (arith, none))
@@ -47,7 +47,7 @@ trims rest front text b so_far parts blank = sym (trimmed-blank front b blank) �
 pub trim_ends : (rest front text : List ℕ) (b : ℕ) → trimmed rest ≡ trimmed text → rest ≡ front ++ b ∷ [] → is_blank b ≡ false → rest ≡ trimmed text
 trim_ends rest front text b so_far parts word = parts ∙ sym (trimmed-word front b word) ∙ sym (ap trimmed parts) ∙ so_far
 
--- a word of which something is lacking
+-- A line that ends within its opening has no facts.
 pub part_of_word : (o : Opening) (lacks : List ℕ) → (length lacks ≡ 0 → ⊥) → nothing ≡ opened o (begins lacks []) (drop (length lacks) [])
 part_of_word o [] some = absurd (some refl)
 part_of_word o (c ∷ lacks) some = refl

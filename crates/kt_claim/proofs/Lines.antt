@@ -1,4 +1,4 @@
--- The lines of a text that comes in pieces.
+-- Lines of a text that is read in pieces.
 use Rattle.std.proofs.Common.{◌≡◌, ℕ, ◌≤◌, ◌<◌, ◌^◌, Bool, true, false, List, [], ◌∷◌, ◌++◌, map, length, refl, ap, sym, ◌∙◌, append_assoc, arith}
 use Rattle.kt_claim.proofs.Common.{list_any, append-nil, length-append, is_newline, lines, onto, without_return, trimmed, tap_of_lines, lines_of, LineState, held_before, facts_of, facts_of_kind, facts_with, is_reason, KeepsFor, Knows, IsTally, HasLines, Tally, Begun, LineKind}
 use Rattle.kt_claim.specs.TapStream.{limit}
@@ -8,13 +8,13 @@ use Rattle.kt_claim.specs.declared.begun.Begun.TheVariants as begun
 use Rattle.kt_claim.proofs.Tallies.{quiet}
 use Rattle.std.proofs.lemmas.Bool.{or_parts}
 
--- a line, and then its newline
+-- A line with its newline is the first line of a text.
 pub lines-line : (line rest : List ℕ) → list_any is_newline line ≡ false → lines (line ++ 10 ∷ rest) ≡ line ∷ lines rest
 lines-line [] rest none = refl
 lines-line (b ∷ line) rest none =
     rw ((or_parts (is_newline b) (list_any is_newline line) none).0, lines-line line rest (or_parts (is_newline b) (list_any is_newline line) none).1) refl
 
--- a last line without newline
+-- A text without a newline is one line.
 pub lines-last : (b : ℕ) (line : List ℕ) → list_any is_newline (b ∷ line) ≡ false → lines (b ∷ line) ≡ (b ∷ line) ∷ []
 lines-last b [] none = rw (or_parts (is_newline b) false none).0 refl
 lines-last b (c ∷ line) none =
@@ -28,11 +28,11 @@ pub length-map : (xs : List (List ℕ)) → length (map without_return xs) ≡ l
 length-map [] = refl
 length-map (y ∷ xs) = omega (arith, length-map xs)
 
--- the kind of a line that has ended
+-- `Ends line kind`: a line that ends in the state `line` is of this kind.
 abbrev pub Ends : LineState → LineKind → Type 0
 Ends line kind = (is_reason line.begun ≡ false → (kept : List ℕ) → facts_of_kind kind [] ≡ facts_with line.begun kept []) × (is_reason line.begun ≡ true → kind ≡ Plan 0)
 
--- nothing is kept unless a reason was begun
+-- The facts of a line at its end are those of its kind.
 pub ends_at : (b : Begun) (kept : List ℕ) (kind : LineKind) → KeepsFor b kept
     → (is_reason b ≡ false → (k : List ℕ) → facts_of_kind kind [] ≡ facts_with b k []) → (is_reason b ≡ true → kind ≡ Plan 0)
     → facts_with b kept [] ≡ facts_of_kind kind (trimmed kept)
@@ -44,16 +44,16 @@ pub no_more : (held : Bool) (b : Begun) (kept : List ℕ) → facts_with b kept 
 no_more true b kept = refl
 no_more false b kept = refl
 
--- what a line is that has ended
+-- A line that has ended has the facts of its kind.
 pub line_is : (line : LineState) (kind : LineKind) (came : List ℕ) → Ends line kind → Knows line.begun line.kept line.held came → facts_of (without_return came) ≡ facts_of_kind kind (trimmed line.kept)
 line_is line kind came ends k =
     ap (λ (xs : List ℕ). facts_of (without_return xs)) (sym (append-nil came)) ∙ k.tells [] ∙ no_more line.held line.begun line.kept ∙ ends_at line.begun line.kept kind k.keeps ends.0 ends.1
 
--- one line more is counted
+-- `Adds old new kind reason`: `new` is the tally `old` with one more line of this kind and reason.
 abbrev pub Adds : Tally → Tally → LineKind → List ℕ → Type 0
 Adds old new kind reason = (line : List ℕ) (ls : List (List ℕ)) → facts_of line ≡ facts_of_kind kind reason → length ls < 2 ^ 32 → IsTally old ls → IsTally new (ls ++ line ∷ [])
 
--- nothing came
+-- A reader that has read no bytes has an empty tally.
 pub none_read : (tally : Tally) (kept : List ℕ) → IsTally tally [] → kept ≡ [] → HasLines tally (record { begun = begun.Nothing; kept = kept; held = false }) []
 none_read tally kept t none = record {
   whole = [];
@@ -99,7 +99,7 @@ line_goes_on tally line new part fed none goes h = record {
 pub all_lines : (tally : Tally) (line : LineState) (fed : List ℕ) (h : HasLines tally line fed) → lines fed ≡ h.whole ++ lines h.open_line
 all_lines tally line fed h = ap lines (sym (append-nil fed)) ∙ h.rest [] ∙ ap (λ (t : List ℕ). h.whole ++ lines t) (append-nil h.open_line)
 
--- the last line, which may be empty
+-- The open line counts as the last line, and an empty last line changes nothing.
 pub last_line : (tap : Tap) (whole : List (List ℕ)) (came : List ℕ) → list_any is_newline came ≡ false → tap ≡ tap_of_lines (map without_return whole ++ without_return came ∷ [])
     → tap ≡ tap_of_lines (map without_return (whole ++ lines came))
 last_line tap whole [] none is = is ∙ quiet (map without_return whole) ∙ ap (λ (ls : List (List ℕ)). tap_of_lines (map without_return ls)) (sym (append-nil whole))

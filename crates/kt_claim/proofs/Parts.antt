@@ -1,14 +1,15 @@
--- The parts in which a line comes.
+-- Lines that are read in parts.
 use Rattle.std.proofs.Common.{◌≡◌, ℕ, true, false, eqb, List, [], ◌∷◌, ◌++◌, refl, ap, sym, ◌∙◌, append_assoc}
 use Rattle.kt_claim.proofs.Common.{false≢true, facts_of, facts_with, is_decided, KeepsFor, Knows, Released, without_return, Begun}
 use Rattle.kt_claim.specs.declared.begun.Begun.TheVariants as begun
 
--- what follows a line that is decided changes nothing
+-- Once a line is decided, the bytes that follow don't change its facts.
 pub decided : (b : Begun) (kept xs ys : List ℕ) → is_decided b ≡ true → facts_with b kept xs ≡ facts_with b kept ys
 decided (begun.Decided k) kept xs ys e = refl
 decided _ kept xs ys e = absurd (false≢true e)
 
--- what a loop over a part keeps true
+-- `TakesIn first state kept now part rest`: a loop over `part` keeps the facts while `rest` is
+-- left.
 abbrev pub TakesIn : Begun → Begun → List ℕ → List ℕ → List ℕ → List ℕ → Type 0
 TakesIn first state kept now part rest = KeepsFor first kept → (now ≡ kept) × KeepsFor state now × ((more : List ℕ) → facts_with first kept (part ++ more) ≡ facts_with state now (rest ++ more))
 
@@ -34,7 +35,7 @@ tells_all s kept came r (x ∷ xs) b more = r.tells x (xs ++ b ∷ more) ∙ ap 
 pub snoc-more : (came front part more : List ℕ) (b : ℕ) → part ≡ front ++ b ∷ [] → (came ++ part) ++ more ≡ came ++ (front ++ b ∷ more)
 snoc-more came front part more b parts = append_assoc came part more ∙ ap (λ (xs : List ℕ). came ++ xs) (ap (λ (xs : List ℕ). xs ++ more) parts ∙ append_assoc front (b ∷ []) more)
 
--- a part that ends with a carriage return, which is held back
+-- A carriage return at the end of a part is held back.
 pub holds_back : (s next : Begun) (kept now came front part : List ℕ) (b : ℕ) → part ≡ front ++ b ∷ [] → b ≡ 13
     → Released s kept came → TookIn s next kept now front → Knows next now true (came ++ part)
 holds_back s next kept now came front part b parts is r took = let t = took r.keeps in record {
@@ -43,7 +44,7 @@ holds_back s next kept now came front part b parts is r took = let t = took r.ke
       ∙ tells_all s kept came r front b more ∙ t.1 (without_return (b ∷ more)) ∙ ap (λ (x : ℕ). facts_with next now (without_return (x ∷ more))) is;
 }
 
--- a part that ends with another byte
+-- Another byte at the end of a part is not held back.
 pub holds_none : (s next : Begun) (kept now came front part : List ℕ) (b : ℕ) → part ≡ front ++ b ∷ [] → eqb b 13 ≡ false
     → Released s kept came → TookIn s next kept now part → Knows next now false (came ++ part)
 holds_none s next kept now came front part b parts isnt r took = let t = took r.keeps in record {

@@ -40,12 +40,12 @@ stops c (b ∷ rest) after h = stops_at (is_newline b) b c rest after refl (stop
 
 -- ---- the loop over a piece
 
--- before the rest of a piece: what came of it so far is read
+-- `Reaches first begun tally line rest piece`: the bytes of `piece` before `rest` were read.
 abbrev pub Reaches : Tally → LineState → Tally → LineState → List ℕ → List ℕ → Type 0
 Reaches first begun tally line rest piece = (fed : List ℕ) → length fed + length piece ≤ limit → HasLines first begun fed
     → (done : List ℕ) × (done ++ rest ≡ piece) × HasLines tally line (fed ++ done)
 
--- a part without newline is read
+-- `GoesOn line new part`: `new` is the state `line` after `part`, which has no newline.
 abbrev pub GoesOn : LineState → LineState → List ℕ → Type 0
 GoesOn line new part = list_any is_newline part ≡ false → (tally : Tally) (fed : List ℕ) → HasLines tally line fed → HasLines tally new (fed ++ part)
 

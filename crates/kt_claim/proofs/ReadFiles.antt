@@ -16,7 +16,7 @@ line_and_newline file e = ap (λ (xs : List ℕ). line file ++ xs) ((bytes_eq-De
 pub drop_clean : (n : ℕ) (xs : List ℕ) → list_any is_newline xs ≡ false → list_any is_newline (drop n xs) ≡ false
 drop_clean n xs none = any_right (take n xs) (drop n xs) (ap (list_any is_newline) (take-append-drop n xs) ∙ none)
 
--- the line of a file that is no longer than the limit
+-- The line of a file within the limit agrees with the claim that is read.
 pub line_in_file : (file : List ℕ) → ends_with nat_eq file newline ≡ true → length file ≤ limit → Read (after_word file) (first_word file)
     → MatchOption (find (fits_line (first_word file) (after_word file)) (UnknownWord ∷ BadNumber ∷ UnexpectedReason ∷ NoReason ∷ []))
     ((length file ≤ limit) × Says file (after_known (word_of (first_word file)) (after_word file))) (λ g. after_known (word_of (first_word file)) (after_word file) ≡ claim.Malformed g)
@@ -46,6 +46,6 @@ pub claims_at : (o : Option ClaimFault) (file : List ℕ) → fault_of file ≡ 
 claims_at None file e h = inl h
 claims_at (Some g) file e h = inr (g, e, h)
 
--- the claim that is read is the file's
+-- The claim that is read is a claim of the file.
 pub claims : (file : List ℕ) → IsClaimOf file (claim_of file)
 claims file = claims_at (fault_of file) file refl (read_file file)

@@ -1,4 +1,4 @@
--- The rows of a result file, and its reason.
+-- The fault rows of a result file, and its reason.
 use Rattle.std.proofs.Common.{◌≡◌, ℕ, ◌<◌, Bool, true, false, not, cond, List, [], ◌∷◌, ◌++◌, length, drop, Option, Some, None, refl, ap, sym, subst, ◌∙◌, arith, ◌&&◌, nat_eq, nat_lt, MatchOption}
 use Rattle.kt_claim.proofs.Common.{list_any, false≢true, eqb-true, ltb-true, lossy, is_newline, newline, IsReason, with_reason, Says, has_reason, reason_in, with_reason_in, Claim, ClaimFault, NoReason}
 use Rattle.kt_claim.specs.declared.evidence.Claim.TheVariants as claim
@@ -6,7 +6,7 @@ use Rattle.std.proofs.lemmas.Bool.{and_parts}
 
 -- ---- rows
 
--- where one row doesn't fit, the next decides
+-- If a row doesn't fit, the next row decides.
 pub row : (t : Bool) (f : ClaimFault) (o : Option ClaimFault) (c : Claim) (A : Claim → Type 0) → (t ≡ false → MatchOption o (A c) (λ g. c ≡ claim.Malformed g))
     → MatchOption (cond t (Some f) o) (A (cond t (claim.Malformed f) c)) (λ g. cond t (claim.Malformed f) c ≡ claim.Malformed g)
 row true f o c A h = refl
@@ -18,7 +18,7 @@ under (Some g) c A B f h = h
 
 -- ---- a reason
 
--- a colon, a space and a byte
+-- A reason follows a colon and a space, and has a byte.
 pub reason_parts : (rest : List ℕ) → has_reason rest ≡ true → (r : List ℕ) × (rest ≡ 58 ∷ 32 ∷ r) × (0 < length r)
 reason_parts [] e = absurd (false≢true e)
 reason_parts (a ∷ []) e = absurd (false≢true (sym (no_second (nat_eq 58 a) (nat_lt 2 1)) ∙ e)) where
@@ -35,7 +35,7 @@ reason_parts (a ∷ b ∷ r) e =
 pub no_newline_after : (rest r : List ℕ) → rest ≡ 58 ∷ 32 ∷ r → list_any is_newline rest ≡ false → list_any is_newline r ≡ false
 no_newline_after rest r parts none = sym (ap (list_any is_newline) parts) ∙ none
 
--- a word that wants a reason and is given one, or not
+-- `Wanted w make`: the keyword `w` with a reason spells the claim that `make` makes of the reason.
 abbrev pub Wanted : List ℕ → (List ℕ → Claim) → Type 0
 Wanted w make = (r : List ℕ) → IsReason r → Says (w ++ with_reason r) (make (lossy r))
 

@@ -1,4 +1,4 @@
--- A tally with one line more.
+-- A tally with one more line.
 use Rattle.std.proofs.Common.{◌≡◌, ℕ, ◌+◌, ◌<◌, ◌^◌, Bool, true, false, List, [], ◌∷◌, ◌++◌, length, Option, Some, None, Result, Ok, Err, refl, ap, sym, subst, ◌∙◌, arith, ◌&&◌, ◌||◌, is_some, IfOk}
 use Rattle.kt_claim.proofs.Common.{list_any, filter_map, append-nil, Facts, facts_of, nothing, bailing, testing, planning, option_or, is_bail, is_test, is_unexcused, plan, count, heard, tap_of_lines, IsTally, one, first, has_second, with_plan, Tally}
 use Rattle.kt_claim.proofs.Counts.{any-snoc, heard_none, heard_bail, heard_more, heard-le, count-snoc, count-le, plans-snoc, first-snoc, second-snoc}
@@ -6,7 +6,7 @@ use Rattle.std.proofs.Math.Bool.{or-false}
 
 -- ---- a tally and a line
 
--- nothing more is heard
+-- A line that doesn't count leaves the tally as it is.
 pub same_heard : (t : Tally) (ls ms : List (List ℕ)) → heard ms ≡ heard ls → t.bailed ≡ list_any is_bail ms
     → t.plan ≡ first (filter_map plan (heard ls)) → t.second ≡ has_second (filter_map plan (heard ls))
     → t.tests ≡ count is_test (heard ls) → t.failures ≡ count is_unexcused (heard ls) → IsTally t ms
@@ -24,7 +24,7 @@ after_bail t line lines bailed h =
     same_heard t lines (lines ++ line ∷ []) (heard_none lines line any) (bailed ∙ ap (λ (b : Bool). b || is_bail line) (sym any) ∙ sym (any-snoc is_bail lines line))
     h.planned h.second h.tests h.failures
 
--- one line more is heard
+-- A line before the first bail out is added to the tally.
 pub more_heard : (old new : Tally) (line : List ℕ) (lines : List (List ℕ)) → old.bailed ≡ false → is_bail line ≡ false → new.bailed ≡ false
     → new.plan ≡ option_or old.plan (plan line) → new.second ≡ (old.second || (is_some old.plan && is_some (plan line)))
     → new.tests ≡ old.tests + one (is_test line) → new.failures ≡ old.failures + one (is_unexcused line)
@@ -59,7 +59,7 @@ or_and_false true b = refl
 or_and_false false true = refl
 or_and_false false false = refl
 
--- a line that plans nothing
+-- A line without a plan leaves the plan of the tally as it is.
 pub no_plan : (old new : Tally) (line : List ℕ) (lines : List (List ℕ)) (tests fails : Bool) → facts_of line ≡ testing tests fails → old.bailed ≡ false → new.bailed ≡ false
     → new.plan ≡ old.plan → new.second ≡ old.second → new.tests ≡ old.tests + one tests → new.failures ≡ old.failures + one fails
     → IsTally old lines → IsTally new (lines ++ line ∷ [])

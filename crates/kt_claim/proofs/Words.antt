@@ -1,4 +1,4 @@
--- The words of a result file, with a number or without.
+-- The keywords of a result file, with and without a number.
 use Rattle.std.proofs.Common.{◌≡◌, ℕ, suc, ◌+◌, Bool, true, false, not, cond, List, [], ◌∷◌, ◌++◌, length, take, drop, Option, Some, None, refl, ap, sym, subst, ◌∙◌, append_assoc, arith, ◌&&◌, ◌==◌, nat_le, nat_lt, codes, MatchOption, if◌then◌else◌}
 use Rattle.kt_claim.proofs.Common.{prefix_len, list_any, list_all, find, false≢true, eqb-true, ltb-true, lt-ltb, take-append-drop, is_digit, up_to, lossy, is_newline, newline, number, IsReason, IsNumber, with_reason, with_number, Says, has_bracket, closes, digits, after_digits, has_number, after_number, has_reason, fits_line, claim_with, numbered, reason_in, with_reason_in, closed, value_of, number_in, with_number_in, may_have_number, after_bracket, plainly, claim_after, Claim, ClaimFault, UnknownWord, BadNumber, UnexpectedReason, NoReason, Word}
 use Rattle.std.proofs.lemmas.Bool.Decides.{nat_tests}
@@ -10,11 +10,11 @@ use Rattle.std.proofs.lemmas.Bool.{and_parts, or_parts}
 
 -- ---- words without a number
 
--- the answer of a line that begins with this word
+-- `Agrees w rest c`: the keyword `w` and `rest` spell the claim `c`, or `c` is their first fault.
 abbrev pub Agrees : List ℕ → List ℕ → Claim → Type 0
 Agrees w rest c = MatchOption (find (fits_line w rest) (UnknownWord ∷ BadNumber ∷ UnexpectedReason ∷ NoReason ∷ [])) (Says (w ++ (rest ++ newline)) c) (λ g. c ≡ claim.Malformed g)
 
--- the four rows of a line, of whose word so much is known
+-- `Rows known number passed rest`: the first fault of a line, from these facts about its keyword.
 abbrev pub Rows : Bool → Bool → Bool → List ℕ → Option ClaimFault
 Rows known number passed rest =
     cond (not known) (Some UnknownWord) (cond (has_bracket rest && not (number && has_number rest)) (Some BadNumber)
@@ -59,7 +59,7 @@ pub closed_parts : (af : List ℕ) → closes af ≡ true → (more : List ℕ) 
 closed_parts [] e = absurd (false≢true e)
 closed_parts (b ∷ more) e = (more, ap (λ (x : ℕ). x ∷ more) (eqb-true b 41 e))
 
--- below 256
+-- A number is at most 255 if it is less than 256.
 pub at_most : (n : ℕ) → nat_le n 255 ≡ nat_lt n 256
 at_most n = grind (arith, nat_tests)
 
@@ -77,7 +77,7 @@ numbered_in more rest e parts =
     (and_parts (nat_lt 0 (length (digits (40 ∷ more)))) (nat_lt (number (digits (40 ∷ more))) 256) front).1 in
     ap (λ (o : Option ℕ). closed o (after_digits (40 ∷ more))) value ∙ ap (closed (Some (number (digits (40 ∷ more))))) parts
 
--- a bracket and no number
+-- A bracket without a valid number gives no number.
 pub closed_none : (t u v : Bool) (ds af : List ℕ) → nat_lt 0 (length ds) ≡ t → nat_lt (number ds) 256 ≡ u → closes af ≡ v → ((t && u) && v) ≡ false → closed (value_of ds) af ≡ None
 closed_none t u v [] af e f g isnt = refl
 closed_none t u v (d ∷ ds) af e f g isnt = small_at u v (d ∷ ds) af f g (sym (ap (λ (x : Bool). (x && u) && v) (sym e ∙ positive d ds)) ∙ isnt) where
@@ -93,7 +93,7 @@ pub any_right : (xs ys : List ℕ) → list_any is_newline (xs ++ ys) ≡ false 
 any_right [] ys none = none
 any_right (x ∷ xs) ys none = any_right xs ys (or_parts (is_newline x) (list_any is_newline (xs ++ ys)) none).1
 
--- a word with a number that wants a reason
+-- `WantedNumber w k`: the keyword `w` with a number and a reason spells the claim of `k`.
 abbrev pub WantedNumber : List ℕ → Word → Type 0
 WantedNumber w k = (n r : List ℕ) → IsNumber n → IsReason r → Says (w ++ with_number n r) (numbered k (number n) (lossy r))
 

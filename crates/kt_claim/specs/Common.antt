@@ -1,4 +1,4 @@
--- The words that the clauses of this crate cite, passed on from one place. Declares nothing.
+-- The names that the clauses of this crate cite, re-exported. Declares nothing.
 pub use Rattle.std.specs.List.{list_any}
 pub use Rattle.kt_base.specs.Digits.{is_digit}
 pub use Rattle.kt_base.specs.Lines.{is_newline}

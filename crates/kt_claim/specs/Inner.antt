@@ -1,4 +1,4 @@
--- What the reader's own functions do: their bodies retraced, cited by private functions alone.
+-- Definitions that follow the bodies of private functions. No public clause cites them.
 pub mod LineStates
 pub mod ResultReading
 pub mod TapReading

@@ -10,29 +10,30 @@ use Rattle.kt_claim.specs.declared.evidence.Claim.TheVariants.{Malformed, Passed
 use Rattle.kt_claim.specs.declared.evidence.ClaimFault.{ClaimFault}
 use Rattle.kt_claim.specs.declared.evidence.ClaimFault.TheVariants.{TooLong, Empty, NoNewline, SeveralLines, UnknownWord, BadNumber, UnexpectedReason, NoReason}
 
--- the most bytes of a result file
+-- `limit`: the greatest length of a result file, in bytes.
 abbrev pub limit : ℕ
 limit = 65536
 
 -- ---- files that make a claim
 
--- one byte or more, none of them a newline
+-- `IsReason reason`: `reason` has one byte or more and no newline.
 abbrev pub IsReason : List ℕ → Type 0
 IsReason reason = (0 < length reason) × (list_any is_newline reason ≡ false)
 
--- the decimal number of an exit status or of a signal
+-- `IsNumber digits`: `digits` are the decimal number of an exit status or of a signal, less than
+-- 256.
 abbrev pub IsNumber : List ℕ → Type 0
 IsNumber digits = (0 < length digits) × (list_all is_digit digits ≡ true) × (number digits < 256)
 
--- what follows the word: a colon, a space, the reason and the newline
+-- `with_reason reason`: the bytes after a keyword: a colon, a space, the reason and the newline.
 abbrev pub with_reason : List ℕ → List ℕ
 with_reason reason = codes ": " ++ reason ++ newline
 
--- a number in round brackets before it
+-- `with_number digits reason`: the same bytes after a number in round brackets.
 abbrev pub with_number : List ℕ → List ℕ → List ℕ
 with_number digits reason = codes "(" ++ digits ++ codes ")" ++ with_reason reason
 
--- the file is one line, and this is its claim
+-- `Says file claim`: the file is one line that spells this claim.
 pub data Says : List ℕ → Claim → Type 0 where
   passed : Says (codes "passed" ++ newline) Passed
   failed : (r : List ℕ) → IsReason r → Says (codes "failed" ++ with_reason r) (Failed (lossy r))
@@ -47,63 +48,63 @@ pub data Says : List ℕ → Claim → Type 0 where
 
 -- ---- files that make none
 
--- a file without its last byte
+-- `line file`: a file without its last byte.
 abbrev pub line : List ℕ → List ℕ
 line file = take (length file - 1) file
 
--- the small letters and low lines that a file begins with, and what follows them on the line
+-- `word file`: the lower-case letters and underscores that the file's line begins with.
 abbrev pub word : List ℕ → List ℕ
 word file = take (prefix_len is_word_byte (line file)) (line file)
 
--- what follows that word on the line
+-- `after_word file`: the bytes after that keyword on the line.
 abbrev pub after_word : List ℕ → List ℕ
 after_word file = drop (prefix_len is_word_byte (line file)) (line file)
 
--- whether a word is the one expected
+-- `is expected found`: the two keywords are equal.
 abbrev pub is : List ℕ → List ℕ → Bool
 is expected found = bytes_eq found expected
 
--- whether a word may have a number
+-- `takes_number w`: the keyword `w` may have a number.
 abbrev pub takes_number : List ℕ → Bool
 takes_number w = is (codes "expected_exit") w || is (codes "expected_signal") w
 
--- whether a word begins a claim
+-- `is_known w`: `w` is a keyword of result files.
 abbrev pub is_known : List ℕ → Bool
 is_known w =
     is (codes "passed") w || is (codes "failed") w || is (codes "skipped") w || is (codes "expected_death") w
     || is (codes "expected_failure") w || is (codes "expected_timeout") w || takes_number w
 
--- whether a number in round brackets begins
+-- `has_bracket rest`: `rest` begins with an opening round bracket.
 abbrev pub has_bracket : List ℕ → Bool
 has_bracket [] = false
 has_bracket (b ∷ rest) = b == 40
 
--- whether a closing bracket is next
+-- `closes rest`: `rest` begins with a closing round bracket.
 abbrev pub closes : List ℕ → Bool
 closes [] = false
 closes (b ∷ rest) = b == 41
 
--- the digits after the bracket
+-- `digits rest`: the digits after the bracket that `rest` begins with.
 abbrev pub digits : List ℕ → List ℕ
 digits rest = take (prefix_len is_digit (drop 1 rest)) (drop 1 rest)
 
--- what follows those digits
+-- `after_digits rest`: the bytes after those digits.
 abbrev pub after_digits : List ℕ → List ℕ
 after_digits rest = drop (prefix_len is_digit (drop 1 rest)) (drop 1 rest)
 
--- a number in round brackets
+-- `has_number rest`: `rest` begins with a number less than 256 in round brackets.
 abbrev pub has_number : List ℕ → Bool
 has_number rest = nat_lt 0 (length (digits rest)) && nat_lt (number (digits rest)) 256 && closes (after_digits rest)
 
--- what follows the word and its number
+-- `after_number rest`: `rest` without the number in round brackets, if it begins with a bracket.
 abbrev pub after_number : List ℕ → List ℕ
 after_number rest = if has_bracket rest then drop 1 (after_digits rest) else rest
 
--- a colon, a space and a reason
+-- `has_reason rest`: `rest` is a colon, a space and a reason.
 abbrev pub has_reason : List ℕ → Bool
 has_reason rest = starts_with nat_eq rest (codes ": ") && nat_lt 2 (length rest)
 
--- whether a fault's row fits a line that begins with this word and goes on so
+-- `fits_line w rest fault`: the row of this fault fits a line of the keyword `w` and `rest`.
 abbrev pub fits_line : List ℕ → List ℕ → ClaimFault → Bool
 fits_line w rest UnknownWord = not (is_known w)
 fits_line w rest BadNumber = has_bracket rest && not (takes_number w && has_number rest)
@@ -111,7 +112,7 @@ fits_line w rest UnexpectedReason = is (codes "passed") w && nat_lt 0 (length re
 fits_line w rest NoReason = not (is (codes "passed") w) && not (has_reason (after_number rest))
 fits_line w rest _ = false
 
--- whether a fault's row fits a file in which no row above it fits
+-- `fits file fault`: the row of this fault fits a file that no earlier row fits.
 abbrev pub fits : List ℕ → ClaimFault → Bool
 fits file TooLong = nat_lt limit (length file)
 fits file Empty = length file == 0
@@ -119,16 +120,17 @@ fits file NoNewline = not (ends_with nat_eq file newline)
 fits file SeveralLines = list_any is_newline (line file)
 fits file fault = fits_line (word file) (after_word file) fault
 
--- the faults, the first that fits counts
+-- `rows`: the faults in the order of their rows. The first row that fits counts.
 abbrev pub rows : List ClaimFault
 rows = TooLong ∷ Empty ∷ NoNewline ∷ SeveralLines ∷ UnknownWord ∷ BadNumber ∷ UnexpectedReason ∷ NoReason ∷ []
 
--- the first row that fits
+-- `fault_of file`: the fault of the first row that fits.
 abbrev pub fault_of : List ℕ → Option ClaimFault
 fault_of file = find (fits file) rows
 
 -- ---- both
 
--- the file is no longer than the limit and says so; or it is malformed by the first row that fits
+-- `IsClaimOf file claim`: a file within the limit spells this claim, or the claim is its first
+-- fault.
 abbrev pub IsClaimOf : List ℕ → Claim → Type 0
 IsClaimOf file claim = ((length file ≤ limit) × Says file claim) ⊎ ((fault : ClaimFault) × (fault_of file ≡ Some fault) × (claim ≡ Malformed fault))

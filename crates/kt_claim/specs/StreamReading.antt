@@ -1,4 +1,4 @@
--- What a reader of a TAP stream has read, as callers see it.
+-- The state of a reader of a TAP stream, as callers see it.
 use Rattle.std.specs.Prelude.{◌≡◌, ℕ, ◌<◌, ◌≤◌, ◌⊎◌, Bool, true, false, List, [], ◌++◌, length, Some}
 use Rattle.kt_base.specs.Lines.{lines}
 use Rattle.kt_claim.specs.TapStream.{limit, without_return, trimmed, skip_reason, plan}
@@ -6,7 +6,8 @@ use Rattle.kt_claim.specs.Inner.LineStates.{LineState, held_before}
 use Rattle.kt_claim.specs.Inner.TapReading.{HasLines}
 use Rattle.kt_claim.specs.declared.tally.Tally.{Tally}
 
--- counts of the whole lines, and what is kept of the open line
+-- `StreamReading`: the counts of the whole lines, the state of the open line, the number of bytes,
+-- and two failures.
 pub record StreamReading : Type 0 where
   pub tally : Tally
   pub line : LineState
@@ -14,16 +15,18 @@ pub record StreamReading : Type 0 where
   pub too_long : Bool
   pub failed : Bool
 
--- the bytes that came, as whole lines and the beginning of one more, unless they are too many
+-- `HoldsStream too_long reader fed`: the reader represents the bytes `fed`, or they are longer than
+-- the limit.
 abbrev pub HoldsStream : Bool → StreamReading → List ℕ → Type 0
 HoldsStream true reader fed = limit < length fed
 HoldsStream false reader fed = (reader.length ≡ length fed) × (length fed ≤ limit) × HasLines reader.tally reader.line fed
 
--- the reader has read these bytes
+-- `HasStream reader fed`: the reader has read the bytes `fed`.
 abbrev pub HasStream : StreamReading → List ℕ → Type 0
 HasStream reader fed = (reader.failed ≡ false) × HoldsStream reader.too_long reader fed
 
--- of the open line only the reason of a plan of no tests is kept, as far as it came
+-- `KeepsLittle line fed`: of the open line, only the reason of a plan of no tests is kept, as far
+-- as it was read.
 abbrev pub KeepsLittle : LineState → List ℕ → Type 0
 KeepsLittle line fed =
     (line.kept ≡ [])

@@ -1,4 +1,4 @@
--- What a TAP stream says.
+-- The result of a TAP stream.
 use Rattle.std.specs.Prelude.{ℕ, Bool, true, false, not, ◌&&◌, ◌||◌, ◌==◌, nat_lt, if◌then◌else◌, List, [], ◌∷◌, map, length, drop, codes, Option, Some, None, is_some, option_map}
 use Rattle.std.specs.Char.{to_ascii_lowercase}
 use Rattle.std.specs.List.{list_any, filter, filter_map}
@@ -11,189 +11,192 @@ use Rattle.kt_claim.specs.declared.evidence.Tap.{Tap}
 use Rattle.kt_claim.specs.declared.evidence.Tap.TheVariants.{Invalid, BailedOut, SkipAll, Counted}
 use Rattle.kt_claim.specs.declared.evidence.TapFault.TheVariants.{TooLong, NoPlan, SecondPlan, PlanDiffers}
 
--- the most bytes of a stream
+-- `limit`: the greatest length of a stream, in bytes.
 abbrev pub limit : ℕ
 limit = 16777216
 
 -- ---- lines
 
--- a line without the carriage return at its end
+-- `without_return line`: the line without a carriage return at its end.
 abbrev pub without_return : List ℕ → List ℕ
 without_return [] = []
 without_return (b ∷ []) = if b == 13 then [] else b ∷ []
 without_return (b ∷ c ∷ rest) = b ∷ without_return (c ∷ rest)
 
--- the lines of a text, without their carriage returns
+-- `lines_of text`: the lines of a text, without their carriage returns.
 abbrev pub lines_of : List ℕ → List (List ℕ)
 lines_of text = map without_return (lines text)
 
 -- ---- words
 
--- whether a text begins with this word
+-- `begins word text`: `text` begins with `word`.
 abbrev pub begins : List ℕ → List ℕ → Bool
 begins [] text = true
 begins (c ∷ word) [] = false
 begins (c ∷ word) (b ∷ text) = b == c && begins word text
 
--- whether a text begins with this word of small letters, in any case
+-- `says word text`: `text` begins with the lower-case `word`, in upper or lower case.
 abbrev pub says : List ℕ → List ℕ → Bool
 says [] text = true
 says (c ∷ word) [] = false
 says (c ∷ word) (b ∷ text) = to_ascii_lowercase b == c && says word text
 
--- a text from its first byte that fails a test
+-- `past test text`: `text` from its first byte that fails the test.
 abbrev pub past : (ℕ → Bool) → List ℕ → List ℕ
 past test [] = []
 past test (b ∷ text) = if test b then past test text else b ∷ text
 
--- a text up to its first byte that fails a test
+-- `front test text`: `text` up to its first byte that fails the test.
 abbrev pub front : (ℕ → Bool) → List ℕ → List ℕ
 front test [] = []
 front test (b ∷ text) = if test b then b ∷ front test text else []
 
--- neither a space nor a tab
+-- `not_blank b`: `b` is neither a space nor a tab.
 abbrev pub not_blank : ℕ → Bool
 not_blank b = not (is_blank b)
 
--- a text up to its last byte that isn't a blank
+-- `trimmed text`: the text without the blanks at its end.
 abbrev pub trimmed : List ℕ → List ℕ
 trimmed [] = []
 trimmed (b ∷ rest) = if is_blank b && length (trimmed rest) == 0 then [] else b ∷ trimmed rest
 
 -- ---- what a line is
 
--- a line that bails out
+-- `is_bail line`: the line bails out.
 abbrev pub is_bail : List ℕ → Bool
 is_bail line = begins (codes "Bail out!") line
 
--- the end, or a blank
+-- `is_gap text`: `text` is empty or begins with a blank.
 abbrev pub is_gap : List ℕ → Bool
 is_gap [] = true
 is_gap (b ∷ rest) = is_blank b
 
--- a word at the beginning of a line, followed by a gap
+-- `begins_with_word word line`: the line begins with `word`, and a blank or the end follows.
 abbrev pub begins_with_word : List ℕ → List ℕ → Bool
 begins_with_word word line = begins word line && is_gap (drop (length word) line)
 
--- a failed test
+-- `is_not_ok line`: the line is a failed test.
 abbrev pub is_not_ok : List ℕ → Bool
 is_not_ok line = begins_with_word (codes "not ok") line
 
--- a test
+-- `is_test line`: the line is a test.
 abbrev pub is_test : List ℕ → Bool
 is_test line = begins_with_word (codes "ok") line || is_not_ok line
 
 -- ---- directives
 
--- whether it skips, and the bytes of its reason
+-- `Directive`: true for a skip directive, and the bytes of the reason.
 abbrev pub Directive : Type 0
 Directive = Bool × List ℕ
 
--- what follows the four letters of a directive: its reason
+-- `reason_of text`: the reason in the bytes after the four letters of a directive.
 abbrev pub reason_of : List ℕ → List ℕ
 reason_of text = trimmed (past is_blank (past not_blank text))
 
--- the directive that begins here
+-- `directive_at text`: the directive that `text` begins with.
 abbrev pub directive_at : List ℕ → Option Directive
 directive_at text =
     if says (codes "todo") text then Some (false, reason_of (drop 4 text))
     else if says (codes "skip") text then Some (true, reason_of (drop 4 text))
     else None
 
--- a hash that no backslash precedes, blanks, and a directive
+-- `after_hash escaped b rest`: the directive after the byte `b`, if `b` is a hash that is not
+-- escaped by a backslash.
 abbrev pub after_hash : Bool → ℕ → List ℕ → Option Directive
 after_hash escaped b rest = if b == 35 && not escaped then directive_at (past is_blank rest) else None
 
--- the first directive of a text, before which a backslash may stand
+-- `directive_in escaped text`: the first directive of a text. `escaped` is true if a backslash
+-- precedes the text.
 abbrev pub directive_in : Bool → List ℕ → Option Directive
 directive_in escaped [] = None
 directive_in escaped (b ∷ rest) = option_or (after_hash escaped b rest) (directive_in (b == 92) rest)
 
--- the directive of a line
+-- `directive line`: the first directive of a line.
 abbrev pub directive : List ℕ → Option Directive
 directive line = directive_in false line
 
--- a failed test that no directive excuses
+-- `is_unexcused line`: the line is a failed test without a directive.
 abbrev pub is_unexcused : List ℕ → Bool
 is_unexcused line = is_not_ok line && not (is_some (directive line))
 
 -- ---- plans
 
--- the end, or a hash and anything
+-- `ends_plan text`: `text` is empty or begins with a hash.
 abbrev pub ends_plan : List ℕ → Bool
 ends_plan [] = true
 ends_plan (b ∷ rest) = b == 35
 
--- a number of tests, if it may be planned
+-- `below_limit n`: the number `n` of tests, if a plan may have it.
 abbrev pub below_limit : ℕ → Option ℕ
 below_limit n = if nat_lt n 1000000000 then Some n else None
 
--- the value of decimal digits that follow those of a value; one digit or more
+-- `value_from value digits`: the value of the digits read before and of `digits`, which are one or
+-- more together.
 abbrev pub value_from : Option ℕ → List ℕ → Option ℕ
 value_from None [] = None
 value_from None (d ∷ digits) = below_limit (decimal_from 0 (d ∷ digits))
 value_from (Some n) digits = below_limit (decimal_from n digits)
 
--- digits, then blanks, then the end or a hash
+-- `planned_from value text`: the number of tests in digits, then blanks, then the end or a hash.
 abbrev pub planned_from : Option ℕ → List ℕ → Option ℕ
 planned_from value text = if ends_plan (past is_blank (past is_digit text)) then value_from value (front is_digit text) else None
 
--- how many tests a line plans
+-- `planned line`: the number of tests that a line plans.
 abbrev pub planned : List ℕ → Option ℕ
 planned line = if begins (codes "1..") line then planned_from None (drop 3 line) else None
 
--- the bytes of the reason of a directive that skips; none where there is no such directive
+-- `skips directive`: the reason of a skip directive, or no bytes for any other directive.
 abbrev pub skips : Option Directive → List ℕ
 skips (Some (true, reason)) = reason
 skips _ = []
 
--- the reason of a skipped program
+-- `skip_reason reason`: the reason of a skipped program, or a fixed text if the reason is empty.
 abbrev pub skip_reason : List ℕ → List ℕ
 skip_reason [] = codes "No reason given"
 skip_reason (b ∷ reason) = lossy (b ∷ reason)
 
--- a plan of no tests has a reason
+-- `why n reason`: the reason of a plan of `n` tests, which is empty unless `n` is 0.
 abbrev pub why : ℕ → List ℕ → List ℕ
 why n reason = if n == 0 then skip_reason reason else []
 
--- a plan of this many tests, with the reason that is kept of it
+-- `plan_for reason n`: a plan of `n` tests, with its reason.
 abbrev pub plan_for : List ℕ → ℕ → ℕ × List ℕ
 plan_for reason n = (n, why n reason)
 
--- a plan: how many tests, and the reason if there are none
+-- `plan line`: the number of tests that a line plans, with its reason.
 abbrev pub plan : List ℕ → Option (ℕ × List ℕ)
 plan line = option_map (plan_for (skips (directive line))) (planned line)
 
 -- ---- the stream
 
--- the lines before the first bail out
+-- `heard lines`: the lines before the first bail out.
 abbrev pub heard : List (List ℕ) → List (List ℕ)
 heard [] = []
 heard (line ∷ lines) = if is_bail line then [] else line ∷ heard lines
 
--- how many lines pass a test
+-- `count test lines`: the number of lines that pass a test.
 abbrev pub count : (List ℕ → Bool) → List (List ℕ) → ℕ
 count test lines = length (filter test lines)
 
--- the number of tests, compared with the number planned
+-- `compared planned reason tests failures`: the result, if the stream has one plan.
 abbrev pub compared : ℕ → List ℕ → ℕ → ℕ → Tap
 compared planned reason tests failures =
     if not (planned == tests) then Invalid PlanDiffers
     else if tests == 0 then SkipAll reason
     else Counted failures tests
 
--- by the plans, the number of tests and the number of failures that nothing excuses
+-- `by_plans plans tests failures`: the result, if no line bails out.
 abbrev pub by_plans : List (ℕ × List ℕ) → ℕ → ℕ → Tap
 by_plans [] tests failures = Invalid NoPlan
 by_plans ((planned, reason) ∷ []) tests failures = compared planned reason tests failures
 by_plans (one ∷ other ∷ more) tests failures = Invalid SecondPlan
 
--- where no line bails out, all lines count
+-- `tap_of_lines lines`: the result of the lines of a stream.
 abbrev pub tap_of_lines : List (List ℕ) → Tap
 tap_of_lines lines =
     if list_any is_bail lines then BailedOut
     else by_plans (filter_map plan (heard lines)) (count is_test (heard lines)) (count is_unexcused (heard lines))
 
--- what a stream says
+-- `tap_of text`: the result of a stream.
 abbrev pub tap_of : List ℕ → Tap
 tap_of text = if nat_lt limit (length text) then Invalid TooLong else tap_of_lines (lines_of text)

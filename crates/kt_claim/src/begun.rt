@@ -1,16 +1,19 @@
-/// The kind of a line of a TAP stream. A failed test with a directive counts as a test.
+/// A kind of line of a TAP stream.
 #[derive(Clone, Copy)]
 pub enum LineKind {
+    /// The line doesn't count.
     Other,
+    /// The line bails out.
     Bail,
+    /// A test that passed, or a failed test with a directive.
     Test,
-    /// A failed test that no directive excuses.
+    /// A failed test without a directive.
     Failure,
-    /// A plan of this many tests.
+    /// A plan of this number of tests.
     Plan(u64),
 }
 
-/// The first letters of a directive, in any case.
+/// The first letters of a directive, in upper or lower case.
 #[derive(Clone, Copy)]
 pub enum Letters {
     T,
@@ -21,16 +24,16 @@ pub enum Letters {
     Ski,
 }
 
-/// Why a directive is looked for.
+/// A reason to look for a directive.
 #[derive(Clone, Copy)]
 pub enum Purpose {
-    /// To excuse a test that failed.
+    /// A directive excuses a failed test.
     Excuse,
-    /// To say why no tests are planned.
+    /// A directive explains a plan of no tests.
     Explain,
 }
 
-/// The words with which the lines that count begin.
+/// A text at the beginning of a line that counts: `Bail out!`, `ok`, `not ok` or `1..`.
 #[derive(Clone, Copy)]
 pub enum Opening {
     BailOut,
@@ -39,39 +42,40 @@ pub enum Opening {
     Plan,
 }
 
-/// How much of a line was read: what may still decide it.
+/// A state of the reader within a line, by the bytes of the line that were read.
 #[derive(Clone, Copy)]
 pub enum Begun {
-    /// Nothing of it.
+    /// No byte was read.
     Nothing,
-    /// The beginning of a word that lacks these bytes.
+    /// The beginning of an opening, of which these bytes are missing.
     Opened(Opening, &'static [u8]),
-    /// The digits of a plan, with their value; `None` before the first digit.
+    /// The digits of a plan, with their value, or `None` before the first digit.
     Digits(Option<u64>),
-    /// Blanks after the digits of a plan.
+    /// Blanks after the digits of a plan, with their value.
     Blanks(u64),
-    /// A directive may follow. `true` if the last byte was a backslash.
+    /// A directive may follow. The flag is `true` if the last byte was a backslash.
     Looking(Purpose, bool),
-    /// A hash, then blanks.
+    /// A hash, and blanks if any.
     Hash(Purpose),
-    /// A hash, blanks, and the first letters of a directive.
+    /// A hash, blanks if any, and the first letters of a directive.
     Lettered(Purpose, Letters),
-    /// A directive that skips the program.
+    /// A skip directive, with more bytes of its word if any.
     Word,
-    /// Blanks after that word.
+    /// Blanks after the word of a skip directive.
     Gap,
-    /// The reason after them.
+    /// The reason of a skip directive.
     Reason,
-    /// The line is of this kind, whatever follows.
+    /// The kind of the line is known. The rest of the line is ignored.
     Decided(LineKind),
 }
 
-/// An open line. Of its bytes only those of a plan's reason are kept.
+/// A line that was not read to its end. Only a plan's reason is kept of its bytes.
 #[derive(Drop)]
 pub struct OpenLine {
     pub begun: Begun,
-    /// The reason of a plan of no tests, as far as it came.
+    /// The reason of a plan of no tests, as far as it was read.
     pub kept: Vec<u8>,
-    /// A carriage return came last. It belongs to the line only if more of the line follows.
+    /// `true` if the last byte was a carriage return, which belongs to the line only if more bytes
+    /// of the line follow.
     pub held: bool,
 }

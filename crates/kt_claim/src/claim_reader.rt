@@ -10,7 +10,7 @@ use std::marker::Model;
 /// The greatest length of a result file, in bytes.
 pub const LIMIT: usize = 65_536;
 
-/// Reads a result file that comes in pieces. It keeps no more than the limit, 65,536 bytes.
+/// A reader of a result file that is read in pieces. It keeps at most 65,536 bytes.
 #[derive(Drop)]
 pub struct ClaimReader {
     alloc: Global,
@@ -39,6 +39,7 @@ impl ClaimReader {
     ghost use Rattle.std.specs.Prelude.{◌≤◌, length, ◌≡◌, ℕ, List, [], ◌++◌, true, IfOk, OnOk, OnErr, IsErr};
     ghost use Rattle.kt_claim.specs.Common.{HasRead, limit, IsClaimOf, Claim};
 
+    /// Creates a reader that has read nothing. The call doesn't allocate.
     pub fn new(alloc: Global) -> Self
         ensures { HasRead result [] }
     {
@@ -50,7 +51,13 @@ impl ClaimReader {
         }
     }
 
-    /// Takes the next piece. Once memory has run out, each later call returns that.
+    /// Reads the next bytes of the result file.
+    ///
+    /// If the file has more than 65,536 bytes, its claim is `Malformed(TooLong)`.
+    ///
+    /// # Errors
+    ///
+    /// - `NoMemory`: an allocation fails in this call, or failed in an earlier call.
     pub fn feed(&mut self, piece: &[u8]) -> Result<(), NoMemory>
         ensures ok { OnOk result ((fed : List ℕ) → HasRead self.old fed
             → HasRead self.new (fed ++ piece.now)) }
@@ -73,7 +80,11 @@ impl ClaimReader {
         Ok(())
     }
 
-    /// The claim of the pieces joined (this profile).
+    /// Returns the claim of the result file that was read (this profile).
+    ///
+    /// # Errors
+    ///
+    /// - `NoMemory`: an allocation fails in this call, or failed in an earlier call.
     pub fn finish(self) -> Result<Claim, NoMemory>
         ensures value { (fed : List ℕ) → HasRead self fed
             → IfOk result (λ claim. IsClaimOf fed claim) }
@@ -91,7 +102,11 @@ impl ClaimReader {
     }
 }
 
-/// The claim of a result file (this profile).
+/// Parses a whole result file, and returns its claim (this profile).
+///
+/// # Errors
+///
+/// - `NoMemory`: an allocation fails.
 pub fn read_claim(alloc: Global, file: &[u8]) -> Result<Claim, NoMemory>
     ensures value { IfOk result (λ claim. IsClaimOf file.now claim) }
     ensures only { (claim : Claim) → IsClaimOf file.now claim → IfOk result (λ c. c ≡ claim) }

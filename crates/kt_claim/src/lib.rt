@@ -1,4 +1,4 @@
-//! What a test program says of itself: its ATF result file, its TAP output.
+//! Reads the results that a test program reports: an ATF result file or a TAP stream.
 #![tactic(auto)]
 
 mod begun;

@@ -1,4 +1,4 @@
-//! The parts in which a line comes, and what it is once it has ended.
+//! Reads the parts of a line, and finds the kind of a line at its end.
 
 ghost use Rattle.std.specs.Prelude.{◌≡◌, ◌∷◌, ◌++◌, ℕ, List, [], IfOk, OnOk, None, false, true};
 ghost use Rattle.kt_claim.specs.Common.{facts_with, is_kept, is_decided, KeepsFor, Knows, Released, trimmed, after_opening, directed, facts_of_kind, is_reason};
@@ -7,7 +7,7 @@ use crate::begun::{Begun, LineKind, OpenLine, Opening, Purpose};
 use crate::line_steps::{LIMIT, is_blank, step};
 use kt_base::NoMemory;
 
-/// The text up to its last byte that isn't a blank.
+/// Returns a text without the blanks at its end.
 pub fn trimmed(text: &[u8]) -> &[u8]
     ensures { result.now ≡ trimmed text.now }
 {
@@ -21,7 +21,7 @@ pub fn trimmed(text: &[u8]) -> &[u8]
     rest
 }
 
-/// A line that is only a word.
+/// Returns the kind of a TAP line that is only an opening, such as `ok`.
 fn lone(opening: Opening) -> LineKind
     ensures { facts_of_kind result [] ≡ after_opening opening [] }
 {
@@ -33,7 +33,7 @@ fn lone(opening: Opening) -> LineKind
     }
 }
 
-/// A line that began with a word and may lack its end.
+/// Returns the kind of a TAP line that ends within its opening or directly after it.
 fn opened(opening: Opening, lacks: &'static [u8]) -> LineKind
     ensures { (kept : List ℕ) → facts_of_kind result []
         ≡ facts_with (Begun.Opened opening lacks.entry) kept [] }
@@ -45,6 +45,9 @@ fn opened(opening: Opening, lacks: &'static [u8]) -> LineKind
     }
 }
 
+/// Returns the kind of a TAP line that plans `tests` tests.
+///
+/// With 1,000,000,000 tests or more, the line is not a plan.
 fn planned(tests: u64) -> LineKind
     ensures { (kept : List ℕ) → facts_of_kind result [] ≡ facts_with (Begun.Blanks tests) kept [] }
 {
@@ -55,6 +58,7 @@ fn planned(tests: u64) -> LineKind
     }
 }
 
+/// Returns the kind of a TAP line that ends after the digits of a plan, if any.
 fn counted(value: Option<u64>) -> LineKind
     ensures { (kept : List ℕ) → facts_of_kind result [] ≡ facts_with (Begun.Digits value) kept [] }
 {
@@ -64,7 +68,7 @@ fn counted(value: Option<u64>) -> LineKind
     }
 }
 
-/// No directive came.
+/// Returns the kind of a TAP line that ends without a directive.
 fn undirected(purpose: Purpose) -> LineKind
     ensures { facts_of_kind result [] ≡ directed purpose None }
 {
@@ -74,7 +78,7 @@ fn undirected(purpose: Purpose) -> LineKind
     }
 }
 
-/// The kind of the line; an open reason isn't looked at.
+/// Returns the kind of a TAP line that ends in this state. The kept reason is not part of the kind.
 pub fn ended(begun: Begun) -> LineKind
     ensures plain { is_reason begun ≡ false → (kept : List ℕ)
         → facts_of_kind result [] ≡ facts_with begun kept [] }
@@ -95,6 +99,7 @@ pub fn ended(begun: Begun) -> LineKind
     }
 }
 
+/// Returns `true` if, in this state, the byte `b` belongs to a reason.
 fn is_kept(begun: Begun, b: u8) -> bool
     ensures { result ≡ is_kept begun b }
 {
@@ -105,13 +110,17 @@ fn is_kept(begun: Begun, b: u8) -> bool
     }
 }
 
+/// Returns `true` if the kind of a TAP line is known.
 fn is_decided(begun: Begun) -> bool
     ensures { result ≡ is_decided begun }
 {
     matches!(begun, Begun::Decided(_))
 }
 
-/// The state of the line after a part. A decided line isn't looked at any more.
+/// Reads the next bytes of a TAP line, and returns the new state.
+///
+/// Bytes of a reason are appended to `kept`. Once the kind of the line is known, the rest is
+/// ignored.
 fn take_in(begun: Begun, kept: &mut Vec<u8>, part: &[u8]) -> Result<Begun, NoMemory>
     ensures { IfOk result (λ after. KeepsFor begun kept.old.items → KeepsFor after kept.new.items
         × ((more : List ℕ) → facts_with begun kept.old.items (part.now ++ more)
@@ -133,7 +142,8 @@ fn take_in(begun: Begun, kept: &mut Vec<u8>, part: &[u8]) -> Result<Begun, NoMem
     Ok(state)
 }
 
-/// Takes in the carriage return that was held back, since more of the line follows.
+/// Reads the carriage return that was held back, since more of the TAP line follows. Returns the
+/// new state.
 fn release(begun: Begun, kept: &mut Vec<u8>, held: bool) -> Result<Begun, NoMemory>
     ensures { IfOk result (λ after. (came : List ℕ) → Knows begun kept.old.items held came
         → Released after kept.new.items came) }
@@ -145,7 +155,9 @@ fn release(begun: Begun, kept: &mut Vec<u8>, held: bool) -> Result<Begun, NoMemo
     }
 }
 
-/// Takes the next part of a line, which has no newline.
+/// Reads the next part of a TAP line, which contains no newline.
+///
+/// A carriage return at the end of the part is held back.
 pub fn go_on(line: &mut OpenLine, part: &[u8]) -> Result<(), NoMemory>
     ensures { OnOk result ((came : List ℕ)
         → Knows line.old.begun line.old.kept.items line.old.held came

@@ -1,4 +1,4 @@
-//! What the next byte makes of a line.
+//! Computes the state of a line after one more byte.
 
 ghost use Rattle.std.specs.Prelude.{◌≡◌, [], ◌∷◌, ℕ, List, false, option_map, Some, true, ◌<◌, ◌^◌, ◌-◌};
 ghost use Rattle.kt_claim.specs.Common.{is_digit, is_blank, directive_in, planned_from, below_limit, reason_of, skips, plan_for, facts_of, planning, after_opening, opened, directed, begun_directive, facts_with, is_kept, is_reason, next_letter, with_letter};
@@ -6,16 +6,17 @@ ghost use Rattle.kt_claim.specs.Common.{is_digit, is_blank, directive_in, planne
 use crate::begun::{Begun, Letters, LineKind, Opening, Purpose};
 use kt_base::is_digit;
 
-/// A plan has fewer tests than this.
+/// The number of tests that a plan must be less than.
 pub const LIMIT: u64 = 1_000_000_000;
 
+/// Returns `true` for a space or a tab.
 pub fn is_blank(b: u8) -> bool
     ensures { result ≡ is_blank b }
 {
     matches!(b, b' ' | b'\t')
 }
 
-/// The state after the first byte of a line.
+/// Returns the state of a TAP line after its first byte.
 fn first(b: u8) -> Begun
     ensures facts { (kept more : List ℕ) → facts_with result kept more ≡ facts_of (b ∷ more) }
     ensures plain { is_reason result ≡ false }
@@ -29,6 +30,7 @@ fn first(b: u8) -> Begun
     }
 }
 
+/// Returns the state of a TAP line after the four letters of a directive.
 fn found(purpose: Purpose, is_skip: bool) -> Begun
     ensures facts { (kept more : List ℕ) → facts_with result kept more
         ≡ directed purpose (Some (is_skip, reason_of more)) }
@@ -41,6 +43,7 @@ fn found(purpose: Purpose, is_skip: bool) -> Begun
     }
 }
 
+/// Returns the state of a TAP line after the byte `b`, where a directive may begin with a hash.
 fn looking(purpose: Purpose, escaped: bool, b: u8) -> Begun
     ensures facts { (kept more : List ℕ) → facts_with result kept more
         ≡ directed purpose (directive_in escaped (b ∷ more)) }
@@ -53,6 +56,7 @@ fn looking(purpose: Purpose, escaped: bool, b: u8) -> Begun
     }
 }
 
+/// Returns the state of a TAP line after a hash, blanks if any, and the byte `b`.
 fn after_hash(purpose: Purpose, b: u8) -> Begun
     ensures facts { (kept more : List ℕ) → facts_with result kept more
         ≡ facts_with (Begun.Hash purpose) kept (b ∷ more) }
@@ -68,7 +72,7 @@ fn after_hash(purpose: Purpose, b: u8) -> Begun
     }
 }
 
-/// The letter that comes next in a directive.
+/// Returns the next letter of a directive, in lower case.
 fn next_letter(letters: Letters) -> u8
     ensures { result ≡ next_letter letters }
 {
@@ -81,7 +85,7 @@ fn next_letter(letters: Letters) -> u8
     }
 }
 
-/// One more letter.
+/// Returns the state of a TAP line after one more letter of a directive.
 fn more_letters(purpose: Purpose, letters: Letters) -> Begun
     ensures facts { (kept more : List ℕ) → facts_with result kept more ≡ with_letter purpose letters more }
     ensures plain { is_reason result ≡ false }
@@ -96,6 +100,7 @@ fn more_letters(purpose: Purpose, letters: Letters) -> Begun
     }
 }
 
+/// Returns the state of a TAP line after the first letters of a directive and the byte `b`.
 fn after_letters(purpose: Purpose, letters: Letters, b: u8) -> Begun
     ensures facts { (kept more : List ℕ) → facts_with result kept more
         ≡ facts_with (Begun.Lettered purpose letters) kept (b ∷ more) }
@@ -108,7 +113,10 @@ fn after_letters(purpose: Purpose, letters: Letters, b: u8) -> Begun
     }
 }
 
-/// The hash after a plan of this many tests. A plan of no tests may have a reason.
+/// Returns the state of a TAP line after a plan of `tests` tests and a hash.
+///
+/// Only a plan of no tests may have a reason. With 1,000,000,000 tests or more, the line is not a
+/// plan.
 fn hash_of_plan(tests: u64) -> Begun
     ensures facts { (kept more : List ℕ) → facts_with result kept more
         ≡ planning (option_map (plan_for (skips (directive_in false (35 ∷ more))))
@@ -124,6 +132,7 @@ fn hash_of_plan(tests: u64) -> Begun
     }
 }
 
+/// Returns the state of a TAP line after the digits of a plan, blanks if any, and the byte `b`.
 fn after_blanks(tests: u64, b: u8) -> Begun
     ensures facts { (kept more : List ℕ) → facts_with result kept more
         ≡ facts_with (Begun.Blanks tests) kept (b ∷ more) }
@@ -138,6 +147,9 @@ fn after_blanks(tests: u64, b: u8) -> Begun
     }
 }
 
+/// Returns the state of a TAP line after one more digit of a plan.
+///
+/// With 1,000,000,000 tests or more before this digit, the line is not a plan.
 fn one_digit_more(value: u64, digit: u64) -> Begun
     requires { digit < 2 ^ 8 }
     ensures facts { (b : ℕ) → is_digit b ≡ true → digit ≡ b - 48 → (kept more : List ℕ)
@@ -151,6 +163,7 @@ fn one_digit_more(value: u64, digit: u64) -> Begun
     }
 }
 
+/// Returns the state of a TAP line after the digit `b` of a plan.
 fn with_digit(value: Option<u64>, b: u8) -> Begun
     ensures facts { is_digit b ≡ true → (kept more : List ℕ)
         → facts_with result kept more ≡ facts_with (Begun.Digits value) kept (b ∷ more) }
@@ -163,6 +176,7 @@ fn with_digit(value: Option<u64>, b: u8) -> Begun
     }
 }
 
+/// Returns the state of a TAP line after `1..`, digits if any, and the byte `b`.
 fn after_plan_digits(value: Option<u64>, b: u8) -> Begun
     ensures facts { (kept more : List ℕ) → facts_with result kept more
         ≡ facts_with (Begun.Digits value) kept (b ∷ more) }
@@ -177,6 +191,7 @@ fn after_plan_digits(value: Option<u64>, b: u8) -> Begun
     }
 }
 
+/// Returns the state of a TAP line after a whole opening and the byte `b`.
 fn after_opening(opening: Opening, b: u8) -> Begun
     ensures facts { (kept more : List ℕ) → facts_with result kept more
         ≡ after_opening opening (b ∷ more) }
@@ -191,6 +206,8 @@ fn after_opening(opening: Opening, b: u8) -> Begun
     }
 }
 
+/// Returns the state of a TAP line after the byte `b`, if the bytes `lacks` of the opening are
+/// missing.
 fn opened(opening: Opening, lacks: &'static [u8], b: u8) -> Begun
     ensures facts { (kept more : List ℕ) → facts_with result kept more
         ≡ facts_with (Begun.Opened opening lacks.entry) kept (b ∷ more) }
@@ -203,7 +220,7 @@ fn opened(opening: Opening, lacks: &'static [u8], b: u8) -> Begun
     }
 }
 
-/// The state of a line after one more byte, unless the byte belongs to a reason.
+/// Returns the state of a TAP line after one more byte. The caller handles the bytes of a reason.
 pub fn step(begun: Begun, b: u8) -> Begun
     ensures facts { is_kept begun b ≡ false → (kept more : List ℕ)
         → facts_with result kept more ≡ facts_with begun kept (b ∷ more) }

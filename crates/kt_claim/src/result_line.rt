@@ -1,4 +1,4 @@
-//! A result file, read from the left.
+//! Parses a result file, from left to right.
 
 ghost use Rattle.std.specs.Prelude.{◌≡◌, ◌≤◌, ◌<◌, length, IfOk, option_map};
 ghost use Rattle.std.specs.List.{prefix_len};
@@ -10,7 +10,7 @@ use crate::{Claim, ClaimFault};
 use kt_base::{NoMemory, Text, decimal_up_to, digits_length, lossy};
 use std::alloc::Global;
 
-/// The words of result files.
+/// A keyword of a result file.
 #[derive(Clone, Copy)]
 pub enum Word {
     Passed,
@@ -24,6 +24,7 @@ pub enum Word {
 }
 
 impl Word {
+    /// Returns the keyword that is spelled `word`, if there is one.
     #[tactic(auto, unfolding(crate::specs::Inner::ResultReading::word_of))]
     pub fn of(word: &[u8]) -> Option<Word>
         ensures { result ≡ word_of word.now }
@@ -55,6 +56,7 @@ impl Word {
         None
     }
 
+    /// Returns `true` if a number in round brackets may follow the keyword.
     pub fn may_have_number(self) -> bool
         ensures { result ≡ may_have_number self }
     {
@@ -62,6 +64,7 @@ impl Word {
     }
 }
 
+/// Returns the number of lower-case letters and underscores that a text begins with.
 fn word_length(text: &[u8]) -> usize
     ensures value { result ≡ prefix_len is_word_byte text.now }
     ensures within { result ≤ length text.now }
@@ -71,7 +74,9 @@ fn word_length(text: &[u8]) -> usize
         .count()
 }
 
-/// The number after a bracket, if it is at most 255, and what follows the closing bracket.
+/// Parses the number after an opening bracket, if it is at most 255 and a closing bracket follows.
+///
+/// Returns the number and the bytes after the closing bracket.
 #[tactic(auto, unfolding(crate::specs::Inner::ResultReading::number_in))]
 fn number(rest: &[u8]) -> Option<(u8, &[u8])>
     ensures { option_map (λ x. (x.0, x.1.now)) result ≡ number_in rest.now }
@@ -89,6 +94,7 @@ fn number(rest: &[u8]) -> Option<(u8, &[u8])>
     }
 }
 
+/// Returns the reason after a colon and a space, if there is one.
 fn reason(rest: &[u8]) -> Option<&[u8]>
     ensures { option_map (λ x. x.now) result ≡ reason_in rest.now }
 {
@@ -99,6 +105,7 @@ fn reason(rest: &[u8]) -> Option<&[u8]>
     }
 }
 
+/// Creates the claim of a keyword that has no number.
 fn claim_with(word: Word, reason: Text) -> Claim
     ensures { result ≡ claim_with word reason }
 {
@@ -114,6 +121,7 @@ fn claim_with(word: Word, reason: Text) -> Claim
     }
 }
 
+/// Creates the claim of a keyword that has a number.
 fn numbered(word: Word, number: u8, reason: Text) -> Claim
     ensures { result ≡ numbered word number reason }
 {
@@ -124,6 +132,7 @@ fn numbered(word: Word, number: u8, reason: Text) -> Claim
     }
 }
 
+/// Parses the bytes of a result file after a keyword and an opening bracket.
 fn after_bracket(alloc: Global, word: Word, rest: &[u8]) -> Result<Claim, NoMemory>
     ensures { IfOk result (λ claim. claim ≡ after_bracket word rest.now) }
 {
@@ -139,7 +148,7 @@ fn after_bracket(alloc: Global, word: Word, rest: &[u8]) -> Result<Claim, NoMemo
     Ok(numbered(word, number, lossy(alloc, reason)?))
 }
 
-/// The claim of a file that is no longer than the limit.
+/// Returns the claim of a result file of at most 65,536 bytes.
 #[tactic(auto, unfolding(crate::specs::Inner::ResultReading::claim_of, crate::specs::Inner::ResultReading::claim_of_line))]
 pub fn claim_of(alloc: Global, file: &[u8]) -> Result<Claim, NoMemory>
     requires { length file.now ≤ limit }

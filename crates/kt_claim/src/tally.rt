@@ -7,18 +7,22 @@ use crate::{Tap, TapFault};
 use kt_base::{NoMemory, Text, lossy};
 use std::alloc::Global;
 
-/// Counts of the lines of a stream before its first bail out.
+/// The counts of the lines of a TAP stream before its first bail out.
 #[derive(Drop)]
 pub struct Tally {
+    /// `true` if a line bails out.
     pub bailed: bool,
-    /// The first plan: how many tests, and the reason if there are none.
+    /// The first plan: the number of tests, and the reason if that number is 0.
     pub plan: Option<(u64, Text)>,
-    /// There is a second plan.
+    /// `true` if there is a second plan.
     pub second: bool,
+    /// The number of tests.
     pub tests: u64,
+    /// The number of failed tests without a directive.
     pub failures: u64,
 }
 
+/// Returns the reason of a skipped program, or a fixed text if `reason` is empty.
 fn skip_reason(alloc: Global, reason: &[u8]) -> Result<Text, NoMemory>
     ensures { IfOk result (λ text. text ≡ skip_reason reason.now) }
 {
@@ -28,7 +32,7 @@ fn skip_reason(alloc: Global, reason: &[u8]) -> Result<Text, NoMemory>
     lossy(alloc, reason)
 }
 
-/// A plan of no tests has a reason.
+/// Returns the reason of a plan of `tests` tests, which is empty unless `tests` is 0.
 fn why(alloc: Global, tests: u64, reason: &[u8]) -> Result<Text, NoMemory>
     ensures { IfOk result (λ text. text ≡ why tests reason.now) }
 {
@@ -39,6 +43,7 @@ fn why(alloc: Global, tests: u64, reason: &[u8]) -> Result<Text, NoMemory>
     }
 }
 
+/// Returns `n + 1`, or `u64::MAX` if that overflows.
 fn one_more(n: u64) -> u64
     ensures { n < 2 ^ 32 → result ≡ n + 1 }
 {
@@ -48,6 +53,7 @@ fn one_more(n: u64) -> u64
 impl Tally {
     ghost use Rattle.kt_claim.specs.Inner.TapReading.{IsTally, with_plan};
 
+    /// Creates a tally of no lines.
     pub fn new() -> Tally
         ensures { IsTally result [] }
     {
@@ -60,6 +66,7 @@ impl Tally {
         }
     }
 
+    /// Returns the tally with a line that bails out.
     fn with_bail(self) -> Tally
         ensures { result ≡ record self { bailed = true } }
     {
@@ -69,6 +76,7 @@ impl Tally {
         }
     }
 
+    /// Returns the tally with one more test.
     fn with_test(self) -> Tally
         ensures { self.tests < 2 ^ 32 → result ≡ record self { tests = self.tests + 1 } }
     {
@@ -78,6 +86,7 @@ impl Tally {
         }
     }
 
+    /// Returns the tally with one more failure.
     fn with_failure(self) -> Tally
         ensures { self.failures < 2 ^ 32 → result ≡ record self { failures = self.failures + 1 } }
     {
@@ -87,6 +96,7 @@ impl Tally {
         }
     }
 
+    /// Returns the tally with one more plan. Only the first plan is kept.
     fn with_plan(self, alloc: Global, tests: u64, reason: &[u8]) -> Result<Tally, NoMemory>
         ensures { IfOk result (λ after. after ≡ with_plan self tests (why tests reason.now)) }
     {
@@ -101,7 +111,9 @@ impl Tally {
         Ok(Tally { plan, ..self })
     }
 
-    /// Counts one more line of this kind; `reason` is that of a plan of no tests. Lines after a bail out don't count.
+    /// Returns the tally with one more line of this kind. Lines after a bail out don't count.
+    ///
+    /// `reason` is the reason of a plan of no tests.
     pub fn add(self, alloc: Global, kind: LineKind, reason: &[u8]) -> Result<Tally, NoMemory>
         ensures { IfOk result (λ after. (line : List ℕ) (lines : List (List ℕ))
             → facts_of line ≡ facts_of_kind kind reason.now → length lines < 2 ^ 32
@@ -119,7 +131,7 @@ impl Tally {
         }
     }
 
-    /// The answer of the lines that were counted.
+    /// Returns the result of the lines that were counted.
     pub fn tap(self) -> Tap
         ensures { (lines : List (List ℕ)) → IsTally self lines → result ≡ tap_of_lines lines }
     {

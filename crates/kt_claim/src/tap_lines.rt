@@ -1,4 +1,4 @@
-//! The lines of a TAP stream that comes in pieces.
+//! Splits a TAP stream, which is read in pieces, into lines.
 
 ghost use Rattle.std.specs.Prelude.{◌≡◌, ◌<◌, ◌≤◌, ◌+◌, ◌++◌, ◌∷◌, [], false, ℕ, List, length, IfOk, OnOk};
 ghost use Rattle.kt_claim.specs.Common.{list_any, is_newline, tap_of_lines, lines_of, state_of, HasLines, Tally};
@@ -11,7 +11,7 @@ use crate::tally::Tally;
 use kt_base::{NoMemory, line_length};
 use std::alloc::Global;
 
-/// Takes the next part of the open line.
+/// Reads the next part of the open line of a TAP stream.
 fn take_part(line: &mut OpenLine, part: &[u8]) -> Result<(), NoMemory>
     ensures { OnOk result (list_any is_newline part.now ≡ false → (tally : Tally) (fed : List ℕ)
         → HasLines tally (state_of line.old) fed
@@ -21,7 +21,7 @@ fn take_part(line: &mut OpenLine, part: &[u8]) -> Result<(), NoMemory>
     Ok(())
 }
 
-/// Counts the open line, which now has its newline.
+/// Counts the open line of a TAP stream, whose newline was read, and begins the next line.
 fn end_line(alloc: Global, tally: Tally, line: &mut OpenLine) -> Result<Tally, NoMemory>
     ensures { IfOk result (λ after. (fed : List ℕ) → length fed < limit
         → HasLines tally (state_of line.old) fed
@@ -34,7 +34,7 @@ fn end_line(alloc: Global, tally: Tally, line: &mut OpenLine) -> Result<Tally, N
     Ok(after)
 }
 
-/// The answer of the lines, the last one included.
+/// Returns the result of a TAP stream that has ended, after its open line was counted.
 pub fn tap_at_end(alloc: Global, tally: Tally, line: &OpenLine) -> Result<Tap, NoMemory>
     ensures { IfOk result (λ tap. (fed : List ℕ) → length fed ≤ limit
         → HasLines tally (state_of line.now) fed → tap ≡ tap_of_lines (lines_of fed)) }
@@ -43,7 +43,7 @@ pub fn tap_at_end(alloc: Global, tally: Tally, line: &OpenLine) -> Result<Tap, N
     Ok(tally.tap())
 }
 
-/// Counts the lines that end in a piece, and keeps the beginning of the next.
+/// Counts the lines of a TAP stream that end in a piece, and keeps the state of the open line.
 pub fn read(
     alloc: Global,
     tally: Tally,

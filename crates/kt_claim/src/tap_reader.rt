@@ -10,11 +10,13 @@ use std::alloc::Global;
 use std::marker::Model;
 use std::mem;
 
-/// The most bytes of a stream.
+/// The greatest length of a TAP stream, in bytes.
 const LIMIT: usize = 16_777_216;
 
-/// Reads a TAP stream that comes in pieces. It keeps counts, the first plan and the state of the
-/// open line, but no bytes other than the reason of a plan.
+/// A reader of a TAP stream that is read in pieces.
+///
+/// The reader keeps counts, the first plan and the state of the open line. Of the bytes, it keeps
+/// only the reason of a plan.
 #[derive(Drop)]
 pub struct TapReader {
     alloc: Global,
@@ -48,7 +50,7 @@ impl TapReader {
     ghost use Rattle.std.specs.Prelude.{false, ◌≡◌, ◌++◌, ℕ, List, [], true, IfOk, OnOk, OnErr, IsErr};
     ghost use Rattle.kt_claim.specs.Common.{HasStream, KeepsLittle, tap_of};
 
-    /// A reader that has read nothing.
+    /// Creates a reader that has read nothing. The call doesn't allocate.
     pub fn new(alloc: Global) -> Self
         ensures { HasStream result [] }
     {
@@ -66,7 +68,13 @@ impl TapReader {
         }
     }
 
-    /// Takes the next piece. Once memory has run out, each later call returns that.
+    /// Reads the next bytes of the TAP stream.
+    ///
+    /// If the stream has more than 16,777,216 bytes, its result is `Invalid(TooLong)`.
+    ///
+    /// # Errors
+    ///
+    /// - `NoMemory`: an allocation fails in this call, or failed in an earlier call.
     pub fn feed(&mut self, piece: &[u8]) -> Result<(), NoMemory>
         ensures ok { OnOk result ((fed : List ℕ) → HasStream self.old fed
             → HasStream self.new (fed ++ piece.now)) }
@@ -94,7 +102,12 @@ impl TapReader {
         Ok(())
     }
 
-    /// What the pieces joined say.
+    /// Returns the result of the TAP stream that was read (the TAP specification, as in this
+    /// profile).
+    ///
+    /// # Errors
+    ///
+    /// - `NoMemory`: an allocation fails in this call, or failed in an earlier call.
     pub fn finish(self) -> Result<Tap, NoMemory>
         ensures value { (fed : List ℕ) → HasStream self fed
             → IfOk result (λ tap. tap ≡ tap_of fed) }
@@ -110,7 +123,11 @@ impl TapReader {
     }
 }
 
-/// What a TAP stream says.
+/// Parses a whole TAP stream, and returns its result (the TAP specification, as in this profile).
+///
+/// # Errors
+///
+/// - `NoMemory`: an allocation fails.
 pub fn read_tap(alloc: Global, text: &[u8]) -> Result<Tap, NoMemory>
     ensures { IfOk result (λ tap. tap ≡ tap_of text.now) }
 {

@@ -1,4 +1,4 @@
--- A result file, read from the left.
+-- Parses a result file from left to right.
 use Rattle.std.specs.Prelude.{ℕ, Bool, true, false, not, ◌&&◌, ◌==◌, nat_eq, nat_lt, if◌then◌else◌, List, [], ◌∷◌, length, take, drop, codes, bytes_eq, Option, Some, None}
 use Rattle.std.specs.List.{prefix_len, starts_with, ends_with, list_any}
 use Rattle.kt_base.specs.Digits.{is_digit, up_to}
@@ -12,7 +12,7 @@ use Rattle.kt_claim.specs.declared.evidence.ClaimFault.TheVariants.{TooLong, Emp
 use Rattle.kt_claim.specs.declared.result_line.Word.{Word}
 use Rattle.kt_claim.specs.declared.result_line.Word.TheVariants.{Passed, Failed, Skipped, ExpectedDeath, ExpectedFailure, ExpectedTimeout, ExpectedExit, ExpectedSignal}
 
--- the word that a line begins with, if it is one of the eight
+-- `word_of w`: the keyword spelled `w`, if `w` is one of the eight.
 unfoldable pub word_of : List ℕ → Option Word
 word_of w =
     if bytes_eq w (codes "passed") then Some Passed
@@ -25,7 +25,7 @@ word_of w =
     else if bytes_eq w (codes "expected_signal") then Some ExpectedSignal
     else None
 
--- a claim without a number
+-- `claim_with w r`: the claim of the keyword `w` with the reason `r` and no number.
 abbrev pub claim_with : Word → List ℕ → Claim
 claim_with Passed _ = claim.Passed
 claim_with Failed r = claim.Failed r
@@ -36,72 +36,74 @@ claim_with ExpectedTimeout r = claim.ExpectedTimeout r
 claim_with ExpectedExit r = claim.ExpectedExit None r
 claim_with ExpectedSignal r = claim.ExpectedSignal None r
 
--- one of the two words that may have a number, with it
+-- `numbered w n r`: the claim of the keyword `w` with the number `n` and the reason `r`.
 abbrev pub numbered : Word → ℕ → List ℕ → Claim
 numbered ExpectedExit n r = claim.ExpectedExit (Some n) r
 numbered ExpectedSignal n r = claim.ExpectedSignal (Some n) r
 numbered _ n r = claim.Malformed BadNumber
 
--- the reason, if one is given
+-- `reason_in rest`: the reason after a colon and a space, if there is one.
 abbrev pub reason_in : List ℕ → Option (List ℕ)
 reason_in rest = if starts_with nat_eq rest (codes ": ") && nat_lt 2 (length rest) then Some (drop 2 rest) else None
 
--- the claim with the reason that is given; none without one
+-- `with_reason_in make reason`: the claim of this reason by `make`, or the fault `NoReason`.
 abbrev pub with_reason_in : (List ℕ → Claim) → Option (List ℕ) → Claim
 with_reason_in make None = claim.Malformed NoReason
 with_reason_in make (Some reason) = make (lossy reason)
 
--- the number, and what follows its closing bracket
+-- `closed n rest`: the number `n` and the bytes after the closing bracket, if both exist.
 abbrev pub closed : Option ℕ → List ℕ → Option (ℕ × List ℕ)
 closed None rest = None
 closed (Some n) [] = None
 closed (Some n) (b ∷ rest) = if b == 41 then Some (n, rest) else None
 
--- the value of digits, if there are some and it is one of an exit status or of a signal
+-- `value_of digits`: the value of one or more digits, if it is at most 255.
 abbrev pub value_of : List ℕ → Option ℕ
 value_of [] = None
 value_of (d ∷ digits) = up_to 255 (number (d ∷ digits))
 
--- the number after an opening bracket, and what follows the closing one
+-- `number_in rest`: the number after an opening bracket, and the bytes after the closing bracket.
 unfoldable pub number_in : List ℕ → Option (ℕ × List ℕ)
 number_in rest = closed (value_of (take (prefix_len is_digit rest) rest)) (drop (prefix_len is_digit rest) rest)
 
--- the claim of a word with the number that is given
+-- `with_number_in w found`: the claim of the keyword `w` with the number found and the reason after
+-- it.
 abbrev pub with_number_in : Word → Option (ℕ × List ℕ) → Claim
 with_number_in w None = claim.Malformed BadNumber
 with_number_in w (Some found) = with_reason_in (numbered w found.0) (reason_in found.1)
 
--- whether a word may have a number
+-- `may_have_number w`: the keyword `w` may have a number.
 abbrev pub may_have_number : Word → Bool
 may_have_number ExpectedExit = true
 may_have_number ExpectedSignal = true
 may_have_number _ = false
 
--- what follows the word, where a bracket does
+-- `after_bracket w rest`: the claim of the keyword `w`, an opening bracket and `rest`.
 abbrev pub after_bracket : Word → List ℕ → Claim
 after_bracket w rest = if may_have_number w then with_number_in w (number_in rest) else claim.Malformed BadNumber
 
--- what follows the word, where no bracket does
+-- `plainly w rest`: the claim of the keyword `w` and `rest`, which begins with no bracket.
 abbrev pub plainly : Word → List ℕ → Claim
 plainly Passed [] = claim.Passed
 plainly Passed (_ ∷ _) = claim.Malformed UnexpectedReason
 plainly w rest = with_reason_in (claim_with w) (reason_in rest)
 
--- what follows the word
+-- `claim_after w rest`: the claim of the keyword `w` and `rest`.
 abbrev pub claim_after : Word → List ℕ → Claim
 claim_after w [] = plainly w []
 claim_after w (b ∷ rest) = if b == 40 then after_bracket w rest else plainly w (b ∷ rest)
 
--- the claim of a line with this word
+-- `after_known w rest`: the claim of a keyword and `rest`, or the fault that the keyword is
+-- unknown.
 abbrev pub after_known : Option Word → List ℕ → Claim
 after_known None rest = claim.Malformed UnknownWord
 after_known (Some w) rest = claim_after w rest
 
--- the claim of a line
+-- `claim_of_line text`: the claim of a line.
 unfoldable pub claim_of_line : List ℕ → Claim
 claim_of_line text = after_known (word_of (take (prefix_len is_word_byte text) text)) (drop (prefix_len is_word_byte text) text)
 
--- the claim of a file
+-- `claim_of file`: the claim of a file.
 unfoldable pub claim_of : List ℕ → Claim
 claim_of file =
     if nat_lt limit (length file) then claim.Malformed TooLong

@@ -1,4 +1,4 @@
--- What a reader of a TAP stream has read.
+-- The state of a reader of a TAP stream.
 use Rattle.std.specs.Prelude.{◌≡◌, ℕ, ◌+◌, ◌≤◌, Bool, true, false, if◌then◌else◌, List, [], ◌∷◌, ◌++◌, map, length, Option, Some, None, is_some}
 use Rattle.std.specs.List.{list_any, filter_map}
 use Rattle.kt_base.specs.Lines.{is_newline, lines}
@@ -7,22 +7,22 @@ use Rattle.kt_claim.specs.TapStream.{is_bail, is_test, is_unexcused, plan, count
 use Rattle.kt_claim.specs.declared.begun.OpenLine.{OpenLine}
 use Rattle.kt_claim.specs.declared.tally.Tally.{Tally}
 
--- 1 for true, 0 for false
+-- `one b`: 1 if `b` is true, otherwise 0.
 abbrev pub one : Bool → ℕ
 one true = 1
 one false = 0
 
--- the first, if there is one
+-- `first list`: the first item of a list, if there is one.
 abbrev pub first : {T : Type 0} → List T → Option T
 first [] = None
 first (x ∷ xs) = Some x
 
--- whether there are two or more
+-- `has_second list`: a list has two items or more.
 abbrev pub has_second : {T : Type 0} → List T → Bool
 has_second (x ∷ y ∷ xs) = true
 has_second _ = false
 
--- a tally of these lines
+-- `IsTally tally lines`: `tally` has the counts of `lines`.
 pub record IsTally (tally : Tally) (lines : List (List ℕ)) : Type 0 where
   pub bailed : tally.bailed ≡ list_any is_bail lines
   pub planned : tally.plan ≡ first (filter_map plan (heard lines))
@@ -30,11 +30,12 @@ pub record IsTally (tally : Tally) (lines : List (List ℕ)) : Type 0 where
   pub tests : tally.tests ≡ count is_test (heard lines)
   pub failures : tally.failures ≡ count is_unexcused (heard lines)
 
--- what is kept of a line, as a reader keeps it
+-- `state_of line`: the state of an open line as a reader stores it.
 abbrev pub state_of : OpenLine → LineState
 state_of line = record { begun = line.begun; kept = line.kept.items; held = line.held }
 
--- these bytes came: whole lines, which are tallied, and the beginning of one more
+-- `HasLines tally line fed`: `fed` is whole lines with the counts of `tally`, then an open line in
+-- the state `line`.
 pub record HasLines (tally : Tally) (line : LineState) (fed : List ℕ) : Type 0 where
   pub whole : List (List ℕ)
   pub open_line : List ℕ
@@ -44,6 +45,6 @@ pub record HasLines (tally : Tally) (line : LineState) (fed : List ℕ) : Type 0
   pub fits : length whole + length open_line ≤ length fed
   pub known : Knows line.begun line.kept line.held open_line
 
--- a tally with one more plan; only the first is kept
+-- `with_plan tally tests reason`: `tally` with one more plan. Only the first plan is kept.
 abbrev pub with_plan : Tally → ℕ → List ℕ → Tally
 with_plan tally tests reason = if is_some tally.plan then record tally { second = true } else record tally { plan = Some (tests, reason) }
