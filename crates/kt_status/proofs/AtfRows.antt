@@ -1,4 +1,4 @@
--- The ATF table.
+-- The rows of the ATF table.
 use Rattle.std.proofs.Common.{ℕ, Some, None, refl, sym, subst, arith, codes, nat_eq}
 use Rattle.kt_status.proofs.Common.{Outcome, Exited, Signaled, TimedOut, WaitFailed, Judged, AtfRow, atf_verdict}
 use Rattle.kt_claim.specs.declared.evidence.Claim.{Claim}
@@ -39,7 +39,7 @@ signal_row (ExpectedSignal None r) signal = 17
 signal_row (ExpectedSignal (Some due) r) signal = at_or_next (nat_eq due signal) 17 18
 signal_row (ExpectedTimeout r) signal = 20
 
--- the number of the first row that fits
+-- `atf_row c e`: the number of the first row that fits the claim `c` and the outcome `e`.
 abbrev pub atf_row : Claim → Outcome → ℕ
 atf_row c (Exited code) = exit_row c code
 atf_row c (Signaled signal core) = signal_row c signal

@@ -1,4 +1,4 @@
--- The tables of plain programs and of TAP; the verdict on a body.
+-- The rows of the tables of plain programs and of TAP, and the verdict on a body.
 use Rattle.std.proofs.Common.{◌≡◌, ℕ, ◌<◌, Bool, true, false, refl, sym, subst, arith, nat_eq, nat_lt, if◌then◌else◌}
 use Rattle.kt_status.proofs.Common.{ltb-true, lt-ltb, Outcome, Exited, Signaled, TimedOut, WaitFailed, Judged, AtfRow, PlainRow, TapRow, IsVerdict, atf_verdict, plain_verdict, tap_verdict, verdict_of}
 use Rattle.kt_claim.specs.declared.evidence.Tap.{Tap}
@@ -60,7 +60,7 @@ tap_fits (Invalid f) (Exited code) = row.tap_invalid f code
 tap_fits (SkipAll r) (Exited code) = row.tap_skipped r code
 tap_fits (Counted some all) (Exited code) = counted_fits (nat_lt 0 some) some all code refl
 
--- a row behind that of failed tests
+-- A row after the row of failed tests decides only if no test failed.
 pub behind_failed : (t : Bool) (first m : ℕ) (x y v : Judged) → 7 < m → Least first y m v → Least (if t then 7 else first) (if t then x else y) m v
 behind_failed true first m x y v lt h = (omega arith, λ e. absurd (omega arith))
 behind_failed false first m x y v lt h = h
@@ -81,7 +81,7 @@ tap_least _ _ _ _ (row.tap_dubious some all code) = behind_failed (nat_lt 0 some
 
 -- ---- bodies
 
--- what the table gives is the verdict, and the only one
+-- The value of the table is a verdict on the body, and the only one.
 pub body_only : (e : Evidence) (o : Outcome) (v : Judged) → v ≡ verdict_of e o → IsVerdict e o v × ((other : Judged) → IsVerdict e o other → v ≡ other)
 body_only (evidence.Atf c) o v is = rw is (only (λ n v. AtfRow n c o v) (atf_row c o) (atf_verdict c o) (atf_fits c o) (λ m x h. atf_least m c o x h))
 body_only (evidence.Tap t) o v is = rw is (only (λ n v. TapRow n t o v) (tap_row t o) (tap_verdict t o) (tap_fits t o) (λ m x h. tap_least m t o x h))

@@ -1,4 +1,4 @@
--- The tables of refused starts and of cleanups.
+-- The rows of the tables of refused starts and of cleanups.
 use Rattle.std.proofs.Common.{◌≡◌, ℕ, ◌<◌, Bool, true, false, refl, sym, subst, arith, codes, nat_eq, if◌then◌else◌}
 use Rattle.kt_status.proofs.Common.{Outcome, Exited, Signaled, TimedOut, WaitFailed, Judged, RefusalRow, CleanupRow, IsVerdictOfRefusal, IsVerdictAfter, verdict_of_refusal, cleaned, verdict_after_cleanup}
 use Rattle.kt_base.specs.declared.child.Refused.{Refused}
@@ -63,7 +63,7 @@ end_least body TimedOut = (omega arith, λ e. absurd (omega arith))
 end_least body (Signaled s core) = here _ _
 end_least body WaitFailed = here _ _
 
--- a row of a good verdict, whether this one is good or not
+-- A row for good verdicts decides only if the verdict on the body is good.
 pub if_good : (t : Bool) (first n : ℕ) (x body v : Judged) → 1 < n → Least first x n v → Least (if t then first else 1) (if t then x else body) n v
 if_good true first n x body v lt h = h
 if_good false first n x body v lt h = (omega arith, λ e. absurd (omega arith))

@@ -4,41 +4,42 @@ use Rattle.kt_status.proofs.Common.{eqb-true, eq-eqb, Judged, FirstOf}
 
 -- ---- numbers of rows
 
--- of two rows in a row the first, where a test passes
+-- `at_or_next t n m`: the row `n` if the test `t` passes, otherwise the row `m`.
 abbrev pub at_or_next : Bool → ℕ → ℕ → ℕ
 at_or_next t n m = if t then n else m
 
 -- ---- two rows and a test
 
--- a row's case below a test: the test's own row, or the next
+-- The row of a test fits if the test passes, otherwise the next row does.
 pub at_equal : (n m a b : ℕ) (x y : Judged) (P : ℕ → Judged → Type 0) → (a ≡ b → P n x) → P m y → P (at_or_next (nat_eq a b) n m) (if nat_eq a b then x else y)
 at_equal n m a b x y P here next = at_test (nat_eq a b) (λ e. here (eqb-true a b e)) next where
   at_test : (t : Bool) → (t ≡ true → P n x) → P m y → P (at_or_next t n m) (if t then x else y)
   at_test true here next = here refl
   at_test false here next = next
 
--- a row is no earlier than the first that fits, and if it is that one it gives the verdict
+-- `Least first verdict n v`: row `n` is not before the row `first`, and gives `verdict` if it is
+-- that row.
 abbrev pub Least : ℕ → Judged → ℕ → Judged → Type 0
 Least first verdict n v = (first ≤ n) × (n ≡ first → v ≡ verdict)
 
--- the row of the test, where the test passes
+-- If a test passes, the row of the test is the first that fits.
 pub passes : (n m a b : ℕ) (x y : Judged) → a ≡ b → Least (at_or_next (nat_eq a b) n m) (if nat_eq a b then x else y) n x
 passes n m a b x y is = rw (eq-eqb a b is) (omega arith, λ e. refl)
 
--- the row behind it
+-- The row after the row of a test is not before the first that fits.
 pub next : (n m a b : ℕ) (x y : Judged) → n < m → Least (at_or_next (nat_eq a b) n m) (if nat_eq a b then x else y) m y
 next n m a b x y lt = at_test (nat_eq a b) n m x y lt where
   at_test : (t : Bool) (n m : ℕ) (x y : Judged) → n < m → Least (at_or_next t n m) (if t then x else y) m y
   at_test true n m x y lt = (omega arith, λ e. absurd (omega arith))
   at_test false n m x y lt = (omega arith, λ e. refl)
 
--- a row that is the first gives the verdict at once
+-- The first row that fits gives the verdict.
 pub here : (n : ℕ) (v : Judged) → Least n v n v
 here n v = (omega arith, λ e. refl)
 
 -- ---- from rows to verdicts
 
--- a verdict is that of the first row that fits, and no other is
+-- `IsOnly Row v`: `v` is the verdict of the first row that fits, and no other verdict is.
 abbrev pub IsOnly : (ℕ → Judged → Type 0) → Judged → Type 0
 IsOnly Row v = FirstOf Row v × ((other : Judged) → FirstOf Row other → v ≡ other)
 

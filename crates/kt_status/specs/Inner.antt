@@ -1,2 +1,2 @@
--- The verdicts as private functions compute them.
+-- The verdicts as functions, for private functions.
 pub mod Verdicts

@@ -4,6 +4,7 @@ ghost use Rattle.kt_status.specs.Common.{ending_text, phrase_text, broken, claim
 use kt_base::{Outcome, Phrase, Reason, Verdict};
 use kt_claim::{Claim, ClaimFault};
 
+/// Returns the phrase for an error in a result file.
 fn fault_phrase(fault: ClaimFault) -> Phrase
     ensures { phrase_text result ≡ codes "Invalid result file: " ++ claim_fault_text fault }
 {
@@ -19,14 +20,14 @@ fn fault_phrase(fault: ClaimFault) -> Phrase
     }
 }
 
-/// A claim of a certain end that did not come.
+/// Returns the verdict on a case whose outcome contradicts its claim.
 fn belied(phrase: Phrase, ending: Outcome) -> Verdict
     ensures { result ≡ broken (phrase_text phrase ++ ending_text ending) }
 {
     Verdict::broken(Reason::Ended(phrase, ending))
 }
 
-/// The verdict on an ATF case, by the first row that fits.
+/// Returns the verdict on an ATF case, by the first row of the ATF table that fits (this profile).
 pub fn atf_verdict(claim: Claim, ending: Outcome) -> Verdict
     ensures { result ≡ atf_verdict claim ending }
 {
@@ -36,7 +37,7 @@ pub fn atf_verdict(claim: Claim, ending: Outcome) -> Verdict
             Verdict::expected_failure(Reason::Owned(reason))
         }
         (_, Outcome::TimedOut) => Verdict::broken(Reason::Fixed(Phrase::BodyTimedOut)),
-        // The body ended by itself.
+        // In all cases from here on, the body exited or received a signal.
         (Claim::Missing, _) => belied(Phrase::PrematureExit, ending),
         (Claim::Unreadable, _) => Verdict::broken(Reason::Fixed(Phrase::ResultsUnreadable)),
         (Claim::Malformed(fault), _) => Verdict::broken(Reason::Fixed(fault_phrase(fault))),

@@ -4,6 +4,7 @@ ghost use Rattle.kt_status.specs.Common.{Judged, IsVerdictAfter, cleaned};
 use crate::CleanupEnd;
 use kt_base::{Outcome, Phrase, Reason, Verdict};
 
+/// Returns the verdict on a case whose body has the good verdict `body`, after its cleanup.
 fn cleaned(body: Verdict, end: CleanupEnd) -> Verdict
     ensures { result ≡ cleaned body end }
 {
@@ -16,7 +17,9 @@ fn cleaned(body: Verdict, end: CleanupEnd) -> Verdict
     Verdict::broken(Reason::Fixed(phrase))
 }
 
-/// The verdict on a case whose body has this verdict, after its cleanup. A bad verdict stays.
+/// Returns the verdict on a case after its cleanup, given the verdict on its body (this profile).
+///
+/// A bad verdict is kept: failed or broken. The call doesn't allocate.
 pub fn with_cleanup(body: Verdict, end: CleanupEnd) -> Verdict
     ensures row { IsVerdictAfter body end result }
     ensures only { (verdict : Judged) → IsVerdictAfter body end verdict → result ≡ verdict }

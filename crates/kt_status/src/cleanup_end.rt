@@ -1,8 +1,10 @@
 use kt_base::Outcome;
 
-/// What became of a declared cleanup.
+/// The outcome of a declared cleanup.
 #[derive(Clone, Copy)]
 pub enum CleanupEnd {
+    /// The cleanup could not be started.
     Refused,
+    /// The cleanup was started, and ended with this outcome.
     Ended(Outcome),
 }

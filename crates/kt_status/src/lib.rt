@@ -1,4 +1,4 @@
-//! The one verdict on a case, from what it said of itself and how it ended.
+//! Computes the verdict on a case from its evidence and its outcome.
 #![tactic(auto)]
 
 mod atf;

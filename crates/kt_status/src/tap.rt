@@ -4,6 +4,7 @@ ghost use Rattle.kt_status.specs.Common.{phrase_text, tap_fault_text, tap_verdic
 use kt_base::{Outcome, Phrase, Reason, Verdict};
 use kt_claim::{Tap, TapFault};
 
+/// Returns the phrase for an error in a TAP stream.
 fn fault_phrase(fault: TapFault) -> Phrase
     ensures { phrase_text result ≡ codes "TAP test program yielded invalid data: "
         ++ tap_fault_text fault }
@@ -17,7 +18,7 @@ fn fault_phrase(fault: TapFault) -> Phrase
     }
 }
 
-/// The verdict on a TAP case, by the first row that fits.
+/// Returns the verdict on a TAP case, by the first row of the TAP table that fits (this profile).
 pub fn tap_verdict(tap: Tap, ending: Outcome) -> Verdict
     ensures { result ≡ tap_verdict tap ending }
 {

@@ -6,7 +6,7 @@ use crate::tap::tap_verdict;
 use kt_base::{Outcome, Phrase, Reason, Refused, Verdict};
 use kt_claim::Evidence;
 
-/// The verdict on a plain case.
+/// Returns the verdict on the case of a plain program, by its outcome (this profile).
 pub fn plain_verdict(ending: Outcome) -> Verdict
     ensures { result ≡ plain_verdict ending }
 {
@@ -23,7 +23,8 @@ pub fn plain_verdict(ending: Outcome) -> Verdict
     }
 }
 
-/// The verdict on a case, from what it said of itself and how its body ended.
+/// Returns the verdict on a body, by its evidence and its outcome (this profile). The call doesn't
+/// allocate.
 pub fn body_verdict(evidence: Evidence, ending: Outcome) -> Verdict
     ensures row { IsVerdict evidence ending result }
     ensures only { (verdict : Judged) → IsVerdict evidence ending verdict → result ≡ verdict }
@@ -35,7 +36,8 @@ pub fn body_verdict(evidence: Evidence, ending: Outcome) -> Verdict
     }
 }
 
-/// The verdict on a case whose body, or the list of its program, could not be started.
+/// Returns the verdict on a case whose body, or the list of its program, could not be started (this
+/// profile). The call doesn't allocate.
 pub fn refused_verdict(refused: Refused) -> Verdict
     ensures row { IsVerdictOfRefusal refused result }
     ensures only { (verdict : Judged) → IsVerdictOfRefusal refused verdict → result ≡ verdict }
