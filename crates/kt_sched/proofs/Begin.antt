@@ -1,4 +1,4 @@
--- the first state, and what is taken
+-- The first state of the scheduler, and the records of cases.
 use Rattle.kt_sched.proofs.Common.{length, length-filter, slice_get, filter, Option, Some, None, is_some, map, ◌≡◌, ℕ, ◌<◌, Bool, true, false, cond, List, [], refl, sym, ◌∙◌, ap, arith, length-map, option_map, slice_get-map, Job, Case, NoEvent, turns, is_open, IsPlan, nothing_fed, first_case, first_stage, SchedState, Stands, IsStage, is_active_stage, is_owing_stage, is_fresh, positions, Judged, ◌≢◌, ◌≤◌, subst, slice_set, inl, inr, length-set, Entry, Stage, Decided, Finished, Taken, Event, of, IsEntry, decided, IsEntryOf, CaseRecord, Fed, TookEntry, IsAsked, is_over, is_owed, entry_with, record_in, decided_record, stage_work, work}
 use Rattle.kt_sched.specs.declared.next.Next.TheVariants as next
 use Rattle.kt_sched.proofs.Lists.{filter_none, mapped_at, count_by-set, sum_by-set}
@@ -6,12 +6,12 @@ use Rattle.kt_sched.proofs.Turns.{put_at_positions}
 use Rattle.kt_sched.proofs.Located.{Which, asked_as, each_set, located, which}
 use Rattle.std.proofs.lemmas.Option.{same_Some}
 
--- the state before the first answer
+-- `first_state w cases order`: the state before the first response, with the width `w`.
 abbrev pub first_state : ℕ → List Case → List ℕ → SchedState
 first_state w cases order =
     record { cases = cases; order = order; turn = 0; active = 0; width = w; pending = None; ready = None; asked = next.Done; failed = false }
 
--- no case is begun
+-- At first, no case is active and no case owes its cleanup.
 first_is : (o : Option Judged) → (is_fresh (first_stage o) ≡ true) × (is_active_stage (first_stage o) ≡ false) × (is_owing_stage (first_stage o) ≡ false)
 first_is None = (refl, refl, refl)
 first_is (Some v) = (refl, refl, refl)
@@ -64,7 +64,7 @@ new_stands {plan} {w = n} h l q e f = rw (e, f, q) (record {
   asked = tt;
 })
 
--- the record of a case makes its entry
+-- The record of a case makes the case's entry.
 record_entry : (i : ℕ) (job : Job) (was : Stage) (es : List Event) (t : CaseRecord) → IsStage i job was es → record_in job was ≡ Some t
     → IsEntry job es (entry_with job t)
 record_entry i job Decided es t s e = rw s.0 (by job.decided refl e)
@@ -75,7 +75,7 @@ record_entry i job Decided es t s e = rw s.0 (by job.decided refl e)
 record_entry i job (Finished x) es t s e = subst (λ (y : CaseRecord). IsEntry job es (entry_with job y)) (same_Some x t e) s.1
 record_entry i job was es t s e = absurd (cc)
 
--- and such a case is over
+-- A case with a record is over.
 record_over : (job : Job) (was : Stage) (t : CaseRecord) → record_in job was ≡ Some t
     → (is_over was ≡ true) × (is_active_stage was ≡ false) × (is_owing_stage was ≡ false) × (stage_work was ≡ 1) × (was ≢ Taken)
 record_over job Decided t e = (refl, refl, refl, refl, λ x. absurd (cc))

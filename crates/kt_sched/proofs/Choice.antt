@@ -1,4 +1,4 @@
--- what is chosen is the first that holds, what follows of it, and nothing else is next
+-- The chosen step is the first that applies, its consequences hold, and no other step is next.
 use Rattle.kt_sched.proofs.Common.{slice_get, Option, Some, None, drop, filter, is_some, nat_lt, ◌==◌, MatchOption, ◌⊎◌, if◌then◌else◌, ◌≡◌, ℕ, ◌+◌, ◌<◌, Bool, true, false, List, [], ◌∷◌, ◌++◌, length, refl, sym, ◌∙◌, ap, subst, arith, inl, inr, drop_of_length-le, false_from_ne_true, ⊤, nat_tests, slice_get_within, Body, Cleanup, Job, Next, Case, Trace, active, turns, next_to_start, IsBusy, recorded, Fed, has_failed, IsNext, IsChosen, IsHeld, MayBegin, SchedState, Stands, IsSettled, positions, opened, is_open, is_decided, is_undecided, is_none, IsPlan, body_starts, map, ◌≢◌, ◌≤◌, Role, Stage, Waiting, Owing, Taken, BodyStarted, end_mark, mark_of, of, history, is_whole, has_whole_history, Follows, WereOpen, IsStage, IsAsked, option_to_list, HasExclusive, CanLend}
 use Rattle.kt_sched.specs.declared.next.Next.TheVariants as next
 use Rattle.kt_sched.proofs.Lists.{filter_none, get_drop, slice_get-drop, within_some, filter_in, list_all_from}
@@ -32,7 +32,7 @@ module _ {plan : List Job} {n : ℕ} {fed : Fed} {b : SchedState} (h : Stands pl
   pub not_failed : (i : ℕ) → b.ready ≡ Some i → b.failed ≡ false
   not_failed i e = false_from_ne_true b.failed (λ f. cc (h.puts.stopped f, e))
 
-  -- where no decided case can be put, none is open from the turn on
+  -- If no decided case can be put, no decided case is open from the turn on.
   pub nothing_opened : b.ready ≡ None → IsSettled b → has_failed fed ≡ false → opened plan n fed.trace b.turn ≡ []
   nothing_opened r s f = filter_none (is_open plan n fed.trace) (drop b.turn (turns plan)) (λ j x g. false_from_ne_true _ (λ e.
       let xs = turns plan in
@@ -60,7 +60,7 @@ module _ {plan : List Job} {n : ℕ} {fed : Fed} {b : SchedState} (h : Stands pl
           let u = upcoming h job.position r s (h.puts.failed ∙ f, at_turn h b.turn job g, room.0, room.1) in
           absurd (cc (ap is_some (ap (λ (j : Job). j.decided) (same_Some job u.0.job (sym g ∙ u.0.turn)) ∙ u.3), d))
 
-  -- what is put next
+  -- The next put is that of the ready case, or else of the first open case.
   put_at : (rest : List ℕ) → has_failed fed ≡ false → option_to_list b.ready ++ positions (opened plan n fed.trace b.turn) ≡ rest
       → slice_get (recorded plan n fed.trace) fed.stored ≡ slice_get rest 0
   put_at rest f e = slice_get-drop (recorded plan n fed.trace) fed.stored ∙ ap (λ (xs : List ℕ). slice_get xs 0) (h.puts.ready f ∙ e)
@@ -87,16 +87,16 @@ module _ {plan : List Job} {n : ℕ} {fed : Fed} {b : SchedState} (h : Stands pl
   is_next next.Wait s c = (none_put c.0 s, sym h.cases.pending_is ∙ c.1, λ f. busy_where_held f c.3, something_runs h c.1 c.2)
   is_next next.Done s c = (none_put c.0 s, sym h.cases.pending_is ∙ c.1, λ f. busy_where_held f c.3, nothing_runs h c.2)
 
-  -- the job of a case that isn't taken
+  -- A case that isn't taken has the job of the plan.
   pub job_is : (i : ℕ) (c : Case) → slice_get b.cases i ≡ Some c → c.stage ≢ Taken → slice_get plan i ≡ Some c.job
   job_is i c g t = let l = located h i c.job c.stage g in l.place ∙ ap Some (sym (l.kept t))
 
-  -- a case that is to be started isn't taken
+  -- A case that is to be started isn't taken.
   pub untaken_start : (i : ℕ) (r : Role) → IsSettled b → IsChosen b (next.Start i r) → CanLend b.cases i
   untaken_start i Body s c = let u = upcoming h i c.0 s c.2 in (u.0.case, u.0.found, λ x. absurd (cc (u.1, x)))
   untaken_start i Cleanup s c = let w = owes h i c.1 in (record { job = w.0; stage = Owing w.1 }, w.2, λ t. absurd (cc))
 
-  -- where it is done, a case has no event or its history is whole
+  -- If no case is active, each case has no event or a whole history.
   part_whole : b.active ≡ 0 → (i : ℕ) (job : Job) → slice_get plan i ≡ Some job → (of i fed.trace ≡ []) ⊎ (has_whole_history fed.trace job ≡ true)
   part_whole a i job g =
       let s = h.cases.each i job g in
@@ -107,7 +107,7 @@ module _ {plan : List Job} {n : ℕ} {fed : Fed} {b : SchedState} (h : Stands pl
       by Waiting x w = inl x.0
       by stage x w = inr (w (λ e. absurd (cc (e))))
 
-  -- and if no put failed, the turn is past all cases: each is whole, and was open if it is decided
+  -- If no case is active, none can be started and no put failed, then the turn is past all cases.
   past : b.active ≡ 0 → IsHeld b → has_failed fed ≡ false → length (turns plan) ≤ b.turn
   past a (inl e) f = absurd (cc (h.puts.failed))
   past a (inr (inl e)) f = turn_past h e
@@ -125,7 +125,7 @@ module _ {plan : List Job} {n : ℕ} {fed : Fed} {b : SchedState} (h : Stands pl
   were_open f l i job g d =
       let c = covers h i job g in (h.puts.gone f).gone c.0 job (omega (arith, l, slice_get_within (turns plan) c.0 job c.1)) c.1 d
 
-  -- what follows of a choice
+  -- The consequences of the chosen step hold.
   pub follows : (q : Next) → IsSettled b → IsChosen b q → Follows plan n fed q
   follows (next.Put i) s c = tt
   follows (next.Start i Body) s c =
@@ -156,12 +156,12 @@ module _ {plan : List Job} {n : ℕ} {fed : Fed} {b : SchedState} (h : Stands pl
   not_done next.Done i c e d = absurd (cc (c.0, e))
   not_done q i c e d = absurd (cc)
 
-  -- what is chosen is asked
+  -- The state represents the same plan once the chosen step is the step asked.
   pub stands_asked : (q : Next) → IsSettled b → IsChosen b q → Stands plan n fed (record b { asked = q })
   stands_asked q s c =
       record { cases = h.cases; turn = h.turn; puts = h.puts; has_record = λ i e d. absurd (not_done q i c e d); asked = asked_for q s c }
 
--- where a body may begin, a wait isn't due
+-- If a body may begin, the run isn't busy.
 busy_not : (plan : List Job) (n : ℕ) (T : Trace) (i : ℕ) → IsPlan plan → MayBegin plan n T i → IsBusy plan n T → ⊥
 busy_not plan n T i p m (inl e) = absurd (omega (arith, e, m.room))
 busy_not plan n T i p m (inr h) =

@@ -1,4 +1,4 @@
--- The names that most proofs of this crate cite, passed on from one place. Declares nothing.
+-- The names that most proofs of this crate cite, re-exported. Declares nothing.
 pub use Rattle.std.proofs.Common.{Some, None, ◌≡◌, get_or, ℕ, zero, suc, ◌+◌, ◌≤◌, true, false, List, [], ◌∷◌, ◌++◌, length, drop, refl, sym, ◌∙◌, ap, arith, slice_get, filter, count_by, Option, is_some, is_none, not, ◌==◌, ◌&&◌, ◌||◌, if◌then◌else◌, ◌≢◌, ◌<◌, ◌⊎◌, Bool, cond, subst, inl, inr, append-nil, ◌-◌, map, IfSome, take, length-append, Err, Result, Ok, ◌^◌, append_assoc, nat_lt, sum_by, slice_set, MatchOption}
 pub use Rattle.std.proofs.Math.Bool.{and-true, or-false}
 pub use Rattle.std.proofs.Math.ListN.{drop_of_length-le}

@@ -1,4 +1,4 @@
--- decided cases: which of them are open from a turn on, and which an event opens
+-- Decided cases: those open from a turn on, and those that an event opens.
 use Rattle.kt_sched.proofs.Common.{ne_eqb, slice_get, filter, take, drop, Some, not, nat_lt, ◌==◌, ◌&&◌, ◌||◌, if◌then◌else◌, ◌≡◌, ◌≢◌, ℕ, zero, suc, ◌+◌, ◌-◌, ◌<◌, ◌≤◌, ◌⊎◌, Bool, true, false, List, [], ◌∷◌, refl, sym, ◌∙◌, ap, arith, inl, inr, and-true, or-false, and_from, and_parts, list_all, list_any, nat_tests, take-append-drop, filter-append, cases_eq, cases_lt, Job, Event, Trace, Then, active, turns, body_starts, is_open, was_open, is_begun, ahead, IsPlan, AreGone, opened, positions, is_decided, is_undecided}
 use Rattle.kt_sched.proofs.Lists.{any_none, filter_alike, filter_in, filter_none, get_drop, get_take, list_all_at, list_all_from, mapped_at, none_passes, take_within}
 use Rattle.kt_sched.proofs.Turns.{opens_now, turn_distinct, turn_sorted}
@@ -12,11 +12,11 @@ ahead_is (y ∷ ys) zero job d g = let e : y ≡ job = cc in rw (e, same_number 
 ahead_is (y ∷ ys) (suc k) job d g =
     rw (ne_eqb y.position job.position (d 0 y (omega arith) refl)) (ap (λ zs. y ∷ zs) (ahead_is ys k job (λ j x l q. d (suc j) x (omega (arith, l)) q) g))
 
--- there is room for a decided case beside this many active ones
+-- `room_in a n job`: with `a` active cases and the width `n`, there is a free slot for the job.
 abbrev pub room_in : ℕ → ℕ → Job → Bool
 room_in a n job = if job.exclusive then a == 0 else nat_lt a n
 
--- where there is room for a later case, there is for an earlier one
+-- If there is a free slot for a later case, there is one for an earlier case.
 room_falls : (a n : ℕ) (ex ey : Bool) → 0 < n → (ex ≡ true → ey ≡ true) → (if ey then a == 0 else nat_lt a n) ≡ true
     → (if ex then a == 0 else nat_lt a n) ≡ true
 room_falls a n ex ey z s h = grind (arith, nat_tests, s, h)
@@ -28,7 +28,7 @@ any_filtered q p (y ∷ ys) zero x g e f = let s : y ≡ x = cc in rw (s, e, f) 
 any_filtered q p (y ∷ ys) (suc k) x g e f = grind (arith, any_filtered q p ys k x g e f)
 
 module _ {plan : List Job} (T : Trace) (p : ℕ) (h : IsPlan plan) (s : body_starts T ≡ positions (filter is_undecided (take p (turns plan)))) where
-  -- the cases before the turn are begun
+  -- The cases before the turn are begun.
   begun_before : (j : ℕ) (job : Job) → j < p → slice_get (turns plan) j ≡ Some job → is_begun T job ≡ true
   begun_before j job l g =
       let q = λ (i : ℕ). i == job.position in
@@ -36,7 +36,7 @@ module _ {plan : List Job} (T : Trace) (p : ℕ) (h : IsPlan plan) (s : body_sta
       ∙ any_filtered q is_undecided (take p (turns plan)) j job (get_take (turns plan) p j l ∙ g) d (same_number job.position) in
       grind (arith, any)
 
-  -- that of the turn is if it is decided
+  -- The case at the turn is begun if and only if it is decided.
   begun_at : (job : Job) → slice_get (turns plan) p ≡ Some job → is_begun T job ≡ is_decided job
   begun_at job g =
       ap (λ b. is_decided job || b) (ap (list_any (λ i. i == job.position)) s ∙ any_none _ _ (λ k i q. ne_eqb i job.position (λ e. apart k i q e)))
@@ -58,7 +58,7 @@ module _ {plan : List Job} (T : Trace) (p : ℕ) (h : IsPlan plan) (s : body_sta
       apart : (j : ℕ) (x : Job) → j < k → slice_get (turns plan) j ≡ Some x → x.position ≢ job.position
       apart j x l q e = let z = turn_distinct plan h.placed j k x job q g e in omega (arith, l, z)
 
-  -- a decided case whose turn it is is open, if there is room
+  -- A decided case at the turn is open if there is a free slot for it.
   pub open_here : (n : ℕ) (job : Job) → slice_get (turns plan) p ≡ Some job → is_decided job ≡ true → room_in (active plan T) n job ≡ true
       → is_open plan n T job ≡ true
   open_here n job g d r =
@@ -66,7 +66,7 @@ module _ {plan : List Job} (T : Trace) (p : ℕ) (h : IsPlan plan) (s : body_sta
       let begun = list_all_from (is_begun T) (take p xs) (λ j x y. let l = take_within xs p j x y in begun_before j x l (sym (get_take xs p j l) ∙ y)) in
       and_from _ _ (and_from _ _ d (all_ahead p job g ∙ begun)) r
 
-  -- and it is where a later case is
+  -- If a later case is open, the case at the turn is decided and has a free slot.
   pub first_open : {n : ℕ} (k : ℕ) (job x : Job) → 0 < n → p ≤ k → slice_get (turns plan) p ≡ Some job → slice_get (turns plan) k ≡ Some x
       → is_open plan n T x ≡ true → (is_decided job ≡ true) × (room_in (active plan T) n job ≡ true)
   first_open {n} k job x z l g y e =
@@ -81,11 +81,11 @@ module _ {plan : List Job} (T : Trace) (p : ℕ) (h : IsPlan plan) (s : body_sta
       decided (inr q) d a =
           sym (begun_at job g) ∙ list_all_at (is_begun T) (take k (turns plan)) p job (get_take (turns plan) k p (omega (arith, l, q)) ∙ g) a
 
--- the turn goes on only over undecided cases
+-- `GoesOver plan p q`: the turn moves from `p` to `q`, and passes only undecided cases.
 abbrev pub GoesOver : List Job → ℕ → ℕ → Type 0
 GoesOver plan p q = (p ≤ q) × ((k : ℕ) (job : Job) → p ≤ k → k < q → slice_get (turns plan) k ≡ Some job → is_decided job ≡ false)
 
--- one event more, where none could be put
+-- One more event, at a time when no decided case could be put.
 module _ {plan : List Job} {n : ℕ} {T : Trace} (e : Event) {p q : ℕ} (over : GoesOver plan p q) (gone : AreGone plan n T p)
     (none : opened plan n T p ≡ []) where
   closed_before : (k : ℕ) (job : Job) → p ≤ k → slice_get (turns plan) k ≡ Some job → was_open plan n T job ≡ false
@@ -94,14 +94,14 @@ module _ {plan : List Job} {n : ℕ} {T : Trace} (e : Event) {p q : ℕ} (over :
       let at = get_drop (turns plan) p (k - p) ∙ (ap (slice_get (turns plan)) r ∙ g) in
       gone.due k job l g ∙ none_passes (is_open plan n T) (drop p (turns plan)) none (k - p) job at
 
-  -- a decided case before the turn was open before
+  -- A decided case before the turn was open before.
   passed : (k : ℕ) (job : Job) → k < q → slice_get (turns plan) k ≡ Some job → is_decided job ≡ true → was_open plan n T job ≡ true
   passed k job l g d = elim (cases_lt k p) [ inl x ↦ gone.gone k job x g d | inr x ↦ absurd (cc (over.1 k job x l g, d)) ]
 
   not_now : (k : ℕ) (job : Job) → k < q → slice_get (turns plan) k ≡ Some job → opens_now plan n T e job ≡ false
   not_now k job l g = grind (arith, passed k job l g)
 
-  -- what an event opens is what is open from the turn on
+  -- An event opens the decided cases that are open from the turn on.
   pub newly_open : filter (opens_now plan n T e) (turns plan) ≡ opened plan n (Then T e) q
   newly_open =
       let f = opens_now plan n T e in
@@ -112,7 +112,7 @@ module _ {plan : List Job} {n : ℕ} {T : Trace} (e : Event) {p q : ℕ} (over :
       ∙ and-true (is_open plan n (Then T e) job)) in
       ap (filter f) (sym (take-append-drop q xs)) ∙ (filter-append f (take q xs) (drop q xs) ∙ (rw none alike))
 
-  -- and then those before the turn had their due
+  -- After the event, each decided case before the turn was open.
   pub gone_after : AreGone plan n (Then T e) q
   gone_after = record {
     gone = λ k job l g d. rw (passed k job l g d) refl;

@@ -1,4 +1,4 @@
--- a state after one event more stands for one event more
+-- The state after an event represents the responses with that event.
 use Rattle.kt_sched.specs.declared.next.Next.TheVariants as next
 use Rattle.kt_sched.proofs.Common.{ne_eqb, Taken, filter, slice_get, count_by, Option, Some, None, ◌≡◌, ◌≢◌, ℕ, ◌+◌, ◌<◌, ◌≤◌, ◌⊎◌, true, false, cond, List, [], ◌∷◌, ◌++◌, length, drop, take, is_none, is_some, refl, sym, ◌∙◌, ap, subst, arith, slice_set, inl, inr, length-append, append-nil, drop-append-le, length-set, map-append, slice_get_within, cases_lt, cases_eq, Job, Stage, Finished, Case, Event, Then, position_of, of, turns, body_starts, body_start_of, recorded, Fed, has_failed, SchedState, Stands, CasesStand, TurnStands, PutsStand, IsStage, IsAfter, Replaced, IsSettled, HasTurn, is_active_stage, is_owing_stage, is_over, Owing, is_owed, is_fresh, is_undecided, HasRecord, owing_at, ready_at, record_in, positions, opened, stage_work, work, Trace, option_to_list}
 use Rattle.kt_sched.proofs.Lists.{cond_le, cond_one, cond_zero, pick, count_by-set, counted_one, sum_by-set, take_filter}
@@ -11,7 +11,8 @@ use Rattle.kt_sched.proofs.Decided.{GoesOver, newly_open, gone_after}
 use Rattle.std.proofs.lemmas.Option.{same_Some}
 use Rattle.kt_base.proofs.Lists.{same_number}
 
--- the turn after an event is past its case, and goes over no other
+-- `Turning plan T b i e t`: after the event `e` of case `i`, the turn `t` is past the body that it
+-- started, if any, and past no other body.
 pub record Turning (plan : List Job) (T : Trace) (b : SchedState) (i : ℕ) (e : Event) (t : ℕ) : Type 0 where
   pub starts : body_starts (Then T e) ≡ positions (filter is_undecided (take t (turns plan)))
   pub over : GoesOver plan b.turn t
@@ -19,18 +20,19 @@ pub record Turning (plan : List Job) (T : Trace) (b : SchedState) (i : ℕ) (e :
   pub here : (k : ℕ) → slice_get b.order k ≡ Some i → k < t
   pub before : (k m : ℕ) → slice_get b.order k ≡ Some m → m ≢ i → k < t → k < b.turn
 
--- nothing is owed but by this case
+-- `OwedBy i o`: no case other than `i` owes its cleanup.
 abbrev pub OwedBy : ℕ → Option ℕ → Type 0
 OwedBy i o = (k : ℕ) → k ≢ i → is_owed o k ≡ false
 
--- what an event answers was asked for
+-- `AskedFor b e`: the state `b` requested a step whose response is the event `e`.
 pub record AskedFor (b : SchedState) (e : Event) : Type 0 where
   pub empty : b.ready ≡ None
   pub settled : IsSettled b
   pub owing : OwedBy (position_of e) b.pending
   pub turned : body_start_of e ≡ position_of e ∷ [] → HasTurn b (position_of e)
 
--- an event of a case that was asked for: how its stage moves on, and with it the turn and what is active
+-- `EventStep plan n fed b e cs job was now t a`: the event moves the stage of its case from `was`
+-- to `now`, the turn to `t` and the number of active cases to `a`.
 pub record EventStep (plan : List Job) (n : ℕ) (fed : Fed) (b : SchedState) (e : Event) (cs : List Case) (job : Job) (was now : Stage) (t a : ℕ) : Type 0 where
   pub place : slice_get plan (position_of e) ≡ Some job
   pub moved : Replaced b.cases cs (position_of e) now was
@@ -39,11 +41,11 @@ pub record EventStep (plan : List Job) (n : ℕ) (fed : Fed) (b : SchedState) (e
   pub active : a + cond (is_active_stage was) 1 0 ≡ b.active + cond (is_active_stage now) 1 0
   pub asked : AskedFor b e
 
--- the state after an event: these cases, this turn, so many active, what is owed and what is ready
+-- `after_event b cases turn active pending ready`: the state `b` after an event, with these parts.
 abbrev pub after_event : SchedState → List Case → ℕ → ℕ → Option ℕ → Option ℕ → SchedState
 after_event b cases turn active pending ready = record b { cases = cases; turn = turn; active = active; pending = pending; ready = ready; asked = next.Done }
 
--- a state after one event more, with less work
+-- `After plan n fed b e later`: `later` represents one more event than `b`, and has less work left.
 pub record After (plan : List Job) (n : ℕ) (fed : Fed) (b : SchedState) (e : Event) (later : SchedState) : Type 0 where
   pub stands : Stands plan n (record fed { trace = Then fed.trace e }) later
   pub less : work later.cases < work b.cases
@@ -88,7 +90,7 @@ module _ {plan : List Job} {n : ℕ} {fed : Fed} {b : SchedState} {e : Event} {c
   counted : a ≡ count_by (λ (c : Case). is_active_stage c.stage) later
   counted = omega (arith, count_by-set (λ (c : Case). is_active_stage c.stage) b.cases i _ new s.moved.found, s.active, h.cases.active)
 
-  -- a case that waited had its turn, and one that was active was counted
+  -- A case that waited adds 1 to the number of active cases if it is active now.
   begun_now : is_fresh was ≡ true → a ≡ b.active + cond (is_active_stage now) 1 0
   begun_now f = omega (arith, s.active, cond_zero (is_active_stage was) (fresh_inactive was f))
 
@@ -140,7 +142,7 @@ module _ {plan : List Job} {n : ℕ} {fed : Fed} {b : SchedState} {e : Event} {c
     owed_within = λ k q. owed_within k q (cases_eq k i);
   }
 
-  -- the turn stays, if no body was to be started, and goes on by one if this body was
+  -- The turn moves on by one if the event started a body, and stays otherwise.
   turning : Turning plan fed.trace b i e t
   turning = elim m.kind [
     | inl f ↦
@@ -197,7 +199,7 @@ module _ {plan : List Job} {n : ℕ} {fed : Fed} {b : SchedState} {e : Event} {c
   none : has_failed fed ≡ false → opened plan n fed.trace b.turn ≡ []
   none = nothing_opened h s.asked.empty s.asked.settled
 
-  -- what it adds to the record order
+  -- The event adds the finished case and the opened cases to the record order.
   more : recorded plan n (Then fed.trace e)
       ≡ recorded plan n fed.trace ++ (pick (is_over now) i [] ++ positions (filter (opens_now plan n fed.trace e) (turns plan)))
   more =
@@ -205,7 +207,7 @@ module _ {plan : List Job} {n : ℕ} {fed : Fed} {b : SchedState} {e : Event} {c
       let f = finished_is fed.trace e (is_over now) h.cases.is_plan undecided s.place before (says i job now _ now_stands).whole in
       recorded_more plan n fed.trace e ∙ ap (λ xs. recorded plan n fed.trace ++ (xs ++ positions (filter (opens_now plan n fed.trace e) (turns plan)))) f
 
-  -- what is ready is the case of the event, if it is over
+  -- Only the case of the event is ready, and only if it is over.
   readied : (k : ℕ) → ready_at now b.failed i ≡ Some k → (k ≡ i) × (is_over now ≡ true)
   readied k y = (grind (arith, y), grind (arith, y))
 

@@ -1,4 +1,4 @@
--- how a run ends
+-- The exits of a run.
 use Rattle.kt_sched.proofs.Common.{Result, Option, Some, None, is_some, Ok, Err, ◌≡◌, ℕ, List, [], refl, append-nil, take, sym, ◌∙◌, ap, subst, arith, Job, SinkFault, Totals, Implies, IsPlan, AreEntries, Each, BusyAt, Trace, recorded, body_starts, Fed, IsNext, Follows, Ran, NoEvent, SchedState}
 use Rattle.kt_sched.specs.Run.{EndsAs}
 use Rattle.kt_sched.specs.Types.{NoMemory, RunFault, SinkFailed}
@@ -14,7 +14,7 @@ use Rattle.kt_sched.proofs.Once.{named_at_most_once, recorded_first}
 use Rattle.kt_sched.proofs.Loop.{Loop, fits}
 
 module _ {L S : Type 0} (l : launcher.Ghosts L) (s : sink.Ghosts S) (plan : List Job) (n : ℕ) (old : L) (before : S) (p : IsPlan plan) where
-  -- memory ran out before anything was done
+  -- A run whose first allocation failed has started and put nothing.
   pub ran_not : (refusal : Refusal) → Ran l s plan n old old before before (Err (NoMemory refusal))
   ran_not refusal = record {
     trace = NoEvent;
@@ -43,7 +43,7 @@ module _ {L S : Type 0} {l : launcher.Ghosts L} {s : sink.Ghosts S} {plan : List
   f : Follows plan n fed next.Done
   f = after_done plan n fed k.stands
 
-  -- at the exit, by what the sink gained
+  -- The entries that the sink gained, and the facts of the exit, make `Ran`.
   ran : {fault : Option SinkFault} (g : Gained s plan n fed totals fault before after) (result : Result Totals RunFault)
       → EndsAs s.puts plan n T g.gained before after result → Ran l s plan n old mid before after result
   ran g result ends = record {
@@ -58,7 +58,7 @@ module _ {L S : Type 0} {l : launcher.Ghosts L} {s : sink.Ghosts S} {plan : List
     ends = ends;
   }
 
-  -- no put failed
+  -- A run without a failed put returns its totals.
   pub ran_well : fault ≡ None → Ran l s plan n old mid before after (Ok totals)
   ran_well e =
       let g = subst (λ (o : Option SinkFault). Gained s plan n fed totals o before after) e k.gained in
@@ -80,7 +80,7 @@ module _ {L S : Type 0} {l : launcher.Ghosts L} {s : sink.Ghosts S} {plan : List
         counts = g.counts;
       })
 
-  -- one put failed
+  -- A run with a failed put returns the error of that put.
   pub ran_short : (cause : SinkFault) → fault ≡ Some cause → Ran l s plan n old mid before after (Err (SinkFailed cause))
   ran_short cause e =
       let g = subst (λ (o : Option SinkFault). Gained s plan n fed totals o before after) e k.gained in

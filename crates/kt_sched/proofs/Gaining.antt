@@ -1,4 +1,4 @@
--- what a sink gains, and what its entries are
+-- The entries that a sink gains.
 use Rattle.kt_base.specs.Kinds.{good as is_good}
 use Rattle.kt_sched.specs.declared.sink.Sink as sink
 use Rattle.kt_sched.specs.EntryOf as recorded
@@ -31,15 +31,15 @@ counts_more es e t h =
 abbrev due_of : ℕ → Job → Due
 due_of k job = record { position = job.position; after = k }
 
--- what is put at a moment is due then
+-- The puts that are scheduled after `k` events carry the number `k`.
 pub due_put : (k : ℕ) (jobs : List Job) (j : ℕ) (p : Due) → slice_get (put_at k jobs) j ≡ Some p → p.after ≡ k
 due_put k jobs j p g = ap (λ (q : Due). q.after) (sym (mapped_at (due_of k) jobs j p g).2)
 
--- what an event adds to the dues
+-- `added plan n T e`: the puts that the event `e` schedules.
 abbrev added : List Job → ℕ → Trace → Event → List Due
 added plan n T e = put_at (event_count (Then T e)) (finished_by plan T e) ++ put_at (event_count (Then T e)) (filter (opens_now plan n T e) (turns plan))
 
--- a whole case has no further event
+-- An event `e` of a case whose history isn't whole.
 module _ (plan : List Job) (T : Trace) (e : Event) (h : NotWhole plan T (position_of e)) where
   entry_stays : (p : ℕ) (x : Entry) → IsEntryOf plan T p x → (p ≡ position_of e) ⊎ (p ≢ position_of e) → IsEntryOf plan (Then T e) p x
   entry_stays p x w (inl q) = absurd (cc (h w.job (ap (slice_get plan) (sym q) ∙ w.place), ap (λ j. is_whole w.job (history j T)) (sym q) ∙ w.whole))
@@ -57,17 +57,19 @@ module _ (plan : List Job) (T : Trace) (e : Event) (h : NotWhole plan T (positio
   entries_stay (p ∷ ps) (y ∷ es) x = (entry_stays p y x.0 (cases_eq p (position_of e)), entries_stay ps es x.1)
   entries_stay ps es x = absurd x
 
--- each put that isn't stored is due now
+-- `AreDue plan n fed`: each put that isn't stored was scheduled by the last event.
 abbrev pub AreDue : List Job → ℕ → Fed → Type 0
 AreDue plan n fed = (j : ℕ) (p : Due) → fed.stored ≤ j → slice_get (dues plan n fed.trace) j ≡ Some p → p.after ≡ event_count fed.trace
 
--- what the puts did to a sink
+-- `GainsUpTo puts plan n fed gained fault before after`: the puts of `gained`, and the failed put
+-- if there is one, lead the sink from `before` to `after`.
 abbrev pub GainsUpTo : {S : Type 0} → (S → Entry → Result (Unit {0}) SinkFault → S → Type 0) → List Job → ℕ → Fed → List Entry → Option SinkFault → S → S
     → Type 0
 GainsUpTo puts plan n fed gained None before after = (fed.stopped ≡ None) × Gains puts gained before after × AreDue plan n fed
 GainsUpTo puts plan n fed gained (Some fault) before after = (f : FailedPut puts plan n fed.trace gained fault before after) × (fed.stopped ≡ Some f.next.after)
 
--- what the sink gained so far
+-- `Gained s plan n fed totals fault before after`: the sink gained these entries so far, with these
+-- totals.
 pub record Gained {S : Type 0} (s : sink.Ghosts S) (plan : List Job) (n : ℕ) (fed : Fed) (totals : Totals) (fault : Option SinkFault)
     (before after : S) : Type 0 where
   pub gained : List Entry
@@ -80,7 +82,7 @@ pub record Gained {S : Type 0} (s : sink.Ghosts S) (plan : List Job) (n : ℕ) (
 
 module _ {S : Type 0} {s : sink.Ghosts S} {plan : List Job} {n : ℕ} {fed : Fed} {totals : Totals} {fault : Option SinkFault} {before mid : S}
     (g : Gained s plan n fed totals fault before mid) where
-  -- after an event that comes where all is stored
+  -- The gained entries remain after an event, if all earlier puts were stored.
   pub gained_event : (ev : Event) → IsPlan plan → fed.stored ≤ length (recorded plan n fed.trace) → (has_failed fed ≡ false → IsUpToDate plan n fed)
       → NotWhole plan fed.trace (position_of ev) → Gained s plan n (record fed { trace = Then fed.trace ev }) totals fault before mid
   gained_event ev p within z h =
@@ -135,7 +137,7 @@ whole_short job (BodyStarted ∷ BodyEnded ∷ CleanupRefused ∷ []) e = omega 
 whole_short job (BodyStarted ∷ BodyEnded ∷ CleanupStarted ∷ CleanupEnded ∷ []) e = omega arith
 whole_short job other e = absurd (cc)
 
--- each case has at most four launcher calls
+-- Each case has at most four launcher calls.
 pub four_calls : (plan : List Job) (T : Trace) → IsPlan plan → AreWhole plan T → ((i : ℕ) → length plan ≤ i → of i T ≡ []) → (i : ℕ) → length (of i T) ≤ 4
 four_calls plan T p h b i = elim (cases_lt i (length plan)) [
   | inl l ↦
@@ -149,7 +151,7 @@ four_calls plan T p h b i = elim (cases_lt i (length plan)) [
   | inr l ↦ omega (arith, ap (λ (es : List Event). length es) (b i l))
 ]
 
--- where every history is whole and every decided case was open, each case is named once
+-- If every history is whole and every decided case was open, each case is named once.
 pub named_once : {plan : List Job} (n : ℕ) (T : Trace) → IsPlan plan → list_all (has_whole_history T) plan ≡ true → WereOpen plan n T → Recorded plan n T
     → NamesEachOnce plan (recorded plan n T)
 named_once {plan} n T p w o r = names_once n T p r done
@@ -188,6 +190,6 @@ storable job _ _ (recorded.ended i m e v w) t = record { started = t.0; millis =
 storable job _ _ (recorded.uncleaned i m e j cause body v w x) t = record { started = t.0; millis = omega (arith, t.1.0) }
 storable job _ _ (recorded.cleaned i m e j k f body v w x) t = record { started = t.0; millis = omega (arith, t.1.1.1.0) }
 
--- an entry of a trace whose moments lie in the range can be stored
+-- An entry is storable if the timestamps of its trace are in the range.
 pub storable_entry : (plan : List Job) (T : Trace) (i : ℕ) (entry : Entry) → Each (FitsAt plan) T → IsEntryOf plan T i entry → IsStorable entry
 storable_entry plan T i entry f w = storable w.job (of i T) entry w.entry_is (timely_of plan i T f)

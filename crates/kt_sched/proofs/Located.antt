@@ -1,4 +1,4 @@
--- what a state says of a case
+-- The facts that a state implies for one case.
 use Rattle.kt_sched.proofs.Common.{Bool, is_fresh, is_decided_stage, HasExclusive, HasDecided, slice_get, Option, Some, None, map, ◌≡◌, ◌≢◌, ℕ, ◌<◌, ◌⊎◌, true, false, List, [], length, refl, sym, ◌∙◌, ap, subst, arith, slice_set, inl, inr, false_from_ne_true, cases_eq, cases_lt, length-map, ◌≤◌, slice_get-map, slice_get_read, slice_get_within, get_or, Role, Body, Cleanup, Job, Next, Stage, Owing, Taken, EndedBody, Case, Event, Trace, of, mark_of, history, is_active, active, turns, Fed, role_runs, runs, stage_runs, SchedState, Stands, CaseStands, IsStage, IsAsked, is_active_stage, is_owing_stage, is_owed}
 use Rattle.kt_sched.specs.declared.next.Next.TheVariants as next
 use Rattle.kt_sched.proofs.Lists.{within_some, mapped_at, slice_get-set_other, slice_get-set_same, counted_some, counted_one, counted_none, count_alike}
@@ -8,7 +8,7 @@ use Rattle.std.proofs.lemmas.Grind.{common_steps}
 use Rattle.std.proofs.lemmas.Option.{gets, same_Some}
 use Rattle.kt_base.proofs.Lists.{same_number}
 
--- the case that has its turn, which is not begun
+-- `AtTurn plan fed b i`: case `i` is at the turn, and is not begun.
 pub record AtTurn (plan : List Job) (fed : Fed) (b : SchedState) (i : ℕ) : Type 0 where
   pub job : Job
   pub turn : slice_get (turns plan) b.turn ≡ Some job
@@ -20,7 +20,8 @@ pub record AtTurn (plan : List Job) (fed : Fed) (b : SchedState) (i : ℕ) : Typ
   pub fresh : is_fresh case.stage ≡ true
   pub kept : case.job ≡ job
 
--- the job of a case, with how its stage stands for its events
+-- `Located plan T i was had`: case `i` has this job in the plan, and its stage `was` represents its
+-- events.
 pub record Located (plan : List Job) (T : Trace) (i : ℕ) (was : Stage) (had : Job) : Type 0 where
   pub job : Job
   pub place : slice_get plan i ≡ Some job
@@ -28,7 +29,7 @@ pub record Located (plan : List Job) (T : Trace) (i : ℕ) (was : Stage) (had : 
   pub says : Says job was (history i T)
   pub kept : was ≢ Taken → had ≡ job
 
--- a case of a list where one was replaced is that one, or one of before
+-- `Which xs i new k c`: case `k` of the list `xs` is `c`, after case `i` was replaced by `new`.
 abbrev pub Which : List Case → ℕ → Case → ℕ → Case → Type 0
 Which xs i new k c = ((k ≡ i) × (c ≡ new)) ⊎ ((k ≢ i) × (slice_get xs k ≡ Some c))
 
@@ -39,7 +40,7 @@ module _ (xs : List Case) (i : ℕ) (old new : Case) (g : slice_get xs i ≡ Som
   pub which : (k : ℕ) (c : Case) → slice_get (slice_set xs i new) k ≡ Some c → Which xs i new k c
   which k c e = let l = slice_get_within xs i old g in grind (arith, common_steps, gets)
 
-  -- and then each case stands, if that one does
+  -- After the replacement each case represents its events, if the new case does.
   pub each_set : (plan : List Job) (T U : Trace) (job : Job) → slice_get plan i ≡ Some job → IsStage i job new.stage (of i U)
       → (new.stage ≢ Taken → new.job ≡ job)
       → ((k : ℕ) → k ≢ i → of k U ≡ of k T) → ((k : ℕ) (j : Job) → slice_get plan k ≡ Some j → CaseStands T k j xs)
@@ -55,7 +56,7 @@ module _ (xs : List Case) (i : ℕ) (old new : Case) (g : slice_get xs i ≡ Som
         record { case = w.case; found = slice_get-set_other xs i k new d ∙ w.found; stage = s; kept = w.kept }
   ]
 
--- what is known of its case
+-- Facts of the case at the turn.
 module _ {plan : List Job} {fed : Fed} {b : SchedState} {i : ℕ} {flag : Bool} (a : AtTurn plan fed b i) where
   pub exclusive_is : HasExclusive b.cases i flag → a.job.exclusive ≡ flag
   exclusive_is x =
@@ -65,7 +66,7 @@ module _ {plan : List Job} {fed : Fed} {b : SchedState} {i : ℕ} {flag : Bool} 
   decided_is x = ap (λ (c : Case). is_decided_stage c.stage) (same_Some a.case x.0 (sym a.found ∙ x.1)) ∙ x.2
 
 module _ {plan : List Job} {n : ℕ} {fed : Fed} {b : SchedState} (h : Stands plan n fed b) where
-  -- the case at a job's place
+  -- The stage of a case represents the events of that case.
   pub at_place : (i : ℕ) (job had : Job) (was : Stage) → slice_get plan i ≡ Some job → slice_get b.cases i ≡ Some (record { job = had; stage = was })
       → IsStage i job was (of i fed.trace) × (was ≢ Taken → had ≡ job)
   at_place i job had was j g =
@@ -86,22 +87,22 @@ module _ {plan : List Job} {n : ℕ} {fed : Fed} {b : SchedState} (h : Stands pl
       let w = h.cases.each k job g in
       subst (λ (j : ℕ). Says job w.case.stage (history j fed.trace)) (sym (h.cases.is_plan.placed k job g)) (says k job w.case.stage (of k fed.trace) w.stage)
 
-  -- the active cases of the trace are counted
+  -- The state has the number of the trace's active cases.
   pub active_is : active plan fed.trace ≡ b.active
   active_is = count_alike (is_active fed.trace) (λ (c : Case). is_active_stage c.stage) plan b.cases (sym h.cases.count) each ∙ sym h.cases.active
     where
       each : (i : ℕ) (job : Job) (c : Case) → slice_get plan i ≡ Some job → slice_get b.cases i ≡ Some c → is_active fed.trace job ≡ is_active_stage c.stage
       each i job c g k = (says_at i job g).active ∙ ap (λ (d : Case). is_active_stage d.stage) (same_Some _ _ (sym (h.cases.each i job g).found ∙ k))
 
-  -- where nothing is active, no case is
+  -- If that number is 0, no case is active.
   pub inactive : (k : ℕ) (c : Case) → b.active ≡ 0 → slice_get b.cases k ≡ Some c → is_active_stage c.stage ≡ false
   inactive k c a g = counted_none (λ (d : Case). is_active_stage d.stage) b.cases k c (sym h.cases.active ∙ a) g
 
-  -- where a case is active, one is counted
+  -- If a case is active, that number is positive.
   pub some_active : (i : ℕ) (c : Case) → slice_get b.cases i ≡ Some c → is_active_stage c.stage ≡ true → 0 < b.active
   some_active i c g e = omega (arith, h.cases.active, counted_one (λ (d : Case). is_active_stage d.stage) b.cases i c g e)
 
-  -- the turn order
+  -- If the turn is past the order, it is past all cases.
 
   pub turn_past : length b.order ≤ b.turn → length (turns plan) ≤ b.turn
   turn_past l = omega (arith, l, ap (λ (xs : List ℕ). length xs) h.turn.walk, length-map (turns plan) (λ (job : Job). job.position))
@@ -124,7 +125,7 @@ module _ {plan : List Job} {n : ℕ} {fed : Fed} {b : SchedState} (h : Stands pl
   pub start_within : (k i : ℕ) → slice_get b.order k ≡ Some i → i < length b.cases
   start_within k i o = let t = turn_at k i o in omega (arith, slice_get_within plan i t.0 t.3, h.cases.count)
 
-  -- the case that an index gives at a turn
+  -- The case that is read at the index of the turn is the case at the turn.
   pub turn_found : (i : ℕ) (case : Case) → slice_get b.order b.turn ≡ Some i → case ≡ get_or b.cases i case → slice_get b.cases i ≡ Some case
   turn_found i case t e = slice_get_read b.cases (length b.cases) i case refl (start_within b.turn i t) e
 
@@ -145,7 +146,7 @@ module _ {plan : List Job} {n : ℕ} {fed : Fed} {b : SchedState} (h : Stands pl
         kept = w.kept (λ x. absurd (cc (f, ap is_fresh x)));
       }
 
-  -- what was asked, and what is owed
+  -- The step asked fits the state.
 
   pub asked_as : (q : Next) → b.asked ≡ q → IsAsked b q
   asked_as q e = subst (IsAsked b) e h.asked
@@ -154,7 +155,7 @@ module _ {plan : List Job} {n : ℕ} {fed : Fed} {b : SchedState} (h : Stands pl
   asked_within i Body q = start_within b.turn i (asked_as (next.Start i Body) q).2.1
   asked_within i Cleanup q = h.cases.owed_within i (asked_as (next.Start i Cleanup) q).1
 
-  -- the case that is owed
+  -- The pending case owes its cleanup.
   pub owes : (i : ℕ) → b.pending ≡ Some i → (had : Job) × (o : EndedBody) × (slice_get b.cases i ≡ Some (record { job = had; stage = Owing o }))
   owes i q =
       let c = within_some b.cases i (h.cases.owed_within i q) in
@@ -164,9 +165,9 @@ module _ {plan : List Job} {n : ℕ} {fed : Fed} {b : SchedState} (h : Stands pl
   pub none_owing : b.pending ≡ None → (k : ℕ) (c : Case) → slice_get b.cases k ≡ Some c → is_owing_stage c.stage ≡ false
   none_owing p k c g = h.cases.owing k c g ∙ ap (λ (o : Option ℕ). is_owed o k) p
 
-  -- what runs
+  -- Running children.
 
-  -- what runs is a case of the state, whose stage runs so
+  -- A running child belongs to a case whose stage runs in the child's role.
   pub runs_stage : (i : ℕ) (r : Role) → runs i r fed.trace ≡ true → (c : Case) × (slice_get b.cases i ≡ Some c) × (stage_runs r c.stage ≡ true)
   runs_stage i r e = elim (cases_lt i (length plan)) [
     | inl g ↦

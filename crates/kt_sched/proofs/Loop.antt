@@ -1,4 +1,4 @@
--- the run loop: what holds before each turn, and how each answer keeps it
+-- The run loop: its invariant, and how each response keeps it.
 use Rattle.kt_base.specs.Kinds.{good as is_good}
 use Rattle.kt_sched.proofs.Common.{Bool, option_map, Option, Some, None, is_some, not, Ok, Err, ◌^◌, ◌≡◌, ◌<◌, ℕ, ◌+◌, ◌-◌, true, false, if◌then◌else◌, ◌==◌, List, [], ◌∷◌, ◌++◌, refl, append-nil, append_assoc, length-append, count_by-le-length, false_from_ne_true, filter, take, length, slice_get, slice_get_within, sym, ◌∙◌, ap, subst, arith, Role, Body, Cleanup, Entry, Job, StartAnswer, Ended, SinkFault, Totals, Child, IsEvidence, IsIdle, IsMoment, HasMoment, MayStart, IsPlan, IsEntryOf, AreEntries, IsStorable, Start, End, Each, FitsAt, Trace, event_count, owed, is_owed, history, is_whole, runs, turns, recorded, Due, dues, is_open, running_after_start, running_after_end, pending_after_start, pending_after_end, child_of, CanCount, counted, FailedPut, Fed, after_put, nothing_fed, IsNext, Follows, NoEvent, Case, Implies, SchedState, Stands, Takes, stage_runs, Then}
 use Rattle.kt_sched.specs.declared.next.Next.TheVariants as next
@@ -13,7 +13,8 @@ use Rattle.kt_sched.proofs.Once.{recorded_first, recorded_most}
 use Rattle.std.proofs.lemmas.Option.{same_Some}
 use Rattle.kt_base.proofs.Lists.{same_number}
 
--- the core, the launcher and the sink stand after the same answers
+-- `Loop l s plan n old before sched new after totals fault`: the scheduler, the launcher and the
+-- sink represent the same responses.
 pub record Loop {L S : Type 0} (l : launcher.Ghosts L) (s : sink.Ghosts S) (plan : List Job) (n : ℕ) (old : L) (before : S) (sched : SchedState) (new : L)
     (after : S) (totals : Totals) (fault : Option SinkFault) : Type 0 where
   pub fed : Fed
@@ -61,7 +62,7 @@ module _ {L S : Type 0} {l : launcher.Ghosts L} {s : sink.Ghosts S} {plan : List
   pub owes : {o : Option ℕ} → owed plan T ≡ o → (j : ℕ) → l.pending mid j ≡ is_owed o j
   owes e j = k.going.owes j ∙ ap (λ (o : Option ℕ). is_owed o j) e
 
-  -- a start of a job
+  -- The launcher may start the job of the next step.
 
   startable : (i : ℕ) (role : Role) → IsNext plan n fed (next.Start i role) → Follows plan n fed (next.Start i role)
       → Startable (l.running mid) (l.pending mid) plan n fed i role
@@ -115,7 +116,7 @@ module _ {L S : Type 0} {l : launcher.Ghosts L} {s : sink.Ghosts S} {plan : List
       asked = z.asked;
     }
 
-  -- a wait
+  -- If the next step is a wait, a child runs.
 
   pub loop_may_wait : Implies sched (λ plan n fed. Follows plan n fed next.Wait) → (i : ℕ) × (role : Role) × (child : Child) × (l.running mid i role ≡ Some child)
   loop_may_wait f =
@@ -125,7 +126,7 @@ module _ {L S : Type 0} {l : launcher.Ghosts L} {s : sink.Ghosts S} {plan : List
 
   module _ (e : Ended) (w : (child : Child) × (l.running mid e.position e.role ≡ Some child) × IsEvidence child.interface e.role e.evidence) (b : SchedState)
       (y : Implies sched (λ plan n fed. Stands plan n fed b)) where
-    -- the child that ended is one of the plan
+    -- The child that ended is a child of the plan.
     one : (runs e.position e.role T ≡ true) × ((job : Job) × (slice_get plan e.position ≡ Some job) × (w.0 ≡ child_of job))
     one = runs_true plan T e.position e.role w.0 (sym (k.going.runs e.position e.role) ∙ w.1)
 
@@ -153,7 +154,7 @@ module _ {L S : Type 0} {l : launcher.Ghosts L} {s : sink.Ghosts S} {plan : List
       asked = z.asked;
     }
 
-  -- a put of an entry that was taken
+  -- The put of an entry that was taken.
 
   module _ (i : ℕ) (put_next : Implies sched (λ plan n fed. IsNext plan n fed (next.Put i))) where
     x : IsNext plan n fed (next.Put i)
@@ -204,7 +205,7 @@ module _ {L S : Type 0} {l : launcher.Ghosts L} {s : sink.Ghosts S} {plan : List
             by None y = (y.0, gains_more s.puts k.gained.gained e before after new y.1 u, λ j q l z. y.2 j q (omega (arith, l)) z)
             by (Some fault) y = absurd (cc (x.0, ap is_some y.1))
 
-        -- one that failed
+        -- The invariant holds after a put that failed.
         pub loop_failed : (cause : SinkFault) → s.puts after e (Err cause) new → ((put : List Entry) → s.entries after put → s.entries new put)
             → Implies c (λ plan n fed. Stands plan n (after_put fed true) later)
             → Loop l s plan n old before later mid new totals (Some cause)

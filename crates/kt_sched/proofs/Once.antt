@@ -1,19 +1,19 @@
--- each position stands in the record order once
+-- Each position is in the record order once.
 use Rattle.kt_sched.proofs.Common.{ne_eqb, slice_get, filter, count_by, Some, ◌==◌, ◌&&◌, if◌then◌else◌, ◌≡◌, ◌≢◌, ℕ, suc, ◌+◌, ◌≤◌, Bool, true, false, cond, List, [], ◌∷◌, ◌++◌, length, refl, sym, ◌∙◌, ap, arith, inl, inr, and_from, nat_tests, cases_lt, length-filter, count_by-le-length, slice_get_within, Job, Event, Trace, NoEvent, Then, position_of, history, is_whole, has_whole_history, turns, finished_by, is_open, was_open, recorded, IsPlan, is_decided, positions, NamesEachOnce}
 use Rattle.kt_sched.proofs.Lists.{counted_one, counted_only, count-cons, count_alike, count_by-append, filter_none, within_some}
 use Rattle.kt_sched.proofs.Turns.{count_turns, history_other, put_at_positions, recorded_more, finishes, opens_now}
 use Rattle.std.proofs.lemmas.Option.{same_Some}
 use Rattle.kt_base.proofs.Lists.{same_number}
 
--- a case whose entry was due
+-- `is_done plan n T job`: the put of the job's entry is scheduled.
 abbrev pub is_done : List Job → ℕ → Trace → Job → Bool
 is_done plan n T job = if is_decided job then was_open plan n T job else has_whole_history T job
 
--- an event comes to a case whose history isn't whole
+-- `NotWhole plan T i`: the history of case `i` isn't whole.
 abbrev pub NotWhole : List Job → Trace → ℕ → Type 0
 NotWhole plan T i = (job : Job) → slice_get plan i ≡ Some job → is_whole job (history i T) ≡ false
 
--- the record order names the cases that were due, each once
+-- `Recorded plan n T`: the record order names each done case once.
 abbrev pub Recorded : List Job → ℕ → Trace → Type 0
 Recorded plan n T = (q : ℕ → Bool) → count_by q (recorded plan n T) ≡ count_by (λ job. q job.position && is_done plan n T job) plan
 
@@ -37,7 +37,7 @@ count_three a b c d (x ∷ xs) h =
     omega (arith, h 0 x refl, count_three a b c d xs (λ i y g. h (suc i) y g), count-cons a x xs, count-cons b x xs, count-cons c x xs, count-cons d x xs)
 
 module _ (plan : List Job) (n : ℕ) (T : Trace) (e : Event) (p : IsPlan plan) (h : NotWhole plan T (position_of e)) where
-  -- a case that was done, that the event finishes or that it opens is done after it
+  -- A case is done after an event if it was done before, or if the event finishes or opens it.
   each : (q : Bool) (k : ℕ) (job : Job) → slice_get plan k ≡ Some job
       → cond {A = ℕ} (q && is_done plan n T job) 1 0 + (cond (q && finishes T e job) 1 0 + cond (q && opens_now plan n T e job) 1 0)
       ≡ cond (q && is_done plan n (Then T e) job) 1 0
@@ -82,7 +82,7 @@ count_all : {X : Type 0} (xs : List X) → count_by (λ (x : X). true) xs ≡ le
 count_all [] = refl
 count_all {X} (x ∷ xs) = omega (arith, count-cons (λ (y : X). true) x xs, count_all xs)
 
--- there are no more records than cases
+-- There are at most as many records as cases.
 pub recorded_most : (plan : List Job) (n : ℕ) (T : Trace) → Recorded plan n T → length (recorded plan n T) ≤ length plan
 recorded_most plan n T r = omega (arith, count_all (recorded plan n T), r (λ i. true), count_by-le-length (λ (job : Job). true && is_done plan n T job) plan)
 
@@ -93,7 +93,7 @@ module _ {plan : List Job} (n : ℕ) (T : Trace) (p : IsPlan plan) (r : Recorded
   others_not : (i k : ℕ) (job : Job) → slice_get plan k ≡ Some job → k ≢ i → named_so i job ≡ false
   others_not i k job g d = rw (p.placed k job g, ne_eqb k i d) refl
 
-  -- a case is named once at most
+  -- Each case is named at most once.
   pub named_at_most_once : (i : ℕ) → count_by (λ p. p == i) (recorded plan n T) ≤ 1
   named_at_most_once i = elim (cases_lt i (length plan)) [
     | inl l ↦ let w = within_some plan i l in omega (arith, r (λ k. k == i), counted_only (named_so i) plan i w.0 w.1 (others_not i))
@@ -101,7 +101,7 @@ module _ {plan : List Job} (n : ℕ) (T : Trace) (p : IsPlan plan) (r : Recorded
         omega (arith, r (λ k. k == i), length-filter (named_so i) plan, ap (λ (xs : List Job). length xs) none)
   ]
 
-  -- where every case was due, each is named
+  -- If every case is done, each case is named once.
   pub names_once : ((i : ℕ) (job : Job) → slice_get plan i ≡ Some job → is_done plan n T job ≡ true) → NamesEachOnce plan (recorded plan n T)
   names_once h = record {
     all = sym (count_all (recorded plan n T))

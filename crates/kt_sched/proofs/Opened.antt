@@ -1,4 +1,4 @@
--- a decided case becomes ready, and an answer to a put
+-- A decided case becomes ready, and the response to a put.
 use Rattle.kt_sched.proofs.Common.{◌==◌, ◌<◌, nat_lt, nat_tests, if◌then◌else◌, not, get_or, slice_get, Option, Some, None, filter, is_some, ◌≡◌, ℕ, ◌+◌, after_put, Bool, true, false, List, ◌∷◌, refl, sym, ◌∙◌, ap, subst, arith, inl, inr, append-nil, cases_eq, Judged, Job, Stage, Decided, Case, CaseRecord, of, active, turns, is_open, Fed, has_failed, SchedState, Stands, IsStage, HasRecord, HasTurn, AreGone, is_decided, is_undecided, decided_record, record_in, positions, opened, slice_get_within, ◌≤◌, ◌++◌, length, drop, recorded, option_to_list, option_map}
 use Rattle.kt_sched.specs.declared.next.Next.TheVariants as next
 use Rattle.kt_sched.proofs.Lists.{slice_get-drop, drop_at, take_filter}
@@ -16,7 +16,7 @@ room_at a n exclusive l f = grind (arith, nat_tests, f)
 
 module _ {plan : List Job} {n : ℕ} {fed : Fed} {b : SchedState} {i : ℕ} (h : Stands plan n fed b) (t : HasTurn b i) {case : Case}
     (at : case ≡ get_or b.cases i case) (is : case.stage ≡ Decided) where
-  -- the decided case whose turn it is is open
+  -- The decided case at the turn is open.
   a : AtTurn plan fed b i
   a = has_turn h i t.1
 
@@ -79,7 +79,7 @@ module _ {plan : List Job} {n : ℕ} {fed : Fed} {b : SchedState} {i : ℕ} (h :
       run : opened plan n fed.trace b.turn ≡ a.job ∷ opened plan n fed.trace (b.turn + 1)
       run = ap (filter (is_open plan n fed.trace)) (drop_at (turns plan) b.turn a.job a.turn) ∙ rw ripe.2 refl
 
--- a put was answered
+-- The state represents the responses with that of the put.
 pub put : {plan : List Job} {n : ℕ} {fed : Fed} {b : SchedState} → Stands plan n fed b → (i : ℕ) → b.asked ≡ next.Put i → (failed : Bool)
     → Stands plan n (after_put fed failed) (record b { ready = None; asked = next.Done; failed = failed })
 put h i q true = record {

@@ -1,18 +1,19 @@
--- what runs and what is owed after a trace, as a launcher shows it, and the rules that a trace keeps
+-- The running children and the owed cleanups after a trace, and the rules that a trace keeps.
 use Rattle.kt_sched.proofs.Common.{is_some, IfSome, append-nil, ◌≤◌, arith, nat_tests, MayStart, HasMoment, NoEvent, Leads, first, event_count, body_starts, body_start_of, Each, WidthAt, ExclusiveAt, PromptAt, BusyAt, Fed, FitsAt, has_failed, IsUpToDate, MayStartNow, pending_after_start, slice_get, Option, Some, None, if◌then◌else◌, ◌&&◌, ◌≡◌, ◌≢◌, ℕ, ◌==◌, Bool, true, false, List, [], ◌∷◌, ◌++◌, refl, sym, ◌∙◌, ap, subst, option_map, Role, Body, Cleanup, Job, StartAnswer, Ended, Child, child_of, same_role, running_after_start, running_after_end, pending_after_end, with_cleanup_declared, Event, Start, End, Trace, Then, position_of, Mark, BodyStarted, BodyEnded, CleanupStarted, mark_of, end_mark, history, owed, declares, is_owed, role_runs, runs}
 use Rattle.kt_sched.specs.declared.job.StartAnswer.TheVariants as start
 use Rattle.kt_sched.specs.declared.launcher.Launcher as launcher
 use Rattle.kt_sched.proofs.Turns.{history_same, history_other}
 
--- the child at a position of a plan
+-- `child_at plan k`: the child of the job at position `k` of the plan.
 abbrev pub child_at : List Job → ℕ → Option Child
 child_at plan k = option_map child_of (slice_get plan k)
 
--- the child that runs at a position in a role after a trace
+-- `running_of plan T k r`: the child that runs at position `k` in the role `r` after the events
+-- `T`.
 abbrev pub running_of : List Job → Trace → ℕ → Role → Option Child
 running_of plan T k r = if runs k r T then child_at plan k else None
 
--- the histories before a role may start, and while it runs
+-- `history_before role`: the history of a case before the start of this role.
 abbrev pub history_before : Role → List Mark
 history_before Body = []
 history_before Cleanup = BodyStarted ∷ BodyEnded ∷ []
@@ -26,7 +27,7 @@ while_runs Body (BodyStarted ∷ []) h = refl
 while_runs Cleanup (BodyStarted ∷ BodyEnded ∷ CleanupStarted ∷ []) h = refl
 while_runs role w h = absurd (cc)
 
--- what runs, by a history
+-- `runs_by plan i r w`: the child of case `i` that runs in the role `r`, by the history `w`.
 abbrev runs_by : List Job → ℕ → Role → List Mark → Option Child
 runs_by plan i r w = if role_runs r w then child_at plan i else None
 
@@ -40,9 +41,9 @@ runs_same plan T e r w d = ap (runs_by plan (position_of e) r) (history_same (po
 pub runs_now : (plan : List Job) (T : Trace) (i : ℕ) (r : Role) (w : List Mark) → history i T ≡ w → running_of plan T i r ≡ runs_by plan i r w
 runs_now plan T i r w d = ap (runs_by plan i r) d
 
--- what runs and what is owed, from a launcher that shows what ran
+-- A launcher that shows as running what runs by the trace.
 module _ (plan : List Job) (T : Trace) (running : ℕ → Role → Option Child) (h : (j : ℕ) (s : Role) → running j s ≡ running_of plan T j s) where
-  -- an event changes what runs of its case in a role, and nothing else
+  -- An event changes the running child of its case and role, and no other.
   changed : (e : Event) (role r : Role) (k : ℕ) (x : Option Child)
       → (if same_role r role then x else running (position_of e) r) ≡ running_of plan (Then T e) (position_of e) r
       → (if k == position_of e && same_role r role then x else running k r) ≡ running_of plan (Then T e) k r
@@ -74,7 +75,7 @@ module _ (plan : List Job) (T : Trace) (running : ℕ → Role → Option Child)
         here = h i r ∙ (runs_now plan T i r (history_before role) w ∙ (starts_not role r ∙ sym (runs_same plan T e r (history_before role) w)))
 
   module _ (e : Ended) (k : ℕ) (w : history e.position T ≡ history_while e.role) where
-    -- an end stops what ran in its role, and nothing else
+    -- An end stops the child of its case and role, and no other.
     pub end_runs : (r : Role) → running_after_end running e k r ≡ running_of plan (Then T (End e)) k r
     end_runs r = changed (End e) e.role r k None (ends e.role r (h e.position r ∙ runs_now plan T e.position r (history_while e.role) w)
         ∙ sym (runs_same plan T (End e) r (history_while e.role) w))
@@ -107,7 +108,7 @@ module _ (plan : List Job) (T : Trace) (running : ℕ → Role → Option Child)
 pub cleared : (i k : ℕ) → (if k == i then false else k == i) ≡ false
 cleared i k = grind (arith, nat_tests)
 
--- what a launcher says that runs does run
+-- A child that a launcher shows as running runs after the trace.
 pub runs_true : (plan : List Job) (T : Trace) (i : ℕ) (r : Role) (child : Child) → running_of plan T i r ≡ Some child
     → (runs i r T ≡ true) × ((job : Job) × (slice_get plan i ≡ Some job) × (child ≡ child_of job))
 runs_true plan T i r child g = by (runs i r T) (slice_get plan i) refl refl g
@@ -117,12 +118,12 @@ runs_true plan T i r child g = by (runs i r T) (slice_get plan i) refl refl g
     by true (Some job) e q h = (e, (job, q, cc))
     by b o e q h = absurd (cc)
 
--- the events up to a failed put, if one failed
+-- `up_to stopped T`: the events up to a failed put, or all events.
 abbrev pub up_to : Option ℕ → Trace → Trace
 up_to None T = T
 up_to (Some k) T = first k T
 
--- what an event keeps
+-- `Fair plan n T e`: the event `e` keeps the rules for each event.
 pub record Fair (plan : List Job) (n : ℕ) (T : Trace) (e : Event) : Type 0 where
   pub fits : FitsAt plan T e
   pub width : WidthAt plan n T e
@@ -133,7 +134,7 @@ pub each_of : {P Q : Trace → Event → Type 0} (T : Trace) → ((U : Trace) (e
 each_of NoEvent f h = tt
 each_of (Then T e) f h = (each_of T f h.0, f T e h.1)
 
--- and up to a failed put, after which no body starts
+-- `Until plan n stopped T`: the rules that hold up to a failed put. No body starts after that put.
 pub record Until (plan : List Job) (n : ℕ) (stopped : Option ℕ) (T : Trace) : Type 0 where
   pub busy : Each (BusyAt plan n) (up_to stopped T)
   pub begun : body_starts T ≡ body_starts (up_to stopped T)
@@ -163,14 +164,15 @@ module _ (plan : List Job) (n : ℕ) where
       record { busy = subst (Each (BusyAt plan n)) (sym (first_all T)) u.busy; begun = ap body_starts (sym (first_all T)); passed = omega arith }
   until_now (Some k) T f u = absurd (cc)
 
--- the launcher stands where the trace led it
+-- `Going l plan n T old new`: the events `T` lead the launcher from `old` to `new`.
 pub record Going {L : Type 0} (l : launcher.Ghosts L) (plan : List Job) (n : ℕ) (T : Trace) (old new : L) : Type 0 where
   pub leads : Leads l.starts l.waits plan T old new
   pub runs : (k : ℕ) (r : Role) → l.running new k r ≡ running_of plan T k r
   pub owes : (k : ℕ) → l.pending new k ≡ is_owed (owed plan T) k
   pub rules : Each (Fair plan n) T
 
--- what is known where a start is next
+-- `Startable running pending plan n fed i role`: the facts if the start of case `i` in this role is
+-- next.
 pub record Startable (running : ℕ → Role → Option Child) (pending : ℕ → Bool) (plan : List Job) (n : ℕ) (fed : Fed) (i : ℕ) (role : Role) : Type 0 where
   pub may : MayStart running pending i role
   pub now : MayStartNow plan fed.trace i role

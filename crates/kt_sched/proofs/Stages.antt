@@ -1,11 +1,11 @@
--- what a stage says of its case's history, and how it moves on by an event
+-- The history that a stage represents, and the stage after an event.
 use Rattle.kt_sched.proofs.Common.{false_from_ne_true, and_right, not, None, is_none, is_some, map, not, ◌&&◌, ◌≡◌, ◌≢◌, ℕ, Bool, true, false, List, [], ◌∷◌, refl, sym, ◌∙◌, ap, list_any, Role, Body, Cleanup, Job, Stage, Waiting, Decided, Running, Owing, Cleaning, Finished, Taken, EndedBody, Event, Mark, BodyStarted, BodyEnded, CleanupStarted, mark_of, is_whole, is_body_started, role_runs, stage_runs, IsStage, is_over, is_active_stage, is_owing_stage, is_fresh, is_decided_stage, slice_get, Some, ◌<◌, ◌⊎◌, ◌-◌, ◌++◌, subst, arith, inl, inr, and_from, CleanupRefused, end_mark, CaseRecord, ended_body, Start, End, Trace, Then, position_of, body_start_of, no_output, IsEntry, ended, refused, uncleaned, cleaned, IsAfter, declares, owed, owing_at, entry_with, record_of, stage_work}
 use Rattle.kt_sched.specs.declared.job.StartAnswer.TheVariants as start
 
 abbrev pub marks_active : Job → List Mark → Bool
 marks_active job w = list_any is_body_started w && not (is_whole job w)
 
--- a stage tells whether its history is whole, its case active, and what of it runs
+-- `Says job stage w`: stage and history `w` agree on whether the case is over, is active or runs.
 pub record Says (job : Job) (stage : Stage) (w : List Mark) : Type 0 where
   pub whole : is_whole job w ≡ is_over stage
   pub active : marks_active job w ≡ is_active_stage stage
@@ -16,7 +16,7 @@ by_role : (w : List Mark) (stage : Stage) → role_runs Body w ≡ stage_runs Bo
 by_role w stage b c Body = b
 by_role w stage b c Cleanup = c
 
--- a whole history isn't that of a running child
+-- No child of a case runs if the case's history is whole.
 pub whole_quiet : (job : Job) (role : Role) (w : List Mark) → is_whole job w ≡ true → role_runs role w ≡ false
 whole_quiet job Body (BodyStarted ∷ []) h = absurd (cc)
 whole_quiet job Cleanup (BodyStarted ∷ BodyEnded ∷ CleanupStarted ∷ []) h = absurd (cc)
@@ -56,7 +56,7 @@ says i job (Cleaning b) es h =
 says i job (Finished t) es h = over_says job (Finished t) (map mark_of es) h.0 refl
 says i job Taken es h = over_says job Taken (map mark_of es) h refl
 
--- a case that isn't over is undecided
+-- A case that isn't over is undecided.
 pub undecided_stage : (i : ℕ) (job : Job) (stage : Stage) (es : List Event) → IsStage i job stage es → is_over stage ≡ false → job.decided ≡ None
 undecided_stage i job Waiting es h o = h.1
 undecided_stage i job (Running m) es h o = h.1
@@ -64,7 +64,7 @@ undecided_stage i job (Owing b) es h o = h.6
 undecided_stage i job (Cleaning b) es h o = h.7
 undecided_stage i job stage es h o = absurd (cc)
 
--- which stages there are where a test says so
+-- A case that waits isn't active.
 
 pub fresh_inactive : (stage : Stage) → is_fresh stage ≡ true → is_active_stage stage ≡ false
 fresh_inactive Waiting e = refl
@@ -82,7 +82,7 @@ over_stage (Owing b) w e = absurd (cc)
 over_stage (Cleaning b) w e = absurd (cc)
 over_stage stage w e = refl
 
--- an active case owes its cleanup or runs
+-- An active case owes its cleanup or runs.
 pub active_runs : (stage : Stage) → is_active_stage stage ≡ true → is_owing_stage stage ≡ false → (r : Role) × (stage_runs r stage ≡ true)
 active_runs (Running m) e o = (Body, refl)
 active_runs (Cleaning b) e o = (Cleanup, refl)
@@ -92,7 +92,7 @@ pub owing_stage : (stage : Stage) → is_owing_stage stage ≡ true → (o : End
 owing_stage (Owing b) e = (b, refl)
 owing_stage stage e = absurd (cc)
 
--- a case that moves on wasn't over; it waited or was active, and then it does not wait
+-- `Moves was e now`: an event moves a case that wasn't over to a stage with less work left.
 pub record Moves (was : Stage) (e : Event) (now : Stage) : Type 0 where
   pub fresh : is_over was ≡ false
   pub works : stage_work now < stage_work was
@@ -125,7 +125,7 @@ cleanup_runs : (r : Role) (b : EndedBody) → stage_runs r (Cleaning b) ≡ true
 cleanup_runs Body b h = absurd (cc)
 cleanup_runs Cleanup b h = refl
 
--- what is owed after an event is what its case owes
+-- The cleanup owed after an event is that of the event's case.
 pub owed_moves : (plan : List Job) (T : Trace) (job : Job) (was : Stage) (e : Event) (now : Stage) → slice_get plan (position_of e) ≡ Some job
     → IsAfter job.cleanup was e now → owed plan (Then T e) ≡ owing_at now (position_of e)
 owed_moves plan T job Waiting (Start i Body (start.Started m)) (Running k) g h = refl
@@ -140,7 +140,7 @@ owed_moves plan T job was e now g h = absurd h
 entry_as : {job : Job} {es : List Event} {t u : CaseRecord} → t ≡ u → IsEntry job es (entry_with job u) → IsEntry job es (entry_with job t)
 entry_as {job} {es} e = subst (λ x. IsEntry job es (entry_with job x)) (sym e)
 
--- and the stage stands for one event more
+-- The new stage represents the events with the new event.
 pub stage_moves : (job : Job) (was : Stage) (e : Event) (now : Stage) (es : List Event) → IsStage (position_of e) job was es → IsAfter job.cleanup was e now
     → IsStage (position_of e) job now (es ++ e ∷ [])
 stage_moves job Waiting (Start i Body (start.Started m)) (Running k) es s h = (rw (s.0, h) refl, s.1)

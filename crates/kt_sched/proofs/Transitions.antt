@@ -1,4 +1,4 @@
--- the answers of a launcher, each of which the state takes
+-- The responses of a launcher, each of which leads to a new state.
 use Rattle.kt_sched.proofs.Common.{ne_eqb, ◌≢◌, get_or, slice_get, slice_get_read, slice_set, length, Option, Some, None, ◌≡◌, ℕ, ◌+◌, ◌<◌, Bool, true, cond, List, refl, sym, ◌∙◌, ap, subst, arith, slice_get_within, Next, Role, Body, Cleanup, Ended, StartAnswer, Stage, Waiting, Owing, Case, same_role, Event, Start, End, Job, Fed, body_start_of, stage_runs, SchedState, Stands, IsAfter, IsStanding, Takes, can_start, owing_at, ready_at, is_active_stage, is_over, is_owed}
 use Rattle.kt_sched.specs.declared.next.Next.TheVariants as next
 use denote.Enum.Bare.{sameb}
@@ -10,13 +10,13 @@ use Rattle.kt_sched.proofs.Upcoming.{upcoming}
 use Rattle.kt_sched.proofs.EventSteps.{After, AskedFor, OwedBy, after_event, event_taken}
 use Rattle.std.proofs.lemmas.Option.{same_Some}
 
--- a case that can be started, and counted
+-- `StartFits b role was`: a case in the stage `was` can be started in this role, and counted.
 pub record StartFits (b : SchedState) (role : Role) (was : Stage) : Type 0 where
   pub can : can_start role was ≡ true
   pub ran : is_active_stage was ≡ same_role role Cleanup
   pub turn : role ≡ Body → b.turn < length b.order
 
--- the case that an index gives
+-- The case that is read at an index is in the list.
 found_at : (xs : List Case) (i : ℕ) (case : Case) → i < length xs → case ≡ get_or xs i case → slice_get xs i ≡ Some case
 found_at xs i case l e = slice_get_read xs (length xs) i case refl l e
 
@@ -54,9 +54,9 @@ takes_turn : (i : ℕ) (role : Role) (x : StartAnswer) → cond {A = ℕ} (same_
 takes_turn i Body x = omega arith
 takes_turn i Cleanup x = refl
 
--- the state before an event, as the code sees it and as it stands
+-- The state before an event, as the code reads it.
 module _ {b seen : SchedState} (view : b ≡ seen) (standing : IsStanding b) where
-  -- the state takes an event after which it stands
+  -- An event leads to a new state that represents the responses with that event.
   steps : {e : Event} {later : SchedState} → ((plan : List Job) (n : ℕ) (fed : Fed) → Stands plan n fed b → After plan n fed b e later)
       → later.asked ≡ next.Done → Takes seen e later
   steps {e} {later} f a = subst (λ (x : SchedState). Takes x e later) view

@@ -1,9 +1,9 @@
--- the turn order, which has every case once and exclusive ones last, and one event more
+-- The turn order, which has each case once and exclusive cases last, and one more event.
 use Rattle.kt_sched.proofs.Common.{ne_eqb, nat_tests, ◌⊎◌, slice_get, count_by, filter, Some, not, ◌==◌, ◌≡◌, ◌≢◌, ℕ, ◌+◌, ◌<◌, ◌≤◌, Bool, true, false, cond, List, length, refl, ◌∙◌, ap, arith, inl, inr, false_from_ne_true, sum_by-filter_both, cases_eq, slice_get_within, Job, turns, None, is_none, map, ◌&&◌, [], ◌∷◌, ◌++◌, sym, map-append, Event, Trace, Then, position_of, of, event_count, mark_of, history, is_whole, has_whole_history, Due, dues, put_at, finished_by, is_open, was_open, recorded, IsPlan, positions}
 use Rattle.kt_sched.proofs.Lists.{counted_one, counted_some, count_by-append, counted_only, counted_two, filter_in, in_append, pick, filter_only}
 use Rattle.kt_base.proofs.Lists.{same_number}
 
--- each case stands at its position
+-- `Placed plan`: each job is at its position.
 abbrev pub Placed : List Job → Type 0
 Placed plan = (i : ℕ) (job : Job) → slice_get plan i ≡ Some job → job.position ≡ i
 
@@ -13,7 +13,7 @@ ordinary plan = filter (λ (job : Job). not job.exclusive) plan
 abbrev lonely : List Job → List Job
 lonely plan = filter (λ (job : Job). job.exclusive) plan
 
--- a case of the turn order stands in the plan, among the ordinary ones or after them
+-- A case of the turn order is in the plan, and is ordinary or comes after all ordinary cases.
 place_in : (plan : List Job) (k : ℕ) (job : Job) → slice_get (turns plan) k ≡ Some job → ((i : ℕ) × (slice_get plan i ≡ Some job))
     × (((k < length (ordinary plan)) × (job.exclusive ≡ false)) ⊎ ((length (ordinary plan) ≤ k) × (job.exclusive ≡ true)))
 place_in plan k job g = elim (in_append (ordinary plan) (lonely plan) k job g) [
@@ -25,7 +25,7 @@ place_in plan k job g = elim (in_append (ordinary plan) (lonely plan) k job g) [
 pub turn_inside : (plan : List Job) → Placed plan → (k : ℕ) (job : Job) → slice_get (turns plan) k ≡ Some job → slice_get plan job.position ≡ Some job
 turn_inside plan h k job g = let w = (place_in plan k job g).0 in ap (slice_get plan) (h w.0 job w.1) ∙ w.1
 
--- where an exclusive case stands, only exclusive ones follow
+-- After an exclusive case, only exclusive cases follow in the turn order.
 pub turn_sorted : (plan : List Job) (k l : ℕ) (a b : Job) → slice_get (turns plan) k ≡ Some a → slice_get (turns plan) l ≡ Some b → k ≤ l → a.exclusive ≡ true
     → b.exclusive ≡ true
 turn_sorted plan k l a b g h le e = elim (place_in plan l b h).1 [
@@ -33,7 +33,7 @@ turn_sorted plan k l a b g h le e = elim (place_in plan l b h).1 [
   | inl y ↦ elim (place_in plan k a g).1 [ inl x ↦ absurd (cc (e, x.1)) | inr x ↦ absurd (omega (arith, x.0, y.0, le)) ]
 ]
 
--- the turn order has each case of the plan once
+-- The turn order has each case of the plan once.
 pub count_turns : (f : Job → Bool) (xs : List Job) → count_by f (turns xs) ≡ count_by f xs
 count_turns f xs =
     let both : count_by f (lonely xs) + count_by f (ordinary xs) ≡ count_by f xs =
@@ -62,14 +62,14 @@ turn_covers plan h i job g =
     let e : w.1.position ≡ job.position = grind (arith, nat_tests, w.3) in
     (w.0, w.2 ∙ (sym (turn_inside plan h w.0 w.1 w.2) ∙ (ap (slice_get plan) (e ∙ h i job g) ∙ g)))
 
--- the events of the case of an event, and of another
+-- An event is added to the events of its case, and to those of no other case.
 pub of_same : (i : ℕ) (T : Trace) (e : Event) → position_of e ≡ i → of i (Then T e) ≡ of i T ++ e ∷ []
 of_same i T e h = rw (h, same_number i) refl
 
 pub of_other : (i k : ℕ) (T : Trace) (e : Event) → position_of e ≡ i → k ≢ i → of k (Then T e) ≡ of k T
 of_other i k T e h n = rw (h, ne_eqb i k (λ q. n (sym q))) refl
 
--- and their histories
+-- An event is added to the history of its case, and to no other history.
 pub history_same : (i : ℕ) (T : Trace) (e : Event) → position_of e ≡ i → history i (Then T e) ≡ history i T ++ mark_of e ∷ []
 history_same i T e h = ap (map mark_of) (of_same i T e h) ∙ map-append mark_of (of i T) (e ∷ [])
 
@@ -80,15 +80,15 @@ pub put_at_positions : (k : ℕ) (jobs : List Job) → map (λ (p : Due). p.posi
 put_at_positions k [] = refl
 put_at_positions k (job ∷ jobs) = ap (λ xs. job.position ∷ xs) (put_at_positions k jobs)
 
--- the decided cases that an event opens
+-- `opens_now plan n T e job`: the event `e` opens this decided case.
 abbrev pub opens_now : List Job → ℕ → Trace → Event → Job → Bool
 opens_now plan n T e job = is_open plan n (Then T e) job && not (was_open plan n T job)
 
--- the undecided case that it finishes
+-- `finishes T e job`: the event `e` finishes this undecided case.
 abbrev pub finishes : Trace → Event → Job → Bool
 finishes T e job = job.position == position_of e && (is_none job.decided && (has_whole_history (Then T e) job && not (has_whole_history T job)))
 
--- what an event adds to the record order
+-- An event adds the finished case and the opened cases to the record order.
 pub recorded_more : (plan : List Job) (n : ℕ) (T : Trace) (e : Event)
     → recorded plan n (Then T e) ≡ recorded plan n T ++ (positions (finished_by plan T e) ++ positions (filter (opens_now plan n T e) (turns plan)))
 recorded_more plan n T e =
@@ -100,7 +100,7 @@ recorded_more plan n T e =
     ∙ ap (λ zs. recorded plan n T ++ zs) (map-append f (put_at k xs) (put_at k ys)
     ∙ (ap (λ zs. zs ++ map f (put_at k ys)) (put_at_positions k xs) ∙ ap (λ zs. positions xs ++ zs) (put_at_positions k ys)))
 
--- the undecided case that an event finishes, if it does
+-- An event finishes its undecided case if it makes the history of that case whole.
 pub finished_is : {plan : List Job} (T : Trace) (e : Event) {job : Job} (b : Bool) → IsPlan plan → job.decided ≡ None
     → slice_get plan (position_of e) ≡ Some job
     → is_whole job (history (position_of e) T) ≡ false → is_whole job (history (position_of e) (Then T e)) ≡ b

@@ -1,4 +1,4 @@
--- the case whose turn it is, the next body in turn order, and exclusive cases, which run alone
+-- The case at the turn, the next body in turn order, and exclusive cases, which run alone.
 use Rattle.kt_sched.proofs.Common.{slice_get, Some, None, take, drop, filter, is_none, ◌≡◌, ℕ, ◌+◌, true, List, [], ◌++◌, length, refl, sym, ◌∙◌, ap, subst, arith, take-append_seam, drop-append_seam, length-map, take-append-drop, filter-append, Job, Stage, Waiting, Case, of, turns, body_starts, undecided_turns, next_to_start, Fed, SchedState, Stands, IsStage, HasTurn, IsSettled, Order, positions, is_undecided, ◌||◌, ◌<◌, ◌⊎◌, false, inl, inr, cases_Bool, or_left, or_right, cases_lt, cases_eq, Body, Cleanup, has_whole_history, owed, IsQuiet, IsExclusiveAtStart, is_active_stage, HasExclusive}
 use Rattle.kt_sched.proofs.Lists.{drop_at, filter_in, get_drop, slice_get-drop, counted_two, list_all_from}
 use Rattle.kt_sched.proofs.Stages.{waiting_stage, fresh_inactive, over_stage}
@@ -20,13 +20,13 @@ module _ {plan : List Job} {n : ℕ} {fed : Fed} {b : SchedState} (h : Stands pl
   in_parts =
       ap (filter is_undecided) (sym (take-append-drop b.turn (turns plan))) ∙ filter-append is_undecided (take b.turn (turns plan)) (drop b.turn (turns plan))
 
-  -- the bodies start in turn order
+  -- The bodies start in turn order.
   pub in_order : Order plan fed.trace
   in_order =
       h.turn.starts
       ∙ ap positions (sym (ap (λ k. take k (undecided_turns plan)) as_many ∙ (ap (take (length begun)) in_parts ∙ take-append_seam begun left)))
 
-  -- the next body to start is that of the first undecided case from the turn on
+  -- The next body to start is that of the first undecided case from the turn on.
   pub next_is : next_to_start plan fed.trace ≡ slice_get left 0
   next_is =
       ap (slice_get (undecided_turns plan)) as_many ∙ (ap (λ (zs : List Job). slice_get zs (length begun)) in_parts
@@ -41,7 +41,7 @@ module _ {plan : List Job} {n : ℕ} {fed : Fed} {b : SchedState} (h : Stands pl
       let w = filter_in is_undecided (drop b.turn (turns plan)) 0 job (sym next_is ∙ g) in
       (w.0, sym (get_drop (turns plan) b.turn w.0) ∙ w.1)
 
-  -- the case that has its turn waits, if no decided case can be put
+  -- The case at the turn waits, if no decided case can be put.
   pub upcoming : (i : ℕ) → b.ready ≡ None → IsSettled b → HasTurn b i
       → (a : AtTurn plan fed b i) × (a.case.stage ≡ Waiting) × (of i fed.trace ≡ []) × (a.job.decided ≡ None)
   upcoming i r s t =
@@ -51,22 +51,22 @@ module _ {plan : List Job} {n : ℕ} {fed : Fed} {b : SchedState} (h : Stands pl
       let q = subst P z a.stage in
       (a, z, q.0, q.1)
 
-  -- each case of the plan has its place in the order
+  -- Each case of the plan has an index in the turn order.
   pub covers : (k : ℕ) (j : Job) → slice_get plan k ≡ Some j → (m : ℕ) × (slice_get (turns plan) m ≡ Some j) × (slice_get b.order m ≡ Some k)
   covers k j g = let c = turn_covers plan h.cases.is_plan.placed k j g in (c.0, c.1, at_turn h c.0 j c.1 ∙ ap Some (h.cases.is_plan.placed k j g))
 
-  -- where nothing is active, a case that was begun has a whole history
+  -- If no case is active, each case that was begun has a whole history.
   begun_whole : b.active ≡ 0 → (i k : ℕ) (job : Job) → slice_get plan i ≡ Some job → slice_get b.order k ≡ Some i → k < b.turn
       → has_whole_history fed.trace job ≡ true
   begun_whole a i k job g o l =
       let s = h.cases.each i job g in
       (says_at h i job g).whole ∙ over_stage s.case.stage ((h.turn.met k i s.case o s.found).1 l) (inactive h i s.case a s.found)
 
-  -- ordinary cases stand before exclusive ones
+  -- Ordinary cases come before exclusive cases in the turn order.
   earlier : (k l : ℕ) (x y : Job) → slice_get (turns plan) k ≡ Some x → slice_get (turns plan) l ≡ Some y → x.exclusive ≡ true → y.exclusive ≡ false → l < k
   earlier k l x y g d e f = elim (cases_lt l k) [ inl z ↦ z | inr z ↦ absurd (cc (turn_sorted plan k l x y g d z e, f)) ]
 
-  -- the case whose turn it is, if it may start
+  -- The case at the turn, if it may start.
   module _ {i : ℕ} {job : Job} (o : slice_get b.order b.turn ≡ Some i) (g : slice_get plan i ≡ Some job) where
     same : (has_turn h i o).job ≡ job
     same = same_Some _ job (sym (has_turn h i o).place ∙ g)
@@ -84,11 +84,11 @@ module _ {plan : List Job} {n : ℕ} {fed : Fed} {b : SchedState} (h : Stands pl
           ]),
     )
 
-    -- the job that may start beside others is ordinary
+    -- A job that may start while other cases are active is ordinary.
     turn_ordinary : HasExclusive b.cases i false → job.exclusive ≡ false
     turn_ordinary x = ap (λ (j : Job). j.exclusive) (sym same) ∙ exclusive_is (has_turn h i o) x
 
-    -- where a body may start, no exclusive case is active
+    -- If a body may start, no exclusive case is active.
     pub no_exclusive_active : (b.active ≡ 0 ⊎ HasExclusive b.cases i false) → (k : ℕ) (j : Job) (c : Case)
         → slice_get plan k ≡ Some j → slice_get b.cases k ≡ Some c → j.exclusive ≡ true → is_active_stage c.stage ≡ true → ⊥
     no_exclusive_active (inl a) k j c x y e v = absurd (cc (inactive h k c a y, v))
@@ -97,7 +97,7 @@ module _ {plan : List Job} {n : ℕ} {fed : Fed} {b : SchedState} (h : Stands pl
         let r = earlier u.0 b.turn j job u.1 turn_is e (turn_ordinary w) in
         absurd (cc (fresh_inactive c.stage ((h.turn.met u.0 k c u.2 y).0 (omega (arith, r))), v))
 
-    -- an exclusive body that may start finds no active case
+    -- If an exclusive body may start, no case is active.
     pub exclusive_needs_none : (b.active ≡ 0 ⊎ HasExclusive b.cases i false) → job.exclusive ≡ true → b.active ≡ 0
     exclusive_needs_none (inl a) e = a
     exclusive_needs_none (inr w) e = absurd (cc (turn_ordinary w, e))

@@ -1,4 +1,4 @@
--- Which children of a launcher run, and which cleanups are pending.
+-- The running children of a launcher, and its pending cleanups.
 use Rattle.std.specs.Prelude.{ℕ, Bool, true, false, ◌==◌, ◌&&◌, ◌≡◌, Option, Some, None, ⊤, if◌then◌else◌}
 use Rattle.kt_sched.specs.Types.{Body, Cleanup, Ended, Job, Refused, Role, StartAnswer, Started}
 use Rattle.kt_base.specs.declared.child.Interface.{Interface}
@@ -6,16 +6,17 @@ use Rattle.kt_base.specs.declared.child.Interface.TheVariants as interface
 use Rattle.kt_claim.specs.declared.evidence.Evidence.{Evidence}
 use Rattle.kt_claim.specs.declared.evidence.Evidence.TheVariants as evidence
 
--- what a launcher shows of a child that runs
+-- `Child`: the facts that a launcher shows of a running child.
 pub record Child : Type 0 where
   pub interface : Interface
   pub cleanup : Bool
 
--- what a launcher shows of a job's child
+-- `child_of job`: the facts that a launcher shows of a job's child.
 abbrev pub child_of : Job → Child
 child_of job = record { interface = job.interface; cleanup = job.cleanup }
 
--- evidence of an interface; none of a cleanup
+-- `IsEvidence interface role evidence`: a body of this interface leaves this kind of evidence. A
+-- cleanup leaves `Plain`.
 abbrev pub IsEvidence : Interface → Role → Evidence → Type 0
 IsEvidence interface.Atf Body (evidence.Atf claim) = ⊤
 IsEvidence interface.Tap Body (evidence.Tap tap) = ⊤
@@ -23,42 +24,47 @@ IsEvidence interface.Plain Body evidence.Plain = ⊤
 IsEvidence kind Cleanup evidence.Plain = ⊤
 IsEvidence kind role other = ⊥
 
--- whether two roles are the same
+-- `same_role role other`: the two roles are equal.
 abbrev pub same_role : Role → Role → Bool
 same_role Body Body = true
 same_role Cleanup Cleanup = true
 same_role one other = false
 
--- a body starts if its case neither runs nor is pending, a cleanup if its case is pending
+-- `MayStart running pending i role`: a body may start if its case neither runs nor is pending, and
+-- a cleanup if its case is pending.
 abbrev pub MayStart : (ℕ → Role → Option Child) → (ℕ → Bool) → ℕ → Role → Type 0
 MayStart running pending i Body = (running i Body ≡ None) × (running i Cleanup ≡ None) × (pending i ≡ false)
 MayStart running pending i Cleanup = pending i ≡ true
 
--- a started child runs
+-- `running_after_start running job role answer k r`: the child that runs after this start. A
+-- started child runs.
 abbrev pub running_after_start : (ℕ → Role → Option Child) → Job → Role → StartAnswer → ℕ → Role → Option Child
 running_after_start running job role (Started moment) k r = if k == job.position && same_role r role then Some (child_of job) else running k r
 running_after_start running job role (Refused cause) k r = running k r
 
--- a cleanup that was asked for isn't pending
+-- `pending_after_start pending i role k`: after this start, the cleanup of case `k` is pending. A
+-- cleanup is not pending after its start, even if that was refused.
 abbrev pub pending_after_start : (ℕ → Bool) → ℕ → Role → ℕ → Bool
 pending_after_start pending i Body k = pending k
 pending_after_start pending i Cleanup k = if k == i then false else pending k
 
--- a child that ended doesn't run
+-- `running_after_end running e k r`: the child that runs after the end `e`. The child that ended
+-- doesn't run.
 abbrev pub running_after_end : (ℕ → Role → Option Child) → Ended → ℕ → Role → Option Child
 running_after_end running e k r = if k == e.position && same_role r e.role then None else running k r
 
--- whether a child declares a cleanup
+-- `with_cleanup_declared child`: the child declares a cleanup.
 abbrev pub with_cleanup_declared : Option Child → Bool
 with_cleanup_declared None = false
 with_cleanup_declared (Some child) = child.cleanup
 
--- a body with a declared cleanup is pending from its end on
+-- `pending_after_end running pending e k`: after the end `e`, the cleanup of case `k` is pending.
+-- The end of a body makes its declared cleanup pending.
 abbrev pub pending_after_end : (ℕ → Role → Option Child) → (ℕ → Bool) → Ended → ℕ → Bool
 pending_after_end running pending e k =
     if k == e.position && (same_role e.role Body && with_cleanup_declared (running e.position Body)) then true else pending k
 
--- nothing runs, and no cleanup is pending
+-- `IsIdle running pending`: no child runs, and no cleanup is pending.
 pub record IsIdle (running : ℕ → Role → Option Child) (pending : ℕ → Bool) : Type 0 where
   pub runs : (k : ℕ) (r : Role) → running k r ≡ None
   pub pends : (k : ℕ) → pending k ≡ false

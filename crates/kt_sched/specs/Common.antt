@@ -1,4 +1,4 @@
--- The words that the clauses of this crate cite, passed on from one place. Declares nothing.
+-- The names that the clauses of this crate cite, re-exported. Declares nothing.
 pub use Rattle.kt_base.specs.declared.child.Role.{Role}
 pub use Rattle.kt_sched.specs.Children.{IsIdle, same_role}
 pub use Rattle.kt_sched.specs.EntryOf.{IsEntryOf, no_output}

@@ -7,11 +7,12 @@ use Rattle.kt_status.specs.Tables.{IsVerdict, IsVerdictOfRefusal, IsVerdictAfter
 use Rattle.kt_sched.specs.Trace.{Event, Start, End, Trace, of}
 use Rattle.kt_sched.specs.History.{history, is_whole}
 
--- the output of a child that didn't run
+-- `no_output`: the output of a child that didn't run.
 abbrev pub no_output : Output
 no_output = record { out = []; err = [] }
 
--- the entry of a job: its verdict, its start, its time, and the outputs of body and cleanup
+-- `entry job verdict started millis body cleanup`: the entry of a job with its verdict, its start,
+-- its duration, and the outputs of body and cleanup.
 abbrev pub entry : Job → Judged → ℕ → ℕ → Output → Output → Entry
 entry job verdict started millis body cleanup = record {
   position = job.position;
@@ -25,7 +26,8 @@ entry job verdict started millis body cleanup = record {
   meta = job.meta;
 }
 
--- the entry of a case, only from its job and its own events
+-- `IsEntry job events entry`: a case with these events has this entry, which depends on the job and
+-- these events only.
 pub data IsEntry (job : Job) : List Event → Entry → Type 0 where
   decided : (v : Judged) → job.decided ≡ Some v → IsEntry job [] (entry job v 0 0 no_output no_output)
   refused : (i : ℕ) (cause : Cause) (v : Judged) → IsVerdictOfRefusal cause v
@@ -39,19 +41,20 @@ pub data IsEntry (job : Job) : List Event → Entry → Type 0 where
       → IsVerdict e.evidence e.outcome body → IsVerdictAfter body (cleanup.Ended f.outcome) v
       → IsEntry job (Start i Body (Started m) ∷ End e ∷ Start j Cleanup (Started k) ∷ End f ∷ []) (entry job v m (f.moment - m) e.output f.output)
 
--- the puts of these entries, all of them successful, lead a sink from the first state to the second
+-- `Gains puts entries old new`: successful puts of these entries lead a sink from `old` to `new`.
 abbrev pub Gains : {S : Type 0} → (S → Entry → Result (Unit {0}) SinkFault → S → Type 0) → List Entry → S → S → Type 0
 Gains puts [] old new = new ≡ old
 Gains {S} puts (e ∷ es) old new = (mid : S) × puts old e (Ok tt) mid × Gains puts es mid new
 
--- the entry of the case at a position, whose history is whole
+-- `IsEntryOf plan T i entry`: the history of case `i` is whole, and `entry` is its entry.
 pub record IsEntryOf (plan : List Job) (T : Trace) (i : ℕ) (entry : Entry) : Type 0 where
   pub job : Job
   pub place : slice_get plan i ≡ Some job
   pub whole : is_whole job (history i T) ≡ true
   pub entry_is : IsEntry job (of i T) entry
 
--- these are the entries of the cases at these positions, one each
+-- `AreEntries plan T positions entries`: the entries are those of the cases at these positions, in
+-- order.
 abbrev pub AreEntries : List Job → Trace → List ℕ → List Entry → Type 0
 AreEntries plan T [] [] = ⊤
 AreEntries plan T (p ∷ ps) (e ∷ es) = IsEntryOf plan T p e × AreEntries plan T ps es

@@ -1,4 +1,4 @@
--- The answers that a scheduler got so far, and those that it may get next.
+-- The responses of a scheduler so far, and the next possible responses.
 use Rattle.std.specs.Prelude.{ℕ, Bool, true, false, List, [], ◌∷◌, ◌≡◌, ◌+◌, Option, Some, None, is_some, ⊤}
 use Rattle.kt_sched.specs.Types.{Answer, Body, Cleanup, Next, Refused, Role, Started}
 use Rattle.kt_sched.specs.declared.next.Next.TheVariants as next
@@ -6,21 +6,22 @@ use Rattle.kt_sched.specs.declared.next.Answer.TheVariants as answer
 use Rattle.kt_sched.specs.Trace.{Start, End, Trace, NoEvent, Then, event_count}
 use Rattle.kt_sched.specs.History.{Mark, BodyStarted, BodyEnded, CleanupStarted, history}
 
--- the answers fed so far: those of the launcher, how many entries were stored, and how many events came before a failed put
+-- `Fed`: the responses so far: those of the launcher, the number of stored entries, and the number
+-- of events before a failed put.
 pub record Fed : Type 0 where
   pub trace : Trace
   pub stored : ℕ
   pub stopped : Option ℕ
 
--- nothing was fed yet
+-- `nothing_fed`: no response so far.
 abbrev pub nothing_fed : Fed
 nothing_fed = record { trace = NoEvent; stored = 0; stopped = None }
 
--- whether a put failed
+-- `has_failed fed`: a put failed.
 abbrev pub has_failed : Fed → Bool
 has_failed fed = is_some fed.stopped
 
--- one more answer, to what was asked
+-- `fed_after fed asked answer`: the responses `fed` with one more, to the step `asked`.
 abbrev pub fed_after : Fed → Next → Answer → Fed
 fed_after fed (next.Start i role) (answer.Started moment) = record fed { trace = Then fed.trace (Start i role (Started moment)) }
 fed_after fed (next.Start i role) (answer.Refused cause) = record fed { trace = Then fed.trace (Start i role (Refused cause)) }
@@ -29,17 +30,18 @@ fed_after fed (next.Put i) answer.Stored = record fed { stored = fed.stored + 1 
 fed_after fed (next.Put i) answer.StoreFailed = record fed { stopped = Some (event_count fed.trace) }
 fed_after fed asked other = fed
 
--- a body that runs, or a cleanup that does
+-- `role_runs role history`: after this history of a case, its child in this role runs.
 abbrev pub role_runs : Role → List Mark → Bool
 role_runs Body (BodyStarted ∷ []) = true
 role_runs Cleanup (BodyStarted ∷ BodyEnded ∷ CleanupStarted ∷ []) = true
 role_runs role other = false
 
--- whether a child runs after these events
+-- `runs i role T`: after the events `T`, the child of case `i` in this role runs.
 abbrev pub runs : ℕ → Role → Trace → Bool
 runs i role T = role_runs role (history i T)
 
--- the answer fits what was asked; an end is that of a child that runs
+-- `IsAnswerTo T asked answer`: the response fits the step `asked`. An end is the end of a running
+-- child.
 abbrev pub IsAnswerTo : Trace → Next → Answer → Type 0
 IsAnswerTo T (next.Start i role) (answer.Started moment) = ⊤
 IsAnswerTo T (next.Start i role) (answer.Refused cause) = ⊤

@@ -1,4 +1,4 @@
--- What the core's own functions do: cited only by private functions.
+-- Definitions for private functions. No public clause cites them.
 pub mod Answers
 pub mod Cases
 pub mod Choice

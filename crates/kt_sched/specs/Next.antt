@@ -1,4 +1,4 @@
--- What is to be done next.
+-- The next step of a run.
 use Rattle.std.specs.Prelude.{ℕ, true, false, List, [], ◌∷◌, ◌≡◌, ◌<◌, ◌⊎◌, Some, None, slice_get, is_some, ⊤}
 use Rattle.std.specs.List.{list_all}
 use Rattle.kt_sched.specs.Types.{Body, Cleanup, Job, Next, Role}
@@ -10,11 +10,12 @@ use Rattle.kt_sched.specs.ScheduleRules.{owed, IsBusy, IsExclusiveAtStart}
 use Rattle.kt_sched.specs.RecordOrder.{recorded, was_open}
 use Rattle.kt_sched.specs.Fed.{Fed, has_failed, runs}
 
--- each position of the record order is stored
+-- `IsUpToDate plan n fed`: the entry of each position in the record order is stored.
 abbrev pub IsUpToDate : List Job → ℕ → Fed → Type 0
 IsUpToDate plan n fed = slice_get (recorded plan n fed.trace) fed.stored ≡ None
 
--- the next body in turn order may be started: width and exclusiveness allow it
+-- `MayBegin plan n T i`: case `i` has the next body in turn order, and width and exclusiveness
+-- allow its start.
 pub record MayBegin (plan : List Job) (n : ℕ) (T : Trace) (i : ℕ) : Type 0 where
   pub job : Job
   pub next : next_to_start plan T ≡ Some job
@@ -22,7 +23,8 @@ pub record MayBegin (plan : List Job) (n : ℕ) (T : Trace) (i : ℕ) : Type 0 w
   pub room : active plan T < n
   pub exclusive : IsExclusiveAtStart plan T i Body
 
--- what is to be done after these answers: the first that holds; after a failed put nothing is put and no body started
+-- `IsNext plan n fed next`: `next` is the first step that applies after these responses. After a
+-- failed put, nothing is put and no body is started.
 abbrev pub IsNext : List Job → ℕ → Fed → Next → Type 0
 IsNext plan n fed (next.Put i) = (has_failed fed ≡ false) × (slice_get (recorded plan n fed.trace) fed.stored ≡ Some i)
 IsNext plan n fed (next.Start i Cleanup) = (has_failed fed ≡ false → IsUpToDate plan n fed) × (owed plan fed.trace ≡ Some i)
@@ -35,22 +37,22 @@ IsNext plan n fed next.Done =
     (has_failed fed ≡ false → IsUpToDate plan n fed) × (owed plan fed.trace ≡ None) × (has_failed fed ≡ false → IsBusy plan n fed.trace)
     × ((i : ℕ) (role : Role) → runs i role fed.trace ≡ false)
 
--- what is known of the case that is to be started
+-- `MayStartNow plan T i role`: the facts of a case that is to be started.
 pub record MayStartNow (plan : List Job) (T : Trace) (i : ℕ) (role : Role) : Type 0 where
   pub job : Job
   pub place : slice_get plan i ≡ Some job
   pub unfinished : is_whole job (history i T) ≡ false
   pub exclusive : IsExclusiveAtStart plan T i role
 
--- each case that has an event has a whole history
+-- `AreWhole plan T`: each case that has an event has a whole history.
 abbrev pub AreWhole : List Job → Trace → Type 0
 AreWhole plan T = (i : ℕ) (job : Job) → slice_get plan i ≡ Some job → (of i T ≡ []) ⊎ (has_whole_history T job ≡ true)
 
--- each decided case was open to be put
+-- `WereOpen plan n T`: each decided case was open to be put.
 abbrev pub WereOpen : List Job → ℕ → Trace → Type 0
 WereOpen plan n T = (i : ℕ) (job : Job) → slice_get plan i ≡ Some job → is_some job.decided ≡ true → was_open plan n T job ≡ true
 
--- what follows where this is to be done
+-- `Follows plan n fed next`: the consequences of the fact that `next` is the next step.
 abbrev pub Follows : List Job → ℕ → Fed → Next → Type 0
 Follows plan n fed (next.Put i) = ⊤
 Follows plan n fed (next.Start i Body) = MayStartNow plan fed.trace i Body × (history i fed.trace ≡ [])

@@ -1,4 +1,4 @@
--- The scheduler's state, and what it stands for.
+-- The scheduler's state, and the responses that it represents.
 use Rattle.std.specs.Prelude.{ℕ, Bool, true, false, List, [], ◌∷◌, ◌++◌, ◌==◌, ◌≡◌, ◌≢◌, ◌<◌, ◌≤◌, ◌⊎◌, Option, Some, None, map, take, drop, filter, count_by, sum_by, length, slice_get, is_some, is_none, ⊤}
 use Rattle.std.specs.Option.{option_map, option_to_list}
 use Rattle.kt_sched.specs.Types.{Answer, Body, Case, CaseRecord, Cleaning, Cleanup, Decided, Ended, EndedBody, Entry, Finished, Job, Judged, Next, Owing, Running, Stage, Started, Taken, Waiting}
@@ -13,7 +13,7 @@ use Rattle.kt_sched.specs.EntryOf.{entry, IsEntry, no_output}
 use Rattle.kt_sched.specs.Plan.{IsPlan}
 use Rattle.kt_sched.specs.Fed.{Fed, has_failed, IsAnswerTo}
 
--- the scheduler's state
+-- `SchedState`: a state of the scheduler.
 pub record SchedState : Type 0 where
   pub cases : List Case
   pub order : List ℕ
@@ -25,20 +25,20 @@ pub record SchedState : Type 0 where
   pub asked : Next
   pub failed : Bool
 
--- a case that waits for its turn
+-- `is_fresh stage`: the case waits for its turn.
 abbrev pub is_fresh : Stage → Bool
 is_fresh Waiting = true
 is_fresh Decided = true
 is_fresh _ = false
 
--- whether a stage is that of an active case
+-- `is_active_stage stage`: the case is active.
 abbrev pub is_active_stage : Stage → Bool
 is_active_stage (Running m) = true
 is_active_stage (Owing b) = true
 is_active_stage (Cleaning b) = true
 is_active_stage _ = false
 
--- how many answers a case may still take
+-- `stage_work stage`: the number of steps that are left for a case in this stage, at most.
 abbrev pub stage_work : Stage → ℕ
 stage_work Waiting = 5
 stage_work Decided = 1
@@ -48,36 +48,38 @@ stage_work (Cleaning b) = 2
 stage_work (Finished t) = 1
 stage_work Taken = 0
 
--- how many answers all cases may still take
+-- `work cases`: the number of steps that are left for all cases, at most.
 abbrev pub work : List Case → ℕ
 work cases = sum_by (λ c. stage_work c.stage) cases
 
--- how much work is left: an answer to a put leaves it, each other takes some away
+-- `Works next old new`: the effect of a response on the work left: the response to a put keeps it,
+-- each other response reduces it.
 abbrev pub Works : Next → ℕ → ℕ → Type 0
 Works (next.Put i) old new = new ≡ old
 Works (next.Start i role) old new = new < old
 Works next.Wait old new = new < old
 Works next.Done old new = ⊤
 
--- the record of a decided case
+-- `decided_record verdict`: the record of a decided case.
 abbrev pub decided_record : Judged → CaseRecord
 decided_record verdict = record { verdict = verdict; started = 0; millis = 0; body = no_output; cleanup = no_output }
 
--- the record of a case that is over or decided
+-- `record_in job stage`: the record of a case, if the case is over or decided.
 abbrev pub record_in : Job → Stage → Option CaseRecord
 record_in job (Finished t) = Some t
 record_in job Decided = option_map decided_record job.decided
 record_in job _ = None
 
--- the entry of a job with this record
+-- `entry_with job record`: the entry of a job with this record.
 abbrev pub entry_with : Job → CaseRecord → Entry
 entry_with job t = entry job t.verdict t.started t.millis t.body t.cleanup
 
--- what is kept of a body with this verdict, which started at this moment and ended so
+-- `ended_body verdict started e`: the data kept of a body that started at this timestamp and ended
+-- with `e`.
 abbrev pub ended_body : Judged → ℕ → Ended → EndedBody
 ended_body verdict started e = record { started = started; ended = e.moment; verdict = verdict; output = e.output }
 
--- how a stage stands for the events of its case
+-- `IsStage i job stage events`: the stage represents these events of case `i`.
 abbrev pub IsStage : ℕ → Job → Stage → List Event → Type 0
 IsStage i job Waiting es = (es ≡ []) × (job.decided ≡ None)
 IsStage i job Decided es = (es ≡ []) × (is_some job.decided ≡ true)
@@ -91,36 +93,37 @@ IsStage i job (Cleaning b) es =
 IsStage i job (Finished t) es = (is_whole job (map mark_of es) ≡ true) × IsEntry job es (entry_with job t)
 IsStage i job Taken es = is_whole job (map mark_of es) ≡ true
 
--- how a case stands for the events of a trace
+-- `CaseStands T i job cases`: the case at position `i` represents its events in the trace `T`.
 pub record CaseStands (T : Trace) (i : ℕ) (job : Job) (cases : List Case) : Type 0 where
   pub case : Case
   pub found : slice_get cases i ≡ Some case
   pub stage : IsStage i job case.stage (of i T)
   pub kept : case.stage ≢ Taken → case.job ≡ job
 
--- whether a case is exclusive
+-- `HasExclusive cases i flag`: case `i` is exclusive if `flag` is true, else ordinary.
 abbrev pub HasExclusive : List Case → ℕ → Bool → Type 0
 HasExclusive cases i flag = (c : Case) × (slice_get cases i ≡ Some c) × (c.job.exclusive ≡ flag)
 
--- whether a case that waits for its turn is decided
+-- `is_decided_stage stage`: the case is decided, and waits for its turn.
 abbrev pub is_decided_stage : Stage → Bool
 is_decided_stage Decided = true
 is_decided_stage _ = false
 
--- whether a case waits for its turn to be put
+-- `HasDecided cases i flag`: case `i` waits for its turn to be put if `flag` is true, else it
+-- doesn't.
 abbrev pub HasDecided : List Case → ℕ → Bool → Type 0
 HasDecided cases i flag = (c : Case) × (slice_get cases i ≡ Some c) × (is_decided_stage c.stage ≡ flag)
 
--- the case that has its turn, if no put failed and there is room for it: fewer cases are active than the width, and none is if this one is
--- exclusive
+-- `HasTurn b i`: case `i` is at the turn, no put failed, and there is a free slot: fewer cases are
+-- active than the width, and none is if case `i` is exclusive.
 abbrev pub HasTurn : SchedState → ℕ → Type 0
 HasTurn b i = (b.failed ≡ false) × (slice_get b.order b.turn ≡ Some i) × (b.active < b.width) × (b.active ≡ 0 ⊎ HasExclusive b.cases i false)
 
--- no decided case can be put
+-- `IsSettled b`: no decided case is to be made ready.
 abbrev pub IsSettled : SchedState → Type 0
 IsSettled b = b.ready ≡ None → (i : ℕ) → HasTurn b i → HasDecided b.cases i false
 
--- what was asked last fits the state
+-- `IsAsked b next`: the step `next`, which was asked last, fits the state.
 abbrev pub IsAsked : SchedState → Next → Type 0
 IsAsked b (next.Start i Body) = (b.ready ≡ None) × (b.pending ≡ None) × HasTurn b i × IsSettled b
 IsAsked b (next.Start i Cleanup) = (b.ready ≡ None) × (b.pending ≡ Some i) × IsSettled b
@@ -128,47 +131,48 @@ IsAsked b next.Wait = (b.ready ≡ None) × (b.pending ≡ None) × (0 < b.activ
 IsAsked b (next.Put i) = (b.failed ≡ false) × (b.ready ≡ Some i)
 IsAsked b next.Done = ⊤
 
--- a case that has a record: its entry can be taken
+-- `HasRecord cases i`: case `i` has a record, so its entry can be taken.
 abbrev pub HasRecord : List Case → ℕ → Type 0
 HasRecord cases i = (c : Case) × (t : CaseRecord) × (slice_get cases i ≡ Some c) × (record_in c.job c.stage ≡ Some t)
 
--- the job of this case can be lent: it is not yet taken
+-- `CanLend cases i`: the entry of case `i` is not taken yet, so its job can be lent.
 abbrev pub CanLend : List Case → ℕ → Type 0
 CanLend cases i = (c : Case) × (slice_get cases i ≡ Some c) × (c.stage ≢ Taken)
 
--- the verdict is decided
+-- `is_decided job`: the job's verdict is decided.
 abbrev pub is_decided : Job → Bool
 is_decided job = is_some job.decided
 
--- no verdict is decided
+-- `is_undecided job`: the job's verdict is not decided.
 abbrev pub is_undecided : Job → Bool
 is_undecided job = is_none job.decided
 
--- the decided cases that can be put, from a turn on
+-- `opened plan n T turn`: the decided cases from the turn on that can be put.
 abbrev pub opened : List Job → ℕ → Trace → ℕ → List Job
 opened plan n T turn = filter (is_open plan n T) (drop turn (turns plan))
 
--- the positions of jobs
+-- `positions jobs`: the positions of these jobs.
 abbrev pub positions : List Job → List ℕ
 positions jobs = map (λ (job : Job). job.position) jobs
 
--- the decided cases before a turn had their due, those from there on have it now or not yet
+-- `AreGone plan n T turn`: each decided case before the turn was open. A case from the turn on was
+-- open only if it is open now.
 pub record AreGone (plan : List Job) (n : ℕ) (T : Trace) (turn : ℕ) : Type 0 where
   pub gone : (k : ℕ) (job : Job) → k < turn → slice_get (turns plan) k ≡ Some job → is_decided job ≡ true → was_open plan n T job ≡ true
   pub due : (k : ℕ) (job : Job) → turn ≤ k → slice_get (turns plan) k ≡ Some job → was_open plan n T job ≡ is_open plan n T job
 
--- whether a stage owes its cleanup
+-- `is_owing_stage stage`: the case owes its cleanup.
 abbrev pub is_owing_stage : Stage → Bool
 is_owing_stage (Owing b) = true
 is_owing_stage _ = false
 
--- whether this case is the one
+-- `is_owed pending k`: case `k` is the pending case.
 abbrev pub is_owed : Option ℕ → ℕ → Bool
 is_owed None k = false
 is_owed (Some i) k = k == i
 
--- how the cases stand for a trace, and what is owed: so many of them are active, no more than the width, and only one if one of these is
--- exclusive
+-- `CasesStand plan n T cases a width pending`: the cases represent a trace. `pending` owes its
+-- cleanup. `a` cases are active, at most the width, and only one if an exclusive case is active.
 pub record CasesStand (plan : List Job) (n : ℕ) (T : Trace) (cases : List Case) (a width : ℕ) (pending : Option ℕ) : Type 0 where
   pub is_plan : IsPlan plan
   pub room : 0 < n
@@ -183,7 +187,8 @@ pub record CasesStand (plan : List Job) (n : ℕ) (T : Trace) (cases : List Case
   pub owing : (k : ℕ) (c : Case) → slice_get cases k ≡ Some c → is_owing_stage c.stage ≡ is_owed pending k
   pub owed_within : (k : ℕ) → pending ≡ Some k → k < length cases
 
--- how a turn stands for a trace: the bodies that were started are the undecided ones before it, and the cases from it on weren't begun
+-- `TurnStands plan T cases order turn`: the turn represents a trace: exactly the undecided cases
+-- before the turn were started.
 pub record TurnStands (plan : List Job) (T : Trace) (cases : List Case) (order : List ℕ) (turn : ℕ) : Type 0 where
   pub walk : order ≡ positions (turns plan)
   pub within : turn ≤ length order
@@ -191,7 +196,8 @@ pub record TurnStands (plan : List Job) (T : Trace) (cases : List Case) (order :
   pub met : (k i : ℕ) (c : Case) → slice_get order k ≡ Some i → slice_get cases i ≡ Some c
       → (turn ≤ k → is_fresh c.stage ≡ true) × (k < turn → c.stage ≢ Waiting)
 
--- what is still to be put: the position that is ready, and then decided cases from the turn on
+-- `PutsStand plan n fed order turn next stop`: the puts left are those of the ready case `next` and
+-- of the open cases from the turn on.
 pub record PutsStand (plan : List Job) (n : ℕ) (fed : Fed) (order : List ℕ) (turn : ℕ) (next : Option ℕ) (stop : Bool) : Type 0 where
   pub failed : stop ≡ has_failed fed
   pub stopped : stop ≡ true → next ≡ None
@@ -200,7 +206,7 @@ pub record PutsStand (plan : List Job) (n : ℕ) (fed : Fed) (order : List ℕ) 
   pub ready : has_failed fed ≡ false → drop fed.stored (recorded plan n fed.trace) ≡ option_to_list next ++ positions (opened plan n fed.trace turn)
   pub ripe : (i m : ℕ) → next ≡ Some i → slice_get order m ≡ Some i → m < turn
 
--- the state stands for a plan, a width and the answers fed so far
+-- `Stands plan n fed b`: the state represents the plan, the width and the responses so far.
 pub record Stands (plan : List Job) (n : ℕ) (fed : Fed) (b : SchedState) : Type 0 where
   pub cases : CasesStand plan n fed.trace b.cases b.active b.width b.pending
   pub turn : TurnStands plan fed.trace b.cases b.order b.turn
@@ -208,19 +214,20 @@ pub record Stands (plan : List Job) (n : ℕ) (fed : Fed) (b : SchedState) : Typ
   pub has_record : (i : ℕ) → b.ready ≡ Some i → b.asked ≡ next.Done → HasRecord b.cases i
   pub asked : IsAsked b b.asked
 
--- what holds of each plan, width and answers that the state stands for
+-- `Implies b P`: `P` holds for each plan, width and responses that the state represents.
 abbrev pub Implies : SchedState → (List Job → ℕ → Fed → Type 0) → Type 0
 Implies b P = (plan : List Job) (n : ℕ) (fed : Fed) → Stands plan n fed b → P plan n fed
 
--- the state stands for some plan, width and answers
+-- `IsStanding b`: the state represents some plan, width and responses.
 abbrev pub IsStanding : SchedState → Type 0
 IsStanding b = (plan : List Job) × (n : ℕ) × (fed : Fed) × Stands plan n fed b
 
--- the answer fits what was asked last
+-- `IsAnswer b answer`: the response fits the step that was asked last.
 abbrev pub IsAnswer : SchedState → Answer → Type 0
 IsAnswer b answer = (plan : List Job) × (n : ℕ) × (fed : Fed) × Stands plan n fed b × IsAnswerTo fed.trace b.asked answer
 
--- an event leads the scheduler from the first state to the second: it stands for one event more, and has less work left
+-- `Takes old event new`: the event leads the scheduler from `old` to `new`, which represents one
+-- more event and has less work left.
 pub record Takes (old : SchedState) (e : Event) (new : SchedState) : Type 0 where
   pub stands : Implies old (λ plan n fed. Stands plan n (record fed { trace = Then fed.trace e }) new)
   pub less : work new.cases < work old.cases

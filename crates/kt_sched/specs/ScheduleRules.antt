@@ -7,65 +7,67 @@ use Rattle.kt_sched.specs.Trace.{Event, Start, End, Trace, NoEvent, Then, of, fi
 use Rattle.kt_sched.specs.History.{has_whole_history, is_active, active}
 use Rattle.kt_sched.specs.TurnOrder.{body_starts, undecided_turns, next_to_start}
 
--- each event, with the events before it
+-- `Each P T`: `P` holds for each event of `T` and the events before it.
 abbrev pub Each : (Trace → Event → Type 0) → Trace → Type 0
 Each P NoEvent = ⊤
 Each P (Then T e) = Each P T × P T e
 
--- the bodies start in turn order
+-- `Order plan T`: the bodies start in turn order.
 abbrev pub Order : List Job → Trace → Type 0
 Order plan T = body_starts T ≡ map (λ job. job.position) (take (length (body_starts T)) (undecided_turns plan))
 
--- a body starts only while fewer than n cases are active
+-- `WidthAt plan n T event`: a body starts only while fewer than `n` cases are active.
 abbrev pub WidthAt : List Job → ℕ → Trace → Event → Type 0
 WidthAt plan n T (Start i Body answer) = active plan T < n
 WidthAt plan n T other = ⊤
 
--- no case is active and every ordinary history is whole
+-- `IsQuiet plan T`: no case is active, and the history of each ordinary case is whole.
 abbrev pub IsQuiet : List Job → Trace → Type 0
 IsQuiet plan T = (active plan T ≡ 0) × (list_all (λ (job : Job). job.exclusive || has_whole_history T job) plan ≡ true)
 
--- a start after some events: an exclusive body starts only where all is quiet, and while an exclusive case is active only its own
--- cleanup starts
+-- `IsExclusiveAtStart plan T i role`: an exclusive body starts only if `IsQuiet` holds. While an
+-- exclusive case is active, only its own cleanup starts.
 pub record IsExclusiveAtStart (plan : List Job) (T : Trace) (i : ℕ) (role : Role) : Type 0 where
   pub quiet : (job : Job) → slice_get plan i ≡ Some job → job.exclusive ≡ true → role ≡ Body → IsQuiet plan T
   pub own : (job : Job) (k : ℕ) → slice_get plan k ≡ Some job → job.exclusive ≡ true → is_active T job ≡ true → (k ≡ i) × (role ≡ Cleanup)
 
--- the rule for an event: a start keeps this, and an end is free
+-- `ExclusiveAt plan T event`: the event keeps `IsExclusiveAtStart` if it is a start. An end is not
+-- restricted.
 abbrev pub ExclusiveAt : List Job → Trace → Event → Type 0
 ExclusiveAt plan T (Start i role answer) = IsExclusiveAtStart plan T i role
 ExclusiveAt plan T (End ended) = ⊤
 
--- whether the case at a position declares a cleanup
+-- `declares plan i`: case `i` declares a cleanup.
 abbrev pub declares : List Job → ℕ → Bool
 declares plan i = elim (slice_get plan i) [ None ↦ false | Some job ↦ job.cleanup ]
 
--- the case whose body's end was the last event, with a declared cleanup
+-- `owed plan T`: the case with a declared cleanup whose body ended with the last event.
 abbrev pub owed : List Job → Trace → Option ℕ
 owed plan NoEvent = None
 owed plan (Then T (Start i role answer)) = None
 owed plan (Then T (End ended)) = if same_role ended.role Body && declares plan ended.position then Some ended.position else None
 
--- the start of this cleanup
+-- `IsCleanupStart event owing`: the event is the start of the cleanup of case `owing`.
 abbrev pub IsCleanupStart : Event → ℕ → Type 0
 IsCleanupStart (Start i role answer) owing = (i ≡ owing) × (role ≡ Cleanup)
 IsCleanupStart (End ended) owing = ⊥
 
--- a body's end with a declared cleanup is followed by that cleanup's start
+-- `PromptAt plan T event`: after the end of a body with a declared cleanup, the start of that
+-- cleanup follows.
 abbrev pub PromptAt : List Job → Trace → Event → Type 0
 PromptAt plan T e = IfSome (owed plan T) (IsCleanupStart e)
 
--- no body may be started
+-- `IsBusy plan n T`: no body may be started.
 abbrev pub IsBusy : List Job → ℕ → Trace → Type 0
 IsBusy plan n T =
     (active plan T ≡ n) ⊎ MatchOption (next_to_start plan T) ⊤ (λ job. (job.exclusive ≡ true) × (0 < active plan T))
 
--- a wait comes only while no body may be started
+-- `BusyAt plan n T event`: a wait comes only while no body may be started.
 abbrev pub BusyAt : List Job → ℕ → Trace → Event → Type 0
 BusyAt plan n T (Start i role answer) = ⊤
 BusyAt plan n T (End ended) = IsBusy plan n T
 
--- what holds of each finished trace
+-- `Legal plan n T`: the rules that each finished trace keeps.
 pub record Legal (plan : List Job) (n : ℕ) (T : Trace) : Type 0 where
   pub whole : list_all (has_whole_history T) plan ≡ true
   pub order : Order plan T
@@ -74,7 +76,8 @@ pub record Legal (plan : List Job) (n : ℕ) (T : Trace) : Type 0 where
   pub prompt : Each (PromptAt plan) T
   pub busy : Each (BusyAt plan n) T
 
--- what holds of a trace that was stopped after k events: each case that has an event has a whole history
+-- `Stopped plan n T k`: the rules that a trace keeps if a put failed after `k` events. Each case
+-- that has an event has a whole history.
 pub record Stopped (plan : List Job) (n : ℕ) (T : Trace) (k : ℕ) : Type 0 where
   pub starts : body_starts T ≡ body_starts (first k T)
   pub whole : (job : Job) (i : ℕ) → slice_get plan i ≡ Some job → (of i T ≡ []) ⊎ (has_whole_history T job ≡ true)

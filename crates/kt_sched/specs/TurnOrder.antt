@@ -1,26 +1,27 @@
--- The turn order, and the bodies that were started.
+-- The turn order, and the starts of bodies.
 use Rattle.std.specs.Prelude.{ℕ, List, [], ◌∷◌, ◌++◌, not, filter, length, Option, slice_get, is_none}
 use Rattle.kt_sched.specs.Types.{Body, Job}
 use Rattle.kt_sched.specs.Trace.{Event, Start, Trace, NoEvent, Then}
 
--- the position of a body's start, if the event is one
+-- `body_start_of event`: the position of the case whose body the event starts, if it does.
 abbrev pub body_start_of : Event → List ℕ
 body_start_of (Start i Body answer) = i ∷ []
 body_start_of other = []
 
--- the positions of the body starts, in order
+-- `body_starts T`: the positions of the cases whose bodies were started, in order. Refused starts
+-- count, too.
 abbrev pub body_starts : Trace → List ℕ
 body_starts NoEvent = []
 body_starts (Then T e) = body_starts T ++ body_start_of e
 
--- first all ordinary cases, then all exclusive ones
+-- `turns plan`: the turn order: all ordinary cases, then all exclusive cases.
 abbrev pub turns : List Job → List Job
 turns plan = filter (λ job. not job.exclusive) plan ++ filter (λ job. job.exclusive) plan
 
--- the cases that are to be started, in turn order
+-- `undecided_turns plan`: the cases that are to be started, in turn order.
 abbrev pub undecided_turns : List Job → List Job
 undecided_turns plan = filter (λ job. is_none job.decided) (turns plan)
 
--- the next case whose body is to start
+-- `next_to_start plan T`: the next case whose body is to be started.
 abbrev pub next_to_start : List Job → Trace → Option Job
 next_to_start plan T = slice_get (undecided_turns plan) (length (body_starts T))

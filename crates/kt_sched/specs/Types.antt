@@ -1,4 +1,4 @@
--- The types that the definitions of this crate name, passed on from one place. Declares nothing.
+-- The types that the definitions of this crate name, re-exported. Declares nothing.
 pub use Rattle.kt_base.specs.Verdicts.{Judged}
 pub use Rattle.kt_base.specs.declared.child.Role.{Role}
 pub use Rattle.kt_base.specs.declared.child.Role.TheVariants.{Body, Cleanup}

@@ -5,7 +5,7 @@ use crate::stage::CaseRecord;
 use kt_base::{Bytes, Output, Verdict};
 use std::alloc::Global;
 
-/// The output of a child that did not run, which takes no memory.
+/// Returns the output of a child that did not run. The call doesn't allocate.
 pub fn no_output(alloc: Global) -> Output
     ensures { result ≡ no_output }
 {
@@ -15,7 +15,9 @@ pub fn no_output(alloc: Global) -> Output
     }
 }
 
-/// The record of a case that was not started: its verdict was decided before, or its body was refused.
+/// Creates the record of a case that was not started.
+///
+/// Its verdict was decided before the run, or the start of its body was refused.
 pub fn decided_record(alloc: Global, verdict: Verdict) -> CaseRecord
     ensures { result ≡ decided_record verdict }
 {

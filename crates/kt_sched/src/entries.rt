@@ -6,7 +6,9 @@ use kt_base::{Entry, Text, Variables};
 use std::alloc::Global;
 use std::mem;
 
-/// Takes the entry out of a case that is over. Names, reason and outputs are moved.
+/// Removes the entry from a case that is over, and returns it.
+///
+/// Names, reason and outputs are moved, not copied.
 pub fn take_entry(alloc: Global, cases: &mut Vec<Case>, i: u32) -> Entry
     requires { HasRecord cases.old.items i }
     ensures { TookEntry cases.old.items cases.new.items i result }

@@ -1,35 +1,39 @@
 use kt_base::{Interface, Outcome, Output, Refused, Role, Text, Variables, Verdict};
 use kt_claim::Evidence;
 
-/// The most cases that may be active at once (this profile).
+/// The greatest number of cases that may be active at once (this profile).
 pub const MAX_WIDTH: u32 = 256;
 
-/// The longest time that a case is given, in seconds (this profile).
+/// The greatest timeout of a case, in seconds (this profile).
 pub const MAX_TIMEOUT: u32 = 1_000_000;
 
-/// One test case of a plan.
+/// A job of the scheduler: one test case of a plan.
 pub struct Job {
-    /// The place in the plan, counted from 0.
+    /// The position in the plan, counted from 0.
     pub position: u32,
+    /// The interface of the test program.
     pub interface: Interface,
     /// The path of the test program, relative to the directory of the root Kyuafile.
     pub program: Text,
+    /// The name of the test case.
     pub case_name: Text,
     /// The configuration variables of the case's test suite, in order.
     pub vars: Variables,
-    /// In seconds, 1 to 1,000,000.
+    /// The timeout of the case's body, in seconds, 1 to 1,000,000.
     pub timeout: u32,
-    /// Whether no other case may run beside it (`is_exclusive` of kyuafile(5)).
+    /// `true` if no other case may be active at the same time (`is_exclusive` of kyuafile(5)).
     pub exclusive: bool,
-    /// Whether a cleanup is declared (`has.cleanup` of atf-test-case(4)).
+    /// `true` if the case declares a cleanup (`has.cleanup` of atf-test-case(4)).
     pub cleanup: bool,
-    /// The verdict of a case that is not started: its requirements are not met, or the list of its program failed.
+    /// The verdict of a case that is not started, since a requirement is not met or the list of its
+    /// program failed.
     pub decided: Option<Verdict>,
-    /// What the case declares, as names with values. Its entry has them too.
+    /// The properties that the case declares, as names with values. The case's entry contains them,
+    /// too.
     pub meta: Variables,
 }
 
-/// Written out, so that a drop is one call.
+/// Written out instead of derived, so that a drop is one call.
 impl Drop for Job {
     fn drop(self) {
         let Job {
@@ -47,23 +51,28 @@ impl Drop for Job {
     }
 }
 
-/// The answer of a launcher to a start.
+/// A response of a launcher to a start.
 #[derive(Clone, Copy)]
 pub enum StartAnswer {
-    /// With the moment, in milliseconds since 1970 in UTC.
+    /// The child was started at this timestamp, in milliseconds since 1970 in UTC.
     Started(u64),
+    /// The child was not started, for this cause.
     Refused(Refused),
 }
 
-/// The end of a child that a launcher started.
+/// An end of a child that a launcher started.
 #[derive(Drop)]
 pub struct Ended {
+    /// The position of the child's case in the plan.
     pub position: u32,
+    /// The role of the child: body or cleanup.
     pub role: Role,
+    /// The outcome of the child, such as its exit status.
     pub outcome: Outcome,
-    /// Of the job's interface; `Plain` for a cleanup, where it is not used.
+    /// The evidence for the interface of the job. For a cleanup it is `Plain`, and is not used.
     pub evidence: Evidence,
+    /// The standard output and the standard error of the child.
     pub output: Output,
-    /// In milliseconds since 1970 in UTC.
+    /// The timestamp of the end, in milliseconds since 1970 in UTC.
     pub moment: u64,
 }

@@ -1,7 +1,10 @@
 use crate::{Ended, Job, StartAnswer};
 use kt_base::Role;
 
-/// Starts children and waits for them. Each answer leads it from one state to the next; it keeps no history.
+/// An interface to start children and to wait for them.
+///
+/// Each response leads a launcher from one state to the next. The specification has no history of
+/// calls.
 pub trait Launcher {
     ghost use Rattle.std.specs.Prelude.{ℕ, Bool, ◌≡◌, Option, Some};
     ghost use Rattle.kt_base.specs.declared.child.Role.{Role};
@@ -13,19 +16,23 @@ pub trait Launcher {
     ghost use Rattle.kt_sched.specs.Trace.{HasMoment};
     ghost use Rattle.kt_sched.specs.Plan.{IsFit};
 
-    /// What is known of the running child of a position in a role, if there is one.
+    /// The facts of the child that runs at a position in a role, if there is one.
     ghost running: { Self → ℕ → Role → Option Child };
 
-    /// Whether the body at a position ended with a declared cleanup that was not yet asked for.
+    /// `true` if the body at a position ended, and the start of its declared cleanup was not
+    /// requested yet.
     ghost pending: { Self → ℕ → Bool };
 
-    /// Whether this start, with this answer, leads from the first state to the second.
+    /// The relation of the states before and after a start with this job, role and response.
     ghost starts: { Self → Job → Role → StartAnswer → Self → Type 0 };
 
-    /// Whether a wait, with this answer, leads from the first state to the second.
+    /// The relation of the states before and after a wait that returns this end.
     ghost waits: { Self → Ended → Self → Type 0 };
 
-    /// Starts the body or the cleanup of a case. After a refused body no cleanup is asked for.
+    /// Starts the body or the cleanup of a case, and returns the timestamp or the cause of the
+    /// refusal.
+    ///
+    /// If the start of a body is refused, its cleanup is not requested.
     fn start(&mut self, job: &Job, role: Role) -> StartAnswer
         requires fit { IsFit job.now }
         requires may { MayStart (running self.old) (pending self.old) job.now.position role }
@@ -36,7 +43,7 @@ pub trait Launcher {
         ensures pending { (k : ℕ) → pending self.new k
             ≡ pending_after_start (pending self.old) job.now.position role k };
 
-    /// Waits for a running child that has ended, or that can't be waited for.
+    /// Waits until a running child has ended or can't be waited for, and returns its end.
     fn wait(&mut self) -> Ended
         requires { (i : ℕ) × (role : Role) × (child : Child)
             × (running self.old i role ≡ Some child) }

@@ -1,4 +1,4 @@
-//! The scheduler: which case starts, waits and is recorded next, and the loop that runs a plan.
+//! Runs the cases of a plan: the scheduler selects each next step, and a loop executes it.
 #![tactic(auto)]
 
 mod case_records;

@@ -9,7 +9,7 @@ use kt_base::Role;
 use kt_status::{CleanupEnd, body_verdict, refused_verdict, with_cleanup};
 use std::alloc::Global;
 
-/// The stage of a case after the answer to a start.
+/// Returns the stage of a case after the response to a start.
 pub fn after_start(alloc: Global, was: Stage, role: Role, answer: StartAnswer) -> Stage
     requires { can_start role was ≡ true }
     ensures { (i : ℕ) (cleanup : Bool) → IsAfter cleanup was (Start i role answer) result }
@@ -36,7 +36,9 @@ pub fn after_start(alloc: Global, was: Stage, role: Role, answer: StartAnswer) -
     }
 }
 
-/// The stage of a case after the end of its child. If the clock went back, the case took no time.
+/// Returns the stage of a case after the end of its child.
+///
+/// If the clock was set back, the duration of the case is 0.
 pub fn after_end(alloc: Global, was: Stage, cleanup: bool, ended: Ended) -> Stage
     requires { stage_runs ended.role was ≡ true }
     ensures { IsAfter cleanup was (End ended) result }
@@ -66,7 +68,10 @@ pub fn after_end(alloc: Global, was: Stage, cleanup: bool, ended: Ended) -> Stag
     }
 }
 
-/// How many cases are active after an answer, if the case that it leads to this stage was active before it, or was not.
+/// Returns the number of active cases after an event.
+///
+/// `before` is `true` if the case of the event was active before it, and `stage` is the new stage
+/// of that case.
 pub fn active_after(active: u32, width: u32, before: bool, stage: &Stage) -> u32
     requires less { before ≡ true → 0 < active }
     requires more { before ≡ false → active < width }
@@ -80,7 +85,7 @@ pub fn active_after(active: u32, width: u32, before: bool, stage: &Stage) -> u32
     }
 }
 
-/// The turn after a start: that of a body takes it.
+/// Returns the turn after a start: the next turn for a body, the same turn for a cleanup.
 pub fn turn_after(turn: usize, cases: usize, role: Role) -> usize
     requires { role ≡ TheBody → turn < cases }
     ensures { result ≡ turn + cond (same_role role TheBody) 1 0 }
@@ -91,8 +96,11 @@ pub fn turn_after(turn: usize, cases: usize, role: Role) -> usize
     }
 }
 
-/// The position of a case as one that owes its cleanup, and as one to put: it is over and no put failed. An event leaves no
-/// case `Decided` or `Taken`.
+/// Returns the position `i` twice: first if the case owes its cleanup, then if its entry is to be
+/// put.
+///
+/// The entry is put if the case is over and no put failed. An event leaves no case in the stage
+/// `Decided` or `Taken`.
 pub fn owing_and_ready(stage: &Stage, failed: bool, i: u32) -> (Option<u32>, Option<u32>)
     ensures owing { result.0 ≡ owing_at stage.now i }
     ensures ready { result.1 ≡ ready_at stage.now failed i }

@@ -6,9 +6,16 @@ use crate::{Job, Launcher, Next, RunFault, Sched, Sink, SinkFault, Totals};
 use kt_base::Items;
 use std::alloc::Global;
 
-/// Runs the cases of a plan over a launcher, at most `width` at once, and puts the entry of each into a sink.
+/// Executes a plan's cases, at most `width` at once, and puts the entry of each case into a sink.
 ///
-/// It takes no memory of its own after its first launcher call.
+/// The function doesn't allocate after its first launcher call.
+///
+/// # Errors
+///
+/// - `NoMemory`: an allocation fails before the first launcher call.
+/// - `SinkFailed`: a put fails. Then no more bodies are started and no more entries are put. Before
+///   the function returns, it waits for each running child and requests the declared cleanup of
+///   each body that ended.
 pub fn run_cases<L: Launcher, S: Sink>(
     alloc: Global,
     plan: Items<Job>,

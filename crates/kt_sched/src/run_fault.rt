@@ -5,20 +5,21 @@ use crate::SinkFault;
 use kt_base::{NoMemory, OUT_OF_MEMORY};
 use thiserror::Error;
 
-/// Why a run did not record all of its cases.
+/// Errors returned by [`run_cases`].
 #[derive(Clone, Copy, Debug, Error)]
 #[error("{}", self.words())]
 pub enum RunFault {
-    /// Memory ran out before the first launcher call.
+    /// An allocation failed before the first launcher call.
     NoMemory(NoMemory),
-    /// A put failed. Every child that ran was waited for, and each declared cleanup asked for.
+    /// A put failed. Each running child was waited for, and the declared cleanup of each body that
+    /// ended was requested.
     SinkFailed(SinkFault),
 }
 
 impl RunFault {
     ghost use Rattle.kt_sched.specs.FaultWords.{run_words};
 
-    /// The words of the fault's line (this profile). `Display` prints them.
+    /// Returns the message of the error, which `Display` prints (this profile).
     pub fn words(&self) -> &'static str
         ensures { result.now ≡ run_words self.now }
     {

@@ -8,22 +8,29 @@ use std::alloc::Global;
 use std::marker::Model;
 use std::mem;
 
-/// The scheduler's core. It stands for its plan, its width and the answers fed so far.
+/// A scheduler of a plan. It represents the plan, its width and the responses so far.
 #[derive(Drop)]
 pub struct Sched {
+    /// The allocator for empty texts and outputs.
     alloc: Global,
+    /// The cases of the plan, by position.
     cases: Vec<Case>,
+    /// The positions of all cases in turn order.
     order: Vec<u32>,
-    /// The place in `order` of the case that has its turn: to start, or to put if it is decided.
+    /// The index in `order` of the case at the turn, which is the next to be started, or to be put
+    /// if it is decided.
     turn: usize,
+    /// The number of active cases, at most `width`.
     active: u32,
+    /// The greatest number of active cases.
     width: u32,
-    /// The case whose cleanup is to be started.
+    /// The position of the case whose cleanup is to be started.
     pending: Option<u32>,
-    /// The case whose entry is to be put.
+    /// The position of the case whose entry is to be put.
     ready: Option<u32>,
+    /// The step that `next` returned last, or `Done` after its response.
     asked: Next,
-    /// Whether a put failed.
+    /// `true` if a put failed.
     failed: bool,
 }
 
@@ -65,7 +72,11 @@ impl Sched {
     ghost use Rattle.std.specs.Prelude.{◌≡◌, ℕ, length, ◌^◌, Some, slice_get, IfOk, ◌<◌, ◌+◌, true, false};
     ghost use Rattle.kt_sched.specs.Common.{Next, Start, End, Case, Role, IsPlan, IsWidth, after_put, fed_after, nothing_fed, IsNext, Follows, IsEntryOf, IsChosen, IsTurn, stage_runs, Implies, SchedState, Stands, IsAnswer, IsSettled, HasRecord, CanLend, Takes, work, Works};
 
-    /// The core before its first answer.
+    /// Creates a scheduler that has no response yet.
+    ///
+    /// # Errors
+    ///
+    /// - `NoMemory`: an allocation fails.
     pub fn new(alloc: Global, plan: Items<Job>, width: u32) -> Result<Sched, NoMemory>
         requires plan { IsPlan plan }
         requires width { IsWidth width }
@@ -90,7 +101,7 @@ impl Sched {
         })
     }
 
-    /// The plan's job at a position, until its entry is taken.
+    /// Returns the job at a position of the plan. The entry of its case must not be taken yet.
     pub fn job(&self, position: u32) -> &Job
         requires { CanLend self.now.cases position }
         ensures { Implies self.now (λ plan _ _. slice_get plan position ≡ Some result.now) }
@@ -98,7 +109,8 @@ impl Sched {
         &self.cases[position as usize].job
     }
 
-    /// The entry of a case that is to be put.
+    /// Removes the entry of the case at a position, and returns it. The step that `next` returned
+    /// last must be the put of this entry.
     pub fn take(&mut self, position: u32) -> Entry
         requires asked { self.old.asked ≡ Next.Put position }
         requires has_record { HasRecord self.old.cases position }
@@ -111,7 +123,10 @@ impl Sched {
         taken
     }
 
-    /// Takes the answer to what was asked last: `started`, `ended` and `put` in one, for who keeps the answers.
+    /// Records the response to the step that `next` returned last.
+    ///
+    /// The method is for callers that keep responses as values. It has the effect of `started`,
+    /// `ended` or `put`.
     pub fn feed(&mut self, answer: Answer)
         requires { IsAnswer self.old answer }
         ensures works { Works self.old.asked (work self.old.cases) (work self.new.cases) }
@@ -133,7 +148,7 @@ impl Sched {
         }
     }
 
-    /// A start that was asked for was answered.
+    /// Records the response to the start that `next` returned last.
     pub(crate) fn started(&mut self, i: u32, role: Role, answer: StartAnswer)
         requires { self.old.asked ≡ Next.Start i role }
         ensures { Takes self.old (Start i role answer) self.new }
@@ -147,7 +162,7 @@ impl Sched {
         self.asked = Next::Done;
     }
 
-    /// A child ended.
+    /// Records the end of a child.
     pub(crate) fn ended(&mut self, ended: Ended)
         requires asked { self.old.asked ≡ Next.Wait }
         requires runs { (c : Case) × (slice_get self.old.cases ended.position ≡ Some c)
@@ -163,7 +178,9 @@ impl Sched {
         self.asked = Next::Done;
     }
 
-    /// What is to be done next.
+    /// Returns the next step: a put first, then a cleanup, then a body, then a wait.
+    ///
+    /// If several steps apply, the first of them is returned.
     pub fn next(&mut self) -> Next
         ensures next { Implies self.old (λ plan n fed. IsNext plan n fed result) }
         ensures only { Implies self.old
@@ -183,7 +200,7 @@ impl Sched {
         next
     }
 
-    /// Readies a decided case for its put, if it has its turn.
+    /// Makes the decided case at the turn ready to be put, if there is one.
     fn open_decided(&mut self)
         ensures stands { Implies self.old (λ plan n fed. Stands plan n fed self.new) }
         ensures same { self.new.cases ≡ self.old.cases }
@@ -205,7 +222,7 @@ impl Sched {
         self.asked = Next::Done;
     }
 
-    /// What to do next: a put first, then a cleanup, then a body, then a wait.
+    /// Selects the next step: a put first, then a cleanup, then a body, then a wait.
     fn choice(&self) -> Next
         ensures { IsChosen self.now result }
     {
@@ -222,9 +239,12 @@ impl Sched {
         }
     }
 
-    /// The case that has its turn, if no put failed and there is room for it: fewer cases are active than the width, and
-    /// none is if this one is exclusive. A case is active until its cleanup is over. Exclusive cases have the last turns, so
-    /// none is active at the turn of another.
+    /// Returns the position of the case at the turn, if no put failed and there is a free slot for
+    /// the case.
+    ///
+    /// There is a free slot if fewer cases are active than the width, and none is if the case is
+    /// exclusive. A case is active until its cleanup is over. Exclusive cases have the last turns,
+    /// so none of them is active at the turn of an ordinary case.
     fn turn_with_room(&self) -> Option<u32>
         ensures { IsTurn self.now result }
     {
@@ -241,7 +261,7 @@ impl Sched {
         }
     }
 
-    /// A put was answered. After one that failed nothing more is put, and no further body is started.
+    /// Records the response to a put. After a failed put, nothing is put and no body is started.
     pub(crate) fn put(&mut self, i: u32, failed: bool)
         requires { self.old.asked ≡ Next.Put i }
         ensures same { self.new.cases ≡ self.old.cases }

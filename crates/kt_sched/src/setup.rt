@@ -6,7 +6,7 @@ use crate::stage::{Case, Stage};
 use kt_base::NoMemory;
 use std::alloc::Global;
 
-/// A case that waits for its turn.
+/// Creates the case of a job, which waits for its turn.
 fn first_case(job: Job) -> Case
     ensures { result ≡ first_case job }
 {
@@ -17,7 +17,7 @@ fn first_case(job: Job) -> Case
     Case { job, stage }
 }
 
-/// The cases of a plan, none of them begun.
+/// Creates the cases of a plan, none of which is begun.
 pub fn first_cases(alloc: Global, plan: Vec<Job>) -> Result<Vec<Case>, NoMemory>
     ensures { IfOk result (λ cases. cases.items ≡ map first_case plan.items) }
 {
@@ -25,7 +25,7 @@ pub fn first_cases(alloc: Global, plan: Vec<Job>) -> Result<Vec<Case>, NoMemory>
     Ok(cases)
 }
 
-/// The positions of a plan's cases in turn order: ordinary ones, then exclusive ones.
+/// Returns the positions of a plan's cases in turn order: ordinary cases, then exclusive cases.
 pub fn turn_order(alloc: Global, plan: &[Job]) -> Result<Vec<u32>, NoMemory>
     ensures { IfOk result (λ order. order.items ≡ positions (turns plan.now)) }
 {
@@ -35,7 +35,8 @@ pub fn turn_order(alloc: Global, plan: &[Job]) -> Result<Vec<u32>, NoMemory>
     Ok(order)
 }
 
-/// Adds the positions of the cases that are exclusive, or of those that are not.
+/// Appends the positions of the exclusive jobs to `order` if `exclusive` is `true`, else those of
+/// the ordinary jobs.
 fn add_positions(plan: &[Job], exclusive: bool, order: &mut Vec<u32>) -> Result<(), NoMemory>
     ensures { OnOk result (order.new.items ≡ order.old.items
         ++ positions_where exclusive plan.now) }

@@ -1,11 +1,13 @@
 use kt_base::{Entry, OUT_OF_MEMORY};
 use thiserror::Error;
 
-/// Why an entry was not put.
+/// Errors returned by [`Sink::put`].
 #[derive(Clone, Copy, Debug, Error)]
 #[error("{}", self.words())]
 pub enum SinkFault {
+    /// An allocation failed.
     Memory,
+    /// The results store failed.
     Other,
 }
 
@@ -13,7 +15,7 @@ impl SinkFault {
     ghost use Rattle.std.specs.Prelude.{◌≡◌};
     ghost use Rattle.kt_sched.specs.FaultWords.{sink_words};
 
-    /// The words of the fault's line (this profile). `Display` prints them.
+    /// Returns the message of the error, which `Display` prints (this profile).
     pub fn words(&self) -> &'static str
         ensures { result.now ≡ sink_words self.now }
     {
@@ -24,21 +26,27 @@ impl SinkFault {
     }
 }
 
-/// Takes the entries, in the order in which they are recorded. How a sink keeps them is its own affair. A failed put
-/// leaves those that were put before.
+/// An interface to record entries in the order in which they are put.
+///
+/// A failed put keeps the entries that were put before.
 pub trait Sink {
     ghost use Rattle.std.specs.Prelude.{Result, OnErr, OnOk, ◌++◌, [], ◌∷◌, List};
     ghost use Rattle.kt_base.specs.declared.entry.Entry.{Entry};
     ghost use Rattle.kt_sched.specs.declared.sink.SinkFault.{SinkFault};
     ghost use Rattle.kt_base.specs.Moments.{IsStorable};
 
-    /// Whether these are the entries that were put, in the order of the puts.
+    /// The relation of a sink to the entries that were put, in the order of the puts.
     ghost entries: { Self → List Entry → Type 0 };
 
-    /// Whether a put of this entry, with this answer, leads from the first state to the second.
+    /// The relation of the states before and after a put with this entry and this result.
     ghost puts: { Self → Entry → Result (Unit {0}) SinkFault → Self → Type 0 };
 
-    /// Takes one more entry. Its moments lie in the range that is recorded.
+    /// Records one more entry. The timestamps of the entry are in the range that can be recorded.
+    ///
+    /// # Errors
+    ///
+    /// - `Memory`: an allocation fails.
+    /// - `Other`: the results store fails.
     fn put(&mut self, entry: Entry) -> Result<(), SinkFault>
         requires { IsStorable entry }
         ensures leads { puts self.old entry result self.new }

@@ -1,50 +1,59 @@
 use crate::Job;
 use kt_base::{Output, Verdict};
 
-/// The stage of a case.
+/// A stage of a case.
 #[derive(Drop)]
 pub enum Stage {
-    /// It waits for its turn to start.
+    /// The case waits for its turn to start.
     Waiting,
-    /// Its verdict is decided, and it waits for its turn to be put.
+    /// The verdict is decided, and the case waits for its turn to be put.
     Decided,
-    /// Its body runs, since this moment.
+    /// The body runs since this timestamp, in milliseconds since 1970 in UTC.
     Running(u64),
-    /// Its body ended, and its cleanup is to be started.
+    /// The body ended, and the cleanup is to be started.
     Owing(EndedBody),
-    /// Its cleanup runs.
+    /// The cleanup runs.
     Cleaning(EndedBody),
-    /// It is over.
+    /// The case is over.
     Finished(CaseRecord),
-    /// Its entry was taken, or its stage is being replaced.
+    /// The entry was taken, or the stage is being replaced.
     Taken,
 }
 
-/// The record of a case that is over: its entry without the names.
+/// A record of a case that is over: its entry without the names.
 #[derive(Drop)]
 pub struct CaseRecord {
+    /// The verdict on the case.
     pub verdict: Verdict,
-    /// In milliseconds since 1970 in UTC.
+    /// The timestamp of the start in milliseconds since 1970 in UTC, or 0 if the body was not
+    /// started.
     pub started: u64,
+    /// The duration of the case, in milliseconds.
     pub millis: u64,
+    /// The output of the body.
     pub body: Output,
+    /// The output of the cleanup.
     pub cleanup: Output,
 }
 
-/// What is kept of a body that ended, if its case is not over.
+/// The data kept of a body that ended before its case is over.
 #[derive(Drop)]
 pub struct EndedBody {
-    /// In milliseconds since 1970 in UTC.
+    /// The timestamp of the start, in milliseconds since 1970 in UTC.
     pub started: u64,
-    /// In milliseconds since 1970 in UTC.
+    /// The timestamp of the end, in milliseconds since 1970 in UTC.
     pub ended: u64,
+    /// The verdict on the body.
     pub verdict: Verdict,
+    /// The output of the body.
     pub output: Output,
 }
 
-/// A job, and the stage of its case.
+/// A test case of the plan: a job and its stage.
 #[derive(Drop)]
 pub struct Case {
+    /// The job. Its names and properties are empty once the entry was taken.
     pub job: Job,
+    /// The stage of the case.
     pub stage: Stage,
 }

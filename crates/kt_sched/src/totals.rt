@@ -1,17 +1,18 @@
 ghost use Rattle.std.specs.Prelude.{◌≡◌};
 
-/// How many entries were put.
+/// The numbers of entries that were put.
 #[derive(Clone, Copy)]
 pub struct Totals {
+    /// The number of all entries.
     pub total: u64,
-    /// Those whose verdict is passed, skipped or expected_failure.
+    /// The number of entries whose verdict is passed, skipped or expected_failure.
     pub good: u64,
-    /// Those whose verdict is failed or broken.
+    /// The number of entries whose verdict is failed or broken.
     pub bad: u64,
 }
 
 impl Totals {
-    /// The totals of no entry.
+    /// Creates the totals of no entries.
     pub(crate) fn new() -> Totals
         ensures { result ≡ record { total = 0; good = 0; bad = 0 } }
     {

@@ -1,4 +1,4 @@
--- How answers are fed and entries counted.
+-- The responses with one more, and the totals with one more entry.
 use Rattle.std.specs.Prelude.{ℕ, Bool, true, false, Some, not, cond, ◌+◌, ◌≤◌}
 use Rattle.kt_sched.specs.Types.{Totals}
 use Rattle.kt_base.specs.declared.verdict.Kind.{Kind}
@@ -6,16 +6,16 @@ use Rattle.kt_base.specs.Kinds.{good as is_good}
 use Rattle.kt_sched.specs.Trace.{event_count}
 use Rattle.kt_sched.specs.Fed.{Fed}
 
--- one more put, which failed or not
+-- `after_put fed failed`: the responses `fed` with one more put, which failed if `failed` is true.
 abbrev pub after_put : Fed → Bool → Fed
 after_put fed true = record fed { stopped = Some (event_count fed.trace) }
 after_put fed false = record fed { stored = fed.stored + 1 }
 
--- the totals with one more entry
+-- `counted totals kind`: the totals with one more entry, whose verdict is of this kind.
 abbrev pub counted : Totals → Kind → Totals
 counted t kind = record { total = t.total + 1; good = t.good + cond (is_good kind) 1 0; bad = t.bad + cond (not (is_good kind)) 1 0 }
 
--- one more entry can be counted
+-- `CanCount totals limit`: one more entry can be counted up to this limit.
 pub record CanCount (t : Totals) (limit : ℕ) : Type 0 where
   pub total : t.total + 1 ≤ limit
   pub good : t.good ≤ t.total

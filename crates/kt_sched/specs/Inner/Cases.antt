@@ -1,4 +1,4 @@
--- What the steps of the core do to its cases.
+-- The effects of the scheduler's steps on its cases.
 use Rattle.std.specs.Prelude.{ℕ, Bool, true, false, List, ◌≡◌, ◌-◌, Option, Some, None, filter, map, not, ◌&&◌, slice_get, slice_set, if◌then◌else◌}
 use Rattle.kt_sched.specs.Types.{Body, Case, CaseRecord, Cleaning, Cleanup, Decided, Ended, EndedBody, Entry, Finished, Job, Judged, Output, Owing, Refused, Role, Running, Stage, Started, Taken, Waiting}
 use Rattle.kt_status.specs.declared.cleanup_end.CleanupEnd.TheVariants as end
@@ -7,28 +7,29 @@ use Rattle.kt_sched.specs.EntryOf.{no_output}
 use Rattle.kt_sched.specs.Trace.{Event, Start, End}
 use Rattle.kt_sched.specs.SchedState.{decided_record, ended_body, entry_with, record_in}
 
--- a stage runs in a role
+-- `stage_runs role stage`: in this stage, the child in this role runs.
 abbrev pub stage_runs : Role → Stage → Bool
 stage_runs Body (Running m) = true
 stage_runs Cleanup (Cleaning b) = true
 stage_runs role other = false
 
--- the stage before the first answer
+-- `first_stage decided`: the stage of a case before the first response.
 abbrev pub first_stage : Option Judged → Stage
 first_stage None = Waiting
 first_stage (Some verdict) = Decided
 
--- a case before the first answer
+-- `first_case job`: the case of this job before the first response.
 abbrev pub first_case : Job → Case
 first_case job = record { job = job; stage = first_stage job.decided }
 
--- the case at i has this stage in place of that one, and nothing else is changed
+-- `Replaced old new i stage was`: `new` is `old`, but case `i` has the stage `stage` instead of
+-- `was`.
 pub record Replaced (old new : List Case) (i : ℕ) (stage was : Stage) : Type 0 where
   pub job : Job
   pub found : slice_get old i ≡ Some (record { job = job; stage = was })
   pub changed : new ≡ slice_set old i (record { job = job; stage = stage })
 
--- the entry of a case was taken
+-- `TookEntry old new i entry`: `new` is `old` after the entry of case `i` was taken.
 pub record TookEntry (old new : List Case) (i : ℕ) (entry : Entry) : Type 0 where
   pub had : Job
   pub was : Stage
@@ -39,23 +40,26 @@ pub record TookEntry (old new : List Case) (i : ℕ) (entry : Entry) : Type 0 wh
   pub is : entry ≡ entry_with had case_record
   pub changed : new ≡ slice_set old i (record { job = left; stage = Taken })
 
--- the record of a case with this verdict, whose cleanup was over at this last moment
+-- `record_of verdict body last output`: the record of a case whose cleanup was over at the
+-- timestamp `last`.
 abbrev pub record_of : Judged → EndedBody → ℕ → Output → CaseRecord
 record_of verdict body last output =
     record { verdict = verdict; started = body.started; millis = last - body.started; body = body.output; cleanup = output }
 
--- the record of a case with this verdict and without a declared cleanup
+-- `plain_record verdict started e`: the record of a case without a declared cleanup, whose body
+-- ended with `e`.
 abbrev pub plain_record : Judged → ℕ → Ended → CaseRecord
 plain_record verdict started e =
     record { verdict = verdict; started = started; millis = e.moment - started; body = e.output; cleanup = no_output }
 
--- whether the body or the cleanup of a case can be started
+-- `can_start role stage`: a case in this stage can be started in this role.
 abbrev pub can_start : Role → Stage → Bool
 can_start Body Waiting = true
 can_start Cleanup (Owing b) = true
 can_start role other = false
 
--- how a case, with or without a declared cleanup, stands after an event
+-- `IsAfter cleanup was event now`: the event moves a case from the stage `was` to the stage `now`.
+-- `cleanup` is true if the case declares a cleanup.
 abbrev pub IsAfter : Bool → Stage → Event → Stage → Type 0
 IsAfter cleanup Waiting (Start i Body (Started m)) (Running k) = k ≡ m
 IsAfter cleanup Waiting (Start i Body (Refused c)) (Finished t) = IsVerdictOfRefusal c t.verdict × (t ≡ decided_record t.verdict)
@@ -70,27 +74,28 @@ IsAfter cleanup (Cleaning b) (End e) (Finished t) =
     (stage_runs e.role (Cleaning b) ≡ true) × IsVerdictAfter b.verdict (end.Ended e.outcome) t.verdict × (t ≡ record_of t.verdict b e.moment e.output)
 IsAfter cleanup was e now = ⊥
 
--- the position of a case, if it owes its cleanup
+-- `owing_at stage i`: the position `i`, if a case in this stage owes its cleanup.
 abbrev pub owing_at : Stage → ℕ → Option ℕ
 owing_at (Owing b) i = Some i
 owing_at _ i = None
 
--- whether a stage's history is whole
+-- `is_over stage`: a case in this stage has a whole history.
 abbrev pub is_over : Stage → Bool
 is_over Decided = true
 is_over (Finished t) = true
 is_over Taken = true
 is_over _ = false
 
--- the position of a case to put, if it is over and no put failed
+-- `ready_at stage failed i`: the position `i`, if a case in this stage is over and no put failed.
 abbrev pub ready_at : Stage → Bool → ℕ → Option ℕ
 ready_at stage failed i = if is_over stage && not failed then Some i else None
 
--- whether two flags are the same
+-- `same_flag flag other`: the two flags are equal.
 abbrev pub same_flag : Bool → Bool → Bool
 same_flag true b = b
 same_flag false b = not b
 
--- the positions of the cases that are exclusive, or of those that aren't
+-- `positions_where flag jobs`: the positions of the exclusive jobs if `flag` is true, else of the
+-- ordinary jobs.
 abbrev pub positions_where : Bool → List Job → List ℕ
 positions_where flag jobs = map (λ (job : Job). job.position) (filter (λ (job : Job). same_flag flag job.exclusive) jobs)

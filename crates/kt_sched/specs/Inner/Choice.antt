@@ -1,20 +1,21 @@
--- Which case has its turn, and what is chosen.
+-- The case at the turn, and the chosen step.
 use Rattle.std.specs.Prelude.{ℕ, true, ◌≡◌, ◌<◌, ◌≤◌, ◌⊎◌, length, slice_get, Option, Some, None}
 use Rattle.kt_sched.specs.Types.{Body, Cleanup, Next}
 use Rattle.kt_sched.specs.declared.next.Next.TheVariants as next
 use Rattle.kt_sched.specs.SchedState.{SchedState, HasExclusive, HasTurn}
 
--- a put failed, no case has its turn, or there is no room for it
+-- `IsHeld b`: a put failed, no case is left at the turn, or there is no free slot for the case at
+-- the turn.
 abbrev pub IsHeld : SchedState → Type 0
 IsHeld b =
     (b.failed ≡ true) ⊎ ((length b.order ≤ b.turn) ⊎ ((b.width ≤ b.active) ⊎ ((0 < b.active) × ((i : ℕ) × (slice_get b.order b.turn ≡ Some i) × HasExclusive b.cases i true))))
 
--- the case whose turn it is, if there is room for one
+-- `IsTurn b case`: the case at the turn, if there is a free slot for it.
 abbrev pub IsTurn : SchedState → Option ℕ → Type 0
 IsTurn b None = IsHeld b
 IsTurn b (Some i) = HasTurn b i
 
--- what is chosen in a state
+-- `IsChosen b next`: the scheduler chooses this step in the state `b`.
 abbrev pub IsChosen : SchedState → Next → Type 0
 IsChosen b (next.Put i) = b.ready ≡ Some i
 IsChosen b (next.Start i Cleanup) = (b.ready ≡ None) × (b.pending ≡ Some i)
