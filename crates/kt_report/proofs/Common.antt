@@ -1,4 +1,4 @@
--- The names that most proofs of this crate cite, passed on from one place. Declares nothing.
+-- The names that most proofs of this crate cite, re-exported. Declares nothing.
 pub use Rattle.std.proofs.lemmas.Bool.{and_parts, cases_lt, eqb-true, false≢true, ne_eqb}
 pub use Rattle.std.proofs.lemmas.Bool.Decides.{nat_tests}
 pub use Rattle.std.proofs.lemmas.Grind.{flat_map-append}

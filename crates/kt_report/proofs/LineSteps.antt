@@ -1,9 +1,9 @@
--- The lines of entries, one by one.
+-- The lines of entries in order.
 use Rattle.std.proofs.Common.{◌≡◌, ◌≢◌, Bool, true, false, cond, List, [], ◌∷◌, ◌++◌, length, refl, ap, flat_map}
 use Rattle.kt_report.proofs.Common.{list_any, Kind, Entry, entry_bytes, same_kind, is_of, entries_of, title_line, titled, section}
 
 module _ {A : Type 0} (f : Entry → List A) (kind : Kind) where
-  -- what an entry has, if it is of the kind
+  -- `if_of e`: the items of `e` if `e` is of this kind, otherwise none.
   abbrev pub if_of : Entry → List A
   if_of e = cond (is_of kind e) (f e) []
 

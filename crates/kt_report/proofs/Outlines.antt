@@ -1,4 +1,4 @@
--- What isn't shown of entries doesn't change a report.
+-- The parts of entries that a report doesn't contain don't change the report.
 use Rattle.std.proofs.Common.{codes, flat_map, fold, if◌then◌else◌, ◌≡◌, ℕ, ◌+◌, Bool, true, false, cond, List, [], ◌∷◌, ◌++◌, length, map, refl, ap, ap₂, ◌∙◌}
 use Rattle.kt_report.proofs.Common.{decimal, list_any, length-map, Date, Entry, Kind, Skipped, ExpectedFailure, Failed, Broken, seconds, heading, entry_bytes, same_kind, is_of, entries_of, order, title_line, titled, section, count_bytes, counts_bytes, started_bytes, text_bytes}
 use Rattle.kt_base.specs.declared.entry.Run.{Run}

@@ -1,4 +1,4 @@
--- Bytes that stand in XML as they are.
+-- The bytes that XML represents by themselves.
 use Rattle.std.specs.List.{list_all}
 use Rattle.std.proofs.Common.{◌≡◌, ℕ, zero, suc, ◌<◌, ◌≤◌, Bool, true, false, List, [], ◌∷◌, ◌++◌, length, take, drop, get_or, ◌+◌, ◌⊎◌, inl, inr, bytes_eq, refl, ap, ◌∙◌, sym, subst, append_assoc, length-append, take-append-drop, arith, ◌==◌, ◌&&◌, not, encode_utf8, encode_utf8_all}
 use Rattle.kt_report.proofs.Common.{prefix_len, chars, IsUtf8, IsCharBoundary, get_or-append-add, get_or-take, length-take, nil_from_length, and_parts, false≢true, eqb-true, cases_lt, ne_eqb, nat_tests, flat_map-append, encode_ascii, chars-nil, chars-append, chars_past_char, encodes-chars, length-encode, len_utf8_bounds, IsUtf8-take, IsUtf8-drop, escaped, escapes}
@@ -10,11 +10,11 @@ use Rattle.std.proofs.lemmas.List.{append-nil}
 use Rattle.std.proofs.lemmas.List.Sums.{prefix_len-le-length, prefix_len_passes, prefix_len_stops}
 use Rattle.std.proofs.lemmas.Slice.Eq.{bytes_eq-Decides}
 
--- as `stands` answers
+-- `stands attribute b`: the result of the code's `stands`.
 abbrev pub stands : Bool → ℕ → Bool
 stands attribute b = bytes_eq (escaped attribute b) (b ∷ []) && not (b == 239)
 
--- most characters past ASCII are written as they are
+-- Most characters past ASCII are written unchanged.
 plain : (attribute : Bool) (c : ℕ) → 128 ≤ c → (c == 65534) ≡ false → (c == 65535) ≡ false → escaped attribute c ≡ c ∷ []
 plain attribute c high a b = grind (arith, nat_tests)
 
@@ -23,7 +23,7 @@ continues attribute b high low =
     let same : escaped attribute b ≡ b ∷ [] = plain attribute b high (ne_eqb b 65534 (omega (arith, low))) (ne_eqb b 65535 (omega (arith, low))) in
     rw (same, (bytes_eq-Decides (b ∷ []) (b ∷ [])).1 refl, ne_eqb b 239 (omega (arith, low))) refl
 
--- bytes of which each one stands
+-- If each of the first bytes is written unchanged, the run has at least these bytes.
 pub all_first : (p : ℕ → Bool) (n : ℕ) (bytes : List ℕ) → n ≤ length bytes → list_all p (take n bytes) ≡ true → prefix_len p bytes ≡ n + prefix_len p (drop n bytes)
 all_first p zero bytes long all = omega arith
 all_first p (suc n) [] long all = absurd (omega (arith, long))
@@ -31,7 +31,7 @@ all_first p (suc n) (b ∷ bytes) long all =
     let each : (p b ≡ true) × (list_all p (take n bytes) ≡ true) = and_parts _ _ all in
     rw each.0 (omega (arith, all_first p n bytes (omega (arith, long)) each.1))
 
--- a run may be cut off
+-- A run ends at the boundary of a character.
 pub boundary : (attribute : Bool) (s : List ℕ) (n : ℕ) → n ≡ prefix_len (stands attribute) s → IsCharBoundary s n
 boundary attribute s n is = rw is (prefix_len-le-length (stands attribute) s, λ short high. by_order short high (cases_lt (get_or s (prefix_len (stands attribute) s) 0) 192))
   where
@@ -40,7 +40,7 @@ boundary attribute s n is = rw is (prefix_len-le-length (stands attribute) s, λ
     by_order short high (inl low) = absurd (false≢true (sym (prefix_len_stops (stands attribute) s 0 short) ∙ continues attribute _ high low))
     by_order short high (inr first) = first
 
--- a character of a run is written as it is
+-- A character of a run is written unchanged.
 char_stands : (attribute : Bool) (c : ℕ) (rest : List ℕ) → stands attribute (get_or (encode_utf8 c ++ rest) 0 0) ≡ true → escaped attribute c ≡ c ∷ []
 unfolding encode
 char_stands attribute c rest first = by_size (cases_lt c 128)
@@ -59,7 +59,7 @@ char_stands attribute c rest first = by_size (cases_lt c 128)
         (bytes_eq-Decides (escaped attribute c) (c ∷ [])).0 (and_parts _ _ byte).0
     by_size (inr high) = by_other (c == 65534) refl high
 
--- each character of a run
+-- Each character of a run is written unchanged.
 chars_stand : (attribute : Bool) (cs : List ℕ) → ((i : ℕ) → i < length (encode_utf8_all cs) → stands attribute (get_or (encode_utf8_all cs) i 0) ≡ true) → escapes attribute cs ≡ cs
 chars_stand attribute [] all = refl
 chars_stand attribute (c ∷ cs) all =
@@ -80,7 +80,7 @@ run_stands attribute s n is u =
     let byte : get_or (encode_utf8_all (chars (take n s))) i 0 ≡ get_or s i 0 = ap (λ (bs : List ℕ). get_or bs i 0) spelt ∙ get_or-take n s i 0 within in
     ap (stands attribute) byte ∙ prefix_len_passes (stands attribute) s i 0 (subst (λ (k : ℕ). i < k) is within))
 
--- a run, and the character that follows it
+-- A text is escaped by copying a run and escaping the rest.
 split_text : (attribute : Bool) (s rest : List ℕ) (n : ℕ) → n ≡ prefix_len (stands attribute) s → IsUtf8 s → chars (drop n s) ≡ rest → escapes attribute (chars s) ≡ chars (take n s) ++ escapes attribute rest
 split_text attribute s rest n is u after =
     let front = IsUtf8-take s n u (boundary attribute s n is) in
@@ -99,13 +99,13 @@ run_and_more attribute old middle new s rest n c is u next pushed last =
     let after = chars_past_char (drop n s) rest c (IsUtf8-drop s n u (boundary attribute s n is)) next in
     rw (last, pushed, split_text attribute s (c ∷ chars rest) n is u after, append_assoc, append_assoc) refl
 
--- nothing is left
+-- If no bytes are left, all was written.
 pub at_end : (attribute : Bool) (text rest all : List ℕ) → text ++ escapes attribute (chars rest) ≡ all → true ≡ (length rest == 0) → text ≡ all
 at_end attribute text rest all so_far none =
     let nothing = ap (λ (bs : List ℕ). escapes attribute (chars bs)) (nil_from_length rest (eqb-true (length rest) 0 (sym none))) ∙ ap (escapes attribute) chars-nil in
     sym (append-nil text) ∙ ap (λ (cs : List ℕ). text ++ cs) (sym nothing) ∙ so_far
 
--- bytes that are UTF-8 are read as they are
+-- `lossy` decodes UTF-8 unchanged.
 pub lossy_utf8 : (bytes : List ℕ) → IsUtf8 bytes → lossy bytes ≡ chars bytes
 unfolding lossy_after
 lossy_utf8 bytes u = sym (all_text [] (chars bytes) bytes u refl) ∙ append-nil (chars bytes)

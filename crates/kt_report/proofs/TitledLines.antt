@@ -1,4 +1,4 @@
--- Entries in turn, with the titles of their kinds.
+-- Entries in order, with the titles of their kinds.
 use Rattle.std.proofs.Common.{flat_map, cond, if◌then◌else◌, Option, Some, None, ◌≡◌, ◌⊎◌, inl, inr, Bool, true, false, ◌&&◌, not, List, [], ◌∷◌, ◌++◌, refl, ap, ap₂, ◌∙◌, append_assoc}
 use Rattle.kt_report.proofs.Common.{and_parts, list_any, Entry, Kind, Passed, Skipped, ExpectedFailure, Failed, Broken, entry_bytes, same_kind, is_of, entries_of, chosen_of, by_section, order, title_line, titled, section, sections, opening, last_kind, titled_lines}
 
@@ -10,7 +10,7 @@ same_is Failed Failed s = refl
 same_is Broken Broken s = refl
 same_is _ _ s = absurd (cc)
 
--- no entry of a kind stands before
+-- `is_new before kind`: the entry before, if any, is of another kind.
 abbrev is_new : Option Kind → Kind → Bool
 is_new None kind = true
 is_new (Some before) kind = not (same_kind before kind)
@@ -23,7 +23,7 @@ new_opens (Some before) kind n = by (same_kind before kind) n
     by true m = absurd (cc)
     by false m = refl
 
--- each of these kinds is another than those before it
+-- `are_new before kinds`: each of these kinds differs from those before it.
 abbrev are_new : Option Kind → List Kind → Bool
 are_new before [] = true
 are_new before (kind ∷ kinds) = is_new before kind && (are_new before kinds && are_new (Some kind) kinds)
@@ -41,7 +41,7 @@ module _ (v : Bool) where
   abbrev Within : Kind → List Entry → Type 0
   Within kind es = (titled_lines v (Some kind) es ≡ flat_map (entry_bytes v) es) × (last_kind (Some kind) es ≡ Some kind)
 
-  -- entries of a kind, after one of this kind
+  -- The entries of a kind follow an entry of that kind, so none of them has a title.
   within : (kind : Kind) (es : List Entry) → Within kind (entries_of kind es)
   within kind [] = (refl, refl)
   within kind (e ∷ es) = by (is_of kind e) refl (within kind es)
@@ -56,7 +56,7 @@ module _ (v : Bool) where
   abbrev First : Option Kind → Kind → List Entry → Type 0
   First before kind es = (titled_lines v before es ≡ titled v kind es) × ((last_kind before es ≡ before) ⊎ (last_kind before es ≡ Some kind))
 
-  -- entries of a kind, after none of this kind
+  -- The entries of a kind follow an entry of another kind, so the first of them has the title.
   first : (before : Option Kind) (kind : Kind) → opening before kind ≡ title_line kind → (es : List Entry) → First before kind (entries_of kind es)
   first before kind o [] = (refl, inl refl)
   first before kind o (e ∷ es) = by (is_of kind e) refl (first before kind o es)

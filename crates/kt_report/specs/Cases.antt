@@ -1,4 +1,4 @@
--- The texts of a case as XML has them.
+-- The texts of a case, escaped for XML.
 use Rattle.std.specs.Prelude.{true, false, ◌++◌}
 use Rattle.kt_base.specs.declared.entry.Entry.{Entry}
 use Rattle.kt_base.specs.declared.entry.Output.{Output}
@@ -6,11 +6,12 @@ use Rattle.kt_base.specs.Lossy.{lossy}
 use Rattle.kt_report.specs.declared.case_texts.CaseTexts.{CaseTexts}
 use Rattle.kt_report.specs.Escapes.{escapes}
 
--- an entry with these outputs of its body and its cleanup
+-- `with_outputs e body cleanup`: the entry `e` with these outputs of its body and its cleanup.
 abbrev pub with_outputs : Entry → Output → Output → Entry
 with_outputs e body cleanup = record e { body = body; cleanup = cleanup }
 
--- the body's output and then the cleanup's, each read as a text
+-- `case_texts e`: the escaped texts of the entry `e`. The output of the body precedes that of the
+-- cleanup, each decoded by itself.
 abbrev pub case_texts : Entry → CaseTexts
 case_texts e = record {
   program = escapes true e.program;

@@ -1,4 +1,4 @@
--- The words that the clauses of this crate cite, passed on from one place. Declares nothing.
+-- The names that the clauses of this crate cite, re-exported. Declares nothing.
 pub use Rattle.std.specs.List.{list_any, prefix_len}
 pub use Rattle.std.specs.Str.{chars}
 pub use Rattle.jiff_core.specs.Date.{epoch_day}

@@ -2,22 +2,23 @@
 use Rattle.std.specs.Prelude.{ℕ, ◌+◌, ◌/◌, ◌%◌, List, [], ◌∷◌, ◌++◌, codes}
 use Rattle.std.specs.Fmt.{decimal}
 
--- the byte of a number's last decimal digit
+-- `digit n`: the byte of the last decimal digit of `n`.
 abbrev pub digit : ℕ → ℕ
 digit n = 48 + n % 10
 
--- the last two digits of a number
+-- `two_digits n`: the last two decimal digits of `n`.
 abbrev pub two_digits : ℕ → List ℕ
 two_digits n = digit (n / 10) ∷ digit n ∷ []
 
--- the last three digits of a number
+-- `three_digits n`: the last three decimal digits of `n`.
 abbrev pub three_digits : ℕ → List ℕ
 three_digits n = digit (n / 100) ∷ digit (n / 10) ∷ digit n ∷ []
 
--- the last four digits of a number
+-- `four_digits n`: the last four decimal digits of `n`.
 abbrev pub four_digits : ℕ → List ℕ
 four_digits n = digit (n / 1000) ∷ digit (n / 100) ∷ digit (n / 10) ∷ digit n ∷ []
 
--- milliseconds as seconds with three digits after the point
+-- `seconds millis`: a duration of `millis` milliseconds in seconds, with three digits after the
+-- point.
 abbrev pub seconds : ℕ → List ℕ
 seconds millis = decimal (millis / 1000) ++ codes "." ++ three_digits (millis % 1000)

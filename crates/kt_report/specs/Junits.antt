@@ -11,7 +11,7 @@ use Rattle.kt_report.specs.Cases.{case_texts}
 use Rattle.kt_report.specs.declared.case_texts.CaseTexts.{CaseTexts}
 use Rattle.kt_report.specs.Texts.{count_bytes}
 
--- the outcome of a case, by its kind, with its escaped reason
+-- `result_element kind reason`: the result of a case, by its kind and its escaped reason.
 abbrev pub result_element : Kind → List ℕ → List ℕ
 result_element Passed reason = []
 result_element ExpectedFailure reason = []
@@ -19,31 +19,33 @@ result_element Skipped reason = codes "<skipped/>\n"
 result_element Failed reason = codes "<failure message=\"" ++ utf8 reason ++ codes "\"/>\n"
 result_element Broken reason = codes "<error message=\"" ++ utf8 reason ++ codes "\"/>\n"
 
--- what a case printed, escaped, if it printed anything
+-- `output_element name text`: an element for the escaped output of a case, or nothing if there is
+-- no output.
 abbrev pub output_element : List ℕ → List ℕ → List ℕ
 output_element name [] = []
 output_element name (c ∷ text) = codes "<" ++ name ++ codes ">" ++ utf8 (c ∷ text) ++ codes "</" ++ name ++ codes ">\n"
 
--- a case of this kind that took this long, with its escaped texts
+-- `element texts kind millis`: the element of a case with these escaped texts, this kind and this
+-- duration.
 abbrev pub element : CaseTexts → Kind → ℕ → List ℕ
 element texts kind millis =
     codes "<testcase classname=\"" ++ utf8 texts.program ++ codes "\" name=\"" ++ utf8 texts.case_name ++ codes "\" time=\"" ++ seconds millis ++ codes "\">\n"
     ++ result_element kind texts.reason ++ output_element (codes "system-out") texts.out ++ output_element (codes "system-err") texts.err ++ codes "</testcase>\n"
 
--- an entry
+-- `case_bytes e`: the element of the entry `e`.
 abbrev pub case_bytes : Entry → List ℕ
 case_bytes e = element (case_texts e) e.verdict.kind e.millis
 
--- what stands before the cases
+-- `heading run`: the bytes of the report before its cases.
 abbrev pub heading : Run → List ℕ
 heading run =
     codes "<?xml version=\"1.0\" encoding=\"utf-8\"?>\n<testsuite tests=\"" ++ decimal (length run.entries) ++ codes "\" failures=\"" ++ count_bytes Failed run.entries ++ codes "\" errors=\"" ++ count_bytes Broken run.entries
     ++ codes "\" skipped=\"" ++ count_bytes Skipped run.entries ++ codes "\">\n"
 
--- what stands behind them
+-- `ending`: the bytes of the report after its cases.
 abbrev pub ending : List ℕ
 ending = codes "</testsuite>\n"
 
--- a case for each entry, by position
+-- `junit_bytes run`: the report, which has a case for each entry, by position.
 abbrev pub junit_bytes : Run → List ℕ
 junit_bytes run = heading run ++ flat_map case_bytes run.entries ++ ending

@@ -1,4 +1,4 @@
--- The line of an entry.
+-- The line of an entry, in the output of `test` and in the text report.
 use Rattle.std.specs.Prelude.{ℕ, List, [], ◌++◌, codes}
 use Rattle.kt_base.specs.declared.verdict.Kind.{Kind}
 use Rattle.kt_base.specs.declared.verdict.Kind.TheVariants.{Passed}
@@ -7,11 +7,12 @@ use Rattle.kt_base.specs.Kinds.{word}
 use Rattle.kt_base.specs.Utf8.{utf8}
 use Rattle.kt_report.specs.Digits.{seconds}
 
--- the reason; a passed case has none
+-- `shown_reason kind reason`: the reason as printed. A passed case has none.
 abbrev pub shown_reason : Kind → List ℕ → List ℕ
 shown_reason Passed reason = []
 shown_reason _ reason = codes ": " ++ utf8 reason
 
--- program and case, the outcome, and how long it took
+-- `line_bytes e`: the program, the case, the kind of the verdict, the reason and the duration of
+-- the entry `e`.
 abbrev pub line_bytes : Entry → List ℕ
 line_bytes e = utf8 e.program ++ codes ":" ++ utf8 e.case_name ++ codes "  ->  " ++ word e.verdict.kind ++ shown_reason e.verdict.kind e.verdict.reason ++ codes "  [" ++ seconds e.millis ++ codes "s]\n"

@@ -1,23 +1,24 @@
--- What a case declared, a pair on a line.
+-- The properties that a case declares, each a pair on its line.
 use Rattle.std.specs.Prelude.{ℕ, Bool, true, false, List, ◌++◌, codes, flat_map, map, nat_lt, if◌then◌else◌}
 use Rattle.kt_base.specs.declared.entry.Entry.{Entry}
 use Rattle.kt_base.specs.declared.variable.Variable.{Variable}
 use Rattle.kt_base.specs.Utf8.{utf8}
 use Rattle.kt_report.specs.Lines.{line_bytes}
 
--- a byte as it is shown: a question mark for a control character
+-- `shown_byte byte`: the byte as printed: a question mark for a control character.
 abbrev pub shown_byte : ℕ → ℕ
 shown_byte byte = if nat_lt byte 32 then 63 else byte
 
--- a name with its value
+-- `pair_bytes pair`: the line of a name and its value.
 abbrev pub pair_bytes : Variable → List ℕ
 pair_bytes pair = codes "    " ++ utf8 pair.name ++ codes " = " ++ map shown_byte (utf8 pair.value) ++ codes "\n"
 
--- the line of an entry, and below it its pairs, if they are shown too
+-- `entry_bytes verbose e`: the line of the entry `e`, followed by the lines of its pairs if
+-- `verbose` is true.
 abbrev pub entry_bytes : Bool → Entry → List ℕ
 entry_bytes false e = line_bytes e
 entry_bytes true e = line_bytes e ++ flat_map pair_bytes e.meta
 
--- an entry with these pairs
+-- `with_meta e pairs`: the entry `e` with these pairs.
 abbrev pub with_meta : Entry → List Variable → Entry
 with_meta e pairs = record e { meta = pairs }

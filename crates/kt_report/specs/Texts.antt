@@ -12,7 +12,7 @@ use Rattle.kt_base.specs.declared.entry.Run.{Run}
 use Rattle.kt_report.specs.Digits.{two_digits, three_digits, four_digits, seconds}
 use Rattle.kt_report.specs.Pairs.{entry_bytes}
 
--- two kinds are the same
+-- `same_kind kind other`: the two kinds are equal.
 abbrev pub same_kind : Kind → Kind → Bool
 same_kind Passed Passed = true
 same_kind Skipped Skipped = true
@@ -21,15 +21,15 @@ same_kind Failed Failed = true
 same_kind Broken Broken = true
 same_kind _ _ = false
 
--- an entry has this kind
+-- `is_of kind e`: the entry `e` is of this kind.
 abbrev pub is_of : Kind → Entry → Bool
 is_of kind e = same_kind kind e.verdict.kind
 
--- the entries of a kind, by position
+-- `entries_of kind entries`: the entries of a kind, by position.
 abbrev pub entries_of : Kind → List Entry → List Entry
 entries_of kind entries = filter (is_of kind) entries
 
--- the title of a kind's section
+-- `title kind`: the title of a kind's section.
 abbrev pub title : Kind → List ℕ
 title Passed = codes "Passed tests"
 title Skipped = codes "Skipped tests"
@@ -37,93 +37,99 @@ title ExpectedFailure = codes "Expected failures"
 title Broken = codes "Broken tests"
 title Failed = codes "Failed tests"
 
--- the kinds in the order of their sections
+-- `order`: the kinds in the order of their sections.
 abbrev pub order : List Kind
 order = Passed ∷ Skipped ∷ ExpectedFailure ∷ Broken ∷ Failed ∷ []
 
--- the entries of a kind, if it is chosen
+-- `chosen_of kinds entries kind`: the entries of `kind` if it is one of the chosen `kinds`,
+-- otherwise none.
 abbrev pub chosen_of : List Kind → List Entry → Kind → List Entry
 chosen_of kinds entries kind = if list_any (same_kind kind) kinds then entries_of kind entries else []
 
--- the entries of the chosen kinds, in the order of their sections
+-- `by_section kinds entries`: the entries of the chosen kinds, in the order of the sections.
 abbrev pub by_section : List Kind → List Entry → List Entry
 by_section kinds entries = flat_map (chosen_of kinds entries) order
 
--- the line of a kind's title
+-- `title_line kind`: the line of a kind's title.
 abbrev pub title_line : Kind → List ℕ
 title_line kind = codes "===> " ++ title kind ++ codes "\n"
 
--- the title of a kind over lines, if there are any
+-- `titled verbose kind entries`: the title of a kind and the lines of these entries, or nothing if
+-- there are none.
 abbrev pub titled : Bool → Kind → List Entry → List ℕ
 titled verbose kind [] = []
 titled verbose kind (e ∷ entries) = title_line kind ++ flat_map (entry_bytes verbose) (e ∷ entries)
 
--- the section of a kind, if it is chosen
+-- `section verbose kinds entries kind`: the section of a kind, or nothing if the kind is not
+-- chosen.
 abbrev pub section : Bool → List Kind → List Entry → Kind → List ℕ
 section verbose kinds entries kind = titled verbose kind (chosen_of kinds entries kind)
 
--- the sections of the chosen kinds, in their order
+-- `sections verbose kinds entries`: the sections of the chosen kinds, in their order.
 abbrev pub sections : Bool → List Kind → List Entry → List ℕ
 sections verbose kinds entries = flat_map (section verbose kinds entries) order
 
--- the title of a kind, unless an entry of this kind stands before it
+-- `opening before kind`: the title of a kind, unless the entry before it is of this kind, too.
 abbrev pub opening : Option Kind → Kind → List ℕ
 opening None kind = title_line kind
 opening (Some before) kind = if same_kind before kind then [] else title_line kind
 
--- the kind of the last entry, or the one before where there is none
+-- `last_kind before entries`: the kind of the last entry, or `before` if there are no entries.
 abbrev pub last_kind : Option Kind → List Entry → Option Kind
 last_kind before [] = before
 last_kind before (e ∷ entries) = last_kind (Some e.verdict.kind) entries
 
--- entries in turn, each with its title unless the entry before it has the same
+-- `titled_lines verbose before entries`: the lines of entries, each with its title unless the entry
+-- before it has the same title.
 abbrev pub titled_lines : Bool → Option Kind → List Entry → List ℕ
 titled_lines verbose before [] = []
 titled_lines verbose before (e ∷ entries) = opening before e.verdict.kind ++ (entry_bytes verbose e ++ titled_lines verbose (Some e.verdict.kind) entries)
 
--- a moment as it is shown: at most the latest one
+-- `shown_moment moment`: the timestamp as printed: at most the latest one that the report can
+-- print.
 abbrev pub shown_moment : ℕ → ℕ
 shown_moment moment = min moment latest_moment
 
--- the civil date of a moment, in UTC
+-- `IsDateOf moment date`: the civil date of the timestamp, in UTC.
 abbrev pub IsDateOf : ℕ → Date → Type 0
 IsDateOf moment date = epoch_day date ≡ pos (shown_moment moment / 86400000)
 
--- the time of day this many milliseconds after midnight
+-- `clock_bytes millis`: the time of day, `millis` milliseconds after midnight.
 abbrev pub clock_bytes : ℕ → List ℕ
 clock_bytes millis = two_digits (millis / 3600000) ++ codes ":" ++ two_digits (millis / 60000 % 60) ++ codes ":" ++ two_digits (millis / 1000 % 60) ++ codes "." ++ three_digits (millis % 1000)
 
--- a date, with four digits for its year
+-- `date_bytes date`: the date, with four digits for its year.
 abbrev pub date_bytes : Date → List ℕ
 date_bytes date = four_digits (unsigned_abs date.year) ++ codes "-" ++ two_digits date.month ++ codes "-" ++ two_digits date.day
 
--- a moment on its date
+-- `moment_bytes date moment`: the timestamp as printed, on its date.
 abbrev pub moment_bytes : Date → ℕ → List ℕ
 moment_bytes date moment = date_bytes date ++ codes "T" ++ clock_bytes (shown_moment moment % 86400000) ++ codes "Z"
 
--- what stands after an unfinished run
+-- `unfinished_bytes finished`: the mark of a run that is not finished.
 abbrev pub unfinished_bytes : Bool → List ℕ
 unfinished_bytes true = []
 unfinished_bytes false = codes ", unfinished"
 
--- how many entries have a kind
+-- `count_bytes kind entries`: the number of entries of a kind, in decimal.
 abbrev pub count_bytes : Kind → List Entry → List ℕ
 count_bytes kind entries = decimal (length (entries_of kind entries))
 
--- the number of a run and when it was started
+-- `started_bytes date run`: the number of a run and the time of its start.
 abbrev pub started_bytes : Date → Run → List ℕ
 started_bytes date run = codes "===> Summary\nRun " ++ decimal run.number ++ codes ", started " ++ moment_bytes date run.started ++ unfinished_bytes run.finished
 
--- the number of entries, and of those of each kind but passed
+-- `counts_bytes entries`: the number of entries, and the number of each kind but passed.
 abbrev pub counts_bytes : List Entry → List ℕ
 counts_bytes entries =
     codes "\nTest cases: " ++ decimal (length entries) ++ codes " total, " ++ count_bytes Skipped entries ++ codes " skipped, " ++ count_bytes ExpectedFailure entries ++ codes " expected failures, "
     ++ count_bytes Broken entries ++ codes " broken, " ++ count_bytes Failed entries ++ codes " failed\n"
 
--- the run, the counts of its recorded entries, and the sum of their times
+-- `summary date run`: the run, the counts of its recorded entries, and the sum of their durations.
 abbrev pub summary : Date → Run → List ℕ
 summary date run = started_bytes date run ++ counts_bytes run.entries ++ codes "Total time: " ++ seconds (sum_by (λ e. e.millis) run.entries) ++ codes "s\n"
 
--- the chosen sections, with what the cases declared if `verbose` is set, and the summary
+-- `text_bytes date kinds verbose run`: the chosen sections and the summary. If `verbose` is true,
+-- the sections have the pairs of each case.
 abbrev pub text_bytes : Date → List Kind → Bool → Run → List ℕ
 text_bytes date kinds verbose run = sections verbose kinds run.entries ++ summary date run

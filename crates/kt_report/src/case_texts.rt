@@ -1,15 +1,20 @@
 use kt_base::Text;
 
-/// The texts of a case as XML has them.
+/// A case's texts, escaped for XML.
 pub struct CaseTexts {
+    /// The path of the test program.
     pub program: Text,
+    /// The name of the test case.
     pub case_name: Text,
+    /// The reason of the verdict.
     pub reason: Text,
+    /// The standard output of the body, then of the cleanup.
     pub out: Text,
+    /// The standard error of the body, then of the cleanup.
     pub err: Text,
 }
 
-/// Written out, so that a drop is one call.
+/// Written out instead of derived, so that a drop is one call.
 impl Drop for CaseTexts {
     fn drop(self) {
         let CaseTexts {

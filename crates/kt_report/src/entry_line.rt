@@ -5,7 +5,7 @@ use crate::moments::write_seconds;
 use kt_base::{Entry, Kind, OutputFault, Verdict, emit, emit_all};
 use std::io::Write;
 
-/// Writes the reason of a verdict after a colon; a passed case has none.
+/// Writes a colon and the reason of a verdict. A passed case has no reason.
 fn write_reason<W: Write>(verdict: &Verdict, out: &mut W) -> Result<(), OutputFault>
     ensures { Shows (W.contents out.old) (W.contents out.new) (is_err result)
         (shown_reason verdict.now.kind verdict.now.reason) }
@@ -19,8 +19,14 @@ fn write_reason<W: Write>(verdict: &Verdict, out: &mut W) -> Result<(), OutputFa
     }
 }
 
-/// Writes the line of an entry: program and case, the outcome and its reason, and how long it took in seconds (this
-/// profile). It takes no memory. If a write failed, a proper prefix of the line was written.
+/// Writes the line of an entry: program and case, kind and reason of the verdict, and the duration
+/// in seconds (this profile).
+///
+/// The function doesn't allocate.
+///
+/// # Errors
+///
+/// - `OutputFault`: a write fails. A proper prefix of the line was written.
 pub fn line<W: Write>(entry: &Entry, out: &mut W) -> Result<(), OutputFault>
     ensures { Shows (W.contents out.old) (W.contents out.new) (is_err result)
         (line_bytes entry.now) }

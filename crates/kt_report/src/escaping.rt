@@ -6,7 +6,7 @@ use crate::case_texts::CaseTexts;
 use kt_base::{Bytes, Entry, NoMemory, Output, Text, lossy};
 use std::alloc::Global;
 
-/// Appends a character as XML has it, in an attribute or in content.
+/// Appends a character, escaped for XML: for an attribute or for content.
 #[tactic(auto, unfolding(crate::proofs::Common::chars))]
 fn push_escaped(text: &mut Text, attribute: bool, c: char) -> Result<(), NoMemory>
     ensures { OnOk result (text.new ≡ text.old ++ escaped attribute c) }
@@ -25,8 +25,10 @@ fn push_escaped(text: &mut Text, attribute: bool, c: char) -> Result<(), NoMemor
     }
 }
 
-/// Whether a byte of UTF-8 stands in XML as it is. The first byte of U+FFFE and U+FFFF doesn't. It has no branch, so that
-/// the compiler tests many bytes at once.
+/// Returns `true` if a byte of UTF-8 is written to XML unchanged.
+///
+/// Byte 239 is not, since it is the first byte of U+FFFE and U+FFFF. The code has no branch, so
+/// that the compiler tests many bytes at once.
 fn stands(attribute: bool, byte: u8) -> bool
     ensures { result ≡ bytes_eq (escaped attribute byte) (byte ∷ []) && not (byte == 239) }
 {
@@ -35,7 +37,7 @@ fn stands(attribute: bool, byte: u8) -> bool
     is_blank | (byte >= b' ') & !is_named & (byte != 239)
 }
 
-/// Whether each of these bytes does.
+/// Returns `true` if each of these bytes is written to XML unchanged.
 fn all_stand(attribute: bool, bytes: &[u8; 32]) -> bool
     ensures { result ≡ list_all
         (λ b. bytes_eq (escaped attribute b) (b ∷ []) && not (b == 239)) bytes.now }
@@ -47,7 +49,7 @@ fn all_stand(attribute: bool, bytes: &[u8; 32]) -> bool
     all
 }
 
-/// How many bytes a short text begins with that stand in XML as they are.
+/// Returns the number of bytes at the beginning of a short text that are written to XML unchanged.
 fn short_run_length(attribute: bool, text: &[u8]) -> usize
     ensures length { result ≡ prefix_len
         (λ b. bytes_eq (escaped attribute b) (b ∷ []) && not (b == 239)) text.now }
@@ -58,7 +60,9 @@ fn short_run_length(attribute: bool, text: &[u8]) -> usize
         .count()
 }
 
-/// The same of any text.
+/// Returns the number of bytes at the beginning of a text that are written to XML unchanged.
+///
+/// The bytes are tested in chunks of 32, and the rest one by one.
 fn run_length(attribute: bool, text: &[u8]) -> usize
     ensures { result ≡ prefix_len
         (λ b. bytes_eq (escaped attribute b) (b ∷ []) && not (b == 239)) text.now }
@@ -75,7 +79,9 @@ fn run_length(attribute: bool, text: &[u8]) -> usize
     length + short_run_length(attribute, rest)
 }
 
-/// Appends a text as XML has it, in an attribute or in content. Bytes that stand as they are go at once.
+/// Appends a text, escaped for XML: for an attribute or for content.
+///
+/// Bytes that are written unchanged are copied in runs.
 fn push_escapes(escaped: &mut Text, attribute: bool, text: &str) -> Result<(), NoMemory>
     ensures { OnOk result (escaped.new ≡ escaped.old ++ escapes attribute (chars text.now)) }
 {
@@ -93,7 +99,7 @@ fn push_escapes(escaped: &mut Text, attribute: bool, text: &str) -> Result<(), N
     Ok(())
 }
 
-/// A text as XML has it, in an attribute.
+/// Returns a text, escaped for an attribute of XML.
 fn escape(alloc: Global, text: &Text) -> Result<Text, NoMemory>
     ensures { IfOk result (λ t. t ≡ escapes true text.now) }
 {
@@ -102,7 +108,9 @@ fn escape(alloc: Global, text: &Text) -> Result<Text, NoMemory>
     Ok(escaped)
 }
 
-/// Appends what was printed, as XML has it in content. Bytes that are UTF-8 take no memory of their own.
+/// Appends an output, escaped for the content of XML.
+///
+/// An output in UTF-8 is not copied before it is escaped.
 fn push_output(alloc: Global, escaped: &mut Text, bytes: &[u8]) -> Result<(), NoMemory>
     ensures { OnOk result (escaped.new ≡ escaped.old ++ escapes false (lossy bytes.now)) }
 {
@@ -115,7 +123,7 @@ fn push_output(alloc: Global, escaped: &mut Text, bytes: &[u8]) -> Result<(), No
     }
 }
 
-/// The outputs of a body and of its cleanup, as XML has them in content.
+/// Returns the outputs of a body and of its cleanup, joined and escaped for the content of XML.
 fn escape_outputs(alloc: Global, body: &Bytes, cleanup: &Bytes) -> Result<Text, NoMemory>
     ensures { IfOk result (λ t. t ≡ escapes false (lossy body.now ++ lossy cleanup.now)) }
 {
@@ -125,7 +133,7 @@ fn escape_outputs(alloc: Global, body: &Bytes, cleanup: &Bytes) -> Result<Text, 
     Ok(escaped)
 }
 
-/// The texts of an entry with these outputs, as XML has them.
+/// Returns the texts of an entry with these outputs, escaped for XML.
 pub fn case_texts(
     alloc: Global,
     entry: &Entry,

@@ -10,7 +10,7 @@ use kt_base::{Decimal, Entry, Kind, Output, OutputFault, Run, Text, emit, emit_a
 use std::alloc::Global;
 use std::io::Write;
 
-/// Writes the outcome of a case.
+/// Writes the element for the verdict on a case in the JUnit report, if its kind has one.
 fn write_result<W: Write>(kind: Kind, reason: &Text, out: &mut W) -> Result<(), OutputFault>
     ensures { Shows (W.contents out.old) (W.contents out.new) (is_err result)
         (result_element kind reason.now) }
@@ -23,7 +23,7 @@ fn write_result<W: Write>(kind: Kind, reason: &Text, out: &mut W) -> Result<(), 
     }
 }
 
-/// Writes what a case printed, if it printed anything.
+/// Writes the element for an output of a case in the JUnit report, unless the output is empty.
 fn write_output<W: Write>(name: &[u8], text: &Text, out: &mut W) -> Result<(), OutputFault>
     ensures { Shows (W.contents out.old) (W.contents out.new) (is_err result)
         (output_element name.now text.now) }
@@ -35,6 +35,7 @@ fn write_output<W: Write>(name: &[u8], text: &Text, out: &mut W) -> Result<(), O
     emit_all(&[b"<", name, b">", bytes, b"</", name, b">\n"], out)
 }
 
+/// Writes the `testcase` element of a case in the JUnit report.
 fn write_element<W: Write>(
     texts: &CaseTexts,
     kind: Kind,
@@ -62,7 +63,13 @@ fn write_element<W: Write>(
     emit(b"</testcase>\n", out)
 }
 
-/// Writes what stands in the JUnit report before the cases of a run. The outputs of its entries don't matter.
+/// Writes the beginning of the JUnit report of a run, before its cases (this profile).
+///
+/// Of the entries, only the verdicts count. The function doesn't allocate.
+///
+/// # Errors
+///
+/// - `OutputFault`: a write fails. A proper prefix of the text was written.
 pub fn junit_heading<W: Write>(run: &Run, out: &mut W) -> Result<(), OutputFault>
     ensures { Shows (W.contents out.old) (W.contents out.new) (is_err result) (heading run.now) }
 {
@@ -87,8 +94,13 @@ pub fn junit_heading<W: Write>(run: &Run, out: &mut W) -> Result<(), OutputFault
     )
 }
 
-/// Writes the case of an entry with these outputs of its body and its cleanup. If memory was
-/// refused, nothing of it was written.
+/// Writes the case of an entry in the JUnit report, with these outputs of its body and its cleanup
+/// (this profile).
+///
+/// # Errors
+///
+/// - `NoMemory`: an allocation fails. Nothing was written.
+/// - `Output`: a write fails. A proper prefix of the text was written.
 pub fn junit_case<W: Write>(
     alloc: Global,
     entry: &Entry,
@@ -104,7 +116,7 @@ pub fn junit_case<W: Write>(
     Ok(())
 }
 
-/// Writes the entries, or a proper prefix of their text.
+/// Writes the cases of these entries in the JUnit report.
 fn write_cases<W: Write>(alloc: Global, entries: &[Entry], out: &mut W) -> Result<(), ReportFault>
     ensures { Shows (W.contents out.old) (W.contents out.new) (is_err result)
         (flat_map case_bytes entries.now) }
@@ -115,15 +127,27 @@ fn write_cases<W: Write>(alloc: Global, entries: &[Entry], out: &mut W) -> Resul
     Ok(())
 }
 
-/// Writes what stands in the JUnit report after the cases.
+/// Writes the end of the JUnit report, after the cases of its run (this profile). The function
+/// doesn't allocate.
+///
+/// # Errors
+///
+/// - `OutputFault`: a write fails. A proper prefix of the text was written.
 pub fn junit_end<W: Write>(out: &mut W) -> Result<(), OutputFault>
     ensures { Shows (W.contents out.old) (W.contents out.new) (is_err result) ending }
 {
     emit(b"</testsuite>\n", out)
 }
 
-/// Writes the JUnit report: a suite with a case for each recorded entry, by position (this profile). It takes memory
-/// for the texts of one entry at a time. After an error a proper prefix of the report was written.
+/// Writes the JUnit report of a run: a test suite with a case for each recorded entry, by position
+/// (this profile).
+///
+/// The texts of one entry at a time are allocated.
+///
+/// # Errors
+///
+/// - `NoMemory`: an allocation fails. A proper prefix of the report was written.
+/// - `Output`: a write fails. A proper prefix of the report was written.
 pub fn junit<W: Write>(alloc: Global, run: &Run, out: &mut W) -> Result<(), ReportFault>
     ensures { Shows (W.contents out.old) (W.contents out.new) (is_err result)
         (junit_bytes run.now) }

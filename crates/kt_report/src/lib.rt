@@ -1,4 +1,4 @@
-//! The texts of a run: the line of an entry, the text report and the JUnit report.
+//! Writes the texts of a run: the line of an entry, the text report and the JUnit report.
 #![tactic(auto)]
 
 mod case_texts;

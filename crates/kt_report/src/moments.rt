@@ -6,35 +6,35 @@ use jiff::civil::{Date, date};
 use kt_base::{Decimal, LATEST_MOMENT, OutputFault, emit, emit_all};
 use std::io::Write;
 
-/// The last digit of a number.
+/// Returns the last decimal digit of a number.
 fn digit(n: u64) -> u8
     ensures { result ≡ digit n }
 {
     b'0' + (n % 10) as u8
 }
 
-/// The last two digits of a number.
+/// Returns the last two decimal digits of a number.
 pub fn two_digits(n: u64) -> [u8; 2]
     ensures { result ≡ two_digits n }
 {
     [digit(n / 10), digit(n)]
 }
 
-/// The last three digits of a number.
+/// Returns the last three decimal digits of a number.
 pub fn three_digits(n: u64) -> [u8; 3]
     ensures { result ≡ three_digits n }
 {
     [digit(n / 100), digit(n / 10), digit(n)]
 }
 
-/// The last four digits of a number.
+/// Returns the last four decimal digits of a number.
 pub fn four_digits(n: u64) -> [u8; 4]
     ensures { result ≡ four_digits n }
 {
     [digit(n / 1000), digit(n / 100), digit(n / 10), digit(n)]
 }
 
-/// Writes a duration in seconds, with the milliseconds after the point.
+/// Writes a duration in seconds, with three digits after the point.
 pub fn write_seconds<W: Write>(millis: u128, out: &mut W) -> Result<(), OutputFault>
     ensures { Shows (W.contents out.old) (W.contents out.new) (is_err result) (seconds millis) }
 {
@@ -43,15 +43,17 @@ pub fn write_seconds<W: Write>(millis: u128, out: &mut W) -> Result<(), OutputFa
     emit_all(&[whole.as_bytes(), b".", &rest], out)
 }
 
+/// The length of a day, in milliseconds.
 const MILLIS_OF_DAY: u64 = 86_400_000;
 
+/// Returns a timestamp as printed: at most the last millisecond of the year 9999.
 fn shown_moment(moment: u64) -> u64
     ensures { result ≡ shown_moment moment }
 {
     moment.min(LATEST_MOMENT)
 }
 
-/// The civil date this many days after the first of January 1970.
+/// Returns the civil date that is `days` days after the first of January 1970.
 fn date_after(days: u64) -> Date
     requires { days < 2932897 }
     ensures { epoch_day result ≡ pos days }
@@ -59,14 +61,16 @@ fn date_after(days: u64) -> Date
     date(1970, 1, 1).checked_add((days as i64).days()).unwrap()
 }
 
-/// The civil date of a moment, in milliseconds since 1970 in UTC. Moments past the year 9999 are on its last day.
+/// Returns the civil date of a timestamp, which is given in milliseconds since 1970 in UTC.
+///
+/// For a timestamp after the year 9999, the date is the last day of that year.
 pub fn date_of(moment: u64) -> Date
     ensures { IsDateOf moment result }
 {
     date_after(shown_moment(moment) / MILLIS_OF_DAY)
 }
 
-/// Writes the time of day this many milliseconds after midnight.
+/// Writes the time of day that is `millis` milliseconds after midnight.
 fn write_clock<W: Write>(millis: u64, out: &mut W) -> Result<(), OutputFault>
     ensures { Shows (W.contents out.old) (W.contents out.new) (is_err result) (clock_bytes millis) }
 {
@@ -87,7 +91,7 @@ fn write_date<W: Write>(date: Date, out: &mut W) -> Result<(), OutputFault>
     emit_all(&[&year, b"-", &month, b"-", &day], out)
 }
 
-/// Writes a moment on its date, as `2023-11-14T22:13:20.123Z`.
+/// Writes a timestamp with its date, as `2023-11-14T22:13:20.123Z`.
 pub fn write_moment<W: Write>(date: Date, moment: u64, out: &mut W) -> Result<(), OutputFault>
     ensures { Shows (W.contents out.old) (W.contents out.new) (is_err result)
         (moment_bytes date moment) }

@@ -5,14 +5,14 @@ use crate::line;
 use kt_base::{Entry, OutputFault, Variable, Variables, emit, emit_all};
 use std::io::Write;
 
-/// A byte of a value as it is printed: a control character is a question mark.
+/// Returns a byte of a value as printed: a question mark for a control character.
 fn shown_byte(byte: u8) -> u8
     ensures { result ≡ shown_byte byte }
 {
     if byte < 32 { b'?' } else { byte }
 }
 
-/// Writes a value, without its control characters.
+/// Writes a value, with a question mark for each control character.
 fn write_value<W: Write>(value: &[u8], out: &mut W) -> Result<(), OutputFault>
     ensures { Shows (W.contents out.old) (W.contents out.new) (is_err result)
         (map shown_byte value.now) }
@@ -23,7 +23,7 @@ fn write_value<W: Write>(value: &[u8], out: &mut W) -> Result<(), OutputFault>
     Ok(())
 }
 
-/// Writes a name with its value, on a line.
+/// Writes a name and its value on one line.
 fn write_pair<W: Write>(pair: &Variable, out: &mut W) -> Result<(), OutputFault>
     ensures { Shows (W.contents out.old) (W.contents out.new) (is_err result)
         (pair_bytes pair.now) }
@@ -33,7 +33,7 @@ fn write_pair<W: Write>(pair: &Variable, out: &mut W) -> Result<(), OutputFault>
     emit(b"\n", out)
 }
 
-/// Writes names with their values, a line each.
+/// Writes names and their values, each pair on its own line.
 fn write_pairs<W: Write>(pairs: &[Variable], out: &mut W) -> Result<(), OutputFault>
     ensures { Shows (W.contents out.old) (W.contents out.new) (is_err result)
         (flat_map pair_bytes pairs.now) }
@@ -44,8 +44,15 @@ fn write_pairs<W: Write>(pairs: &[Variable], out: &mut W) -> Result<(), OutputFa
     Ok(())
 }
 
-/// Writes the line of an entry and, below it, these pairs in place of its own, as the text report
-/// has them if it shows what cases declared.
+/// Writes the line of an entry, followed by the lines of `pairs` instead of the entry's own pairs
+/// (this profile).
+///
+/// The text report has these lines if it contains the properties that cases declare. The function
+/// doesn't allocate.
+///
+/// # Errors
+///
+/// - `OutputFault`: a write fails. A proper prefix of the text was written.
 pub fn text_entry<W: Write>(
     entry: &Entry,
     pairs: &Variables,
@@ -58,7 +65,7 @@ pub fn text_entry<W: Write>(
     write_pairs(pairs.as_slice(), out)
 }
 
-/// Writes the line of an entry and, if `verbose` is set, what the case declared.
+/// Writes the line of an entry, followed by the lines of its pairs if `verbose` is `true`.
 pub fn write_entry<W: Write>(verbose: bool, entry: &Entry, out: &mut W) -> Result<(), OutputFault>
     ensures { Shows (W.contents out.old) (W.contents out.new) (is_err result)
         (entry_bytes verbose entry.now) }

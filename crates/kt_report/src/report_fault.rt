@@ -4,12 +4,16 @@ ghost use Rattle.kt_report.specs.declared.report_fault.ReportFault.TheVariants a
 use kt_base::{NoMemory, OutputFault};
 use thiserror::Error;
 
-/// Why a report ends early. A proper prefix of its text was written. A report can't give up on its
-/// own: each fault holds what it was made from, a refusal of memory or a failed write.
+/// Errors returned by [`junit`] and [`junit_case`].
+///
+/// If an error is returned, a proper prefix of the text was written. Each error contains its cause:
+/// there is no error without a failed allocation or a failed write.
 #[derive(Clone, Copy, Debug, Error)]
 #[error(transparent)]
 pub enum ReportFault {
+    /// An allocation failed.
     NoMemory(NoMemory),
+    /// A write failed.
     Output(OutputFault),
 }
 

@@ -5,6 +5,7 @@ use crate::pairs::write_entry;
 use kt_base::{Entry, Kind, OutputFault, emit_all};
 use std::io::Write;
 
+/// The kinds in the order of their sections in the text report.
 const ORDER: [Kind; 5] = [
     Kind::Passed,
     Kind::Skipped,
@@ -13,28 +14,28 @@ const ORDER: [Kind; 5] = [
     Kind::Failed,
 ];
 
-/// The kinds in the order in which the text report has their sections.
+/// Returns the kinds in the order of their sections in the text report (this profile).
 pub fn text_order() -> &'static [Kind]
     ensures { result.now ≡ order }
 {
     &ORDER
 }
 
-/// Whether the kinds are the same.
+/// Returns `true` if the two kinds are equal.
 pub fn same_kind(kind: Kind, other: Kind) -> bool
     ensures { result ≡ same_kind kind other }
 {
     kind == other
 }
 
-/// Whether the kind is among the chosen ones.
+/// Returns `true` if the kind is one of the chosen kinds.
 pub fn is_chosen(kinds: &[Kind], kind: Kind) -> bool
     ensures { result ≡ list_any (same_kind kind) kinds.now }
 {
     kinds.iter().any(|first| same_kind(kind, *first))
 }
 
-/// How many entries have the kind.
+/// Returns the number of entries whose verdict is of this kind.
 pub fn count(kind: Kind, entries: &[Entry]) -> usize
     ensures { result ≡ length (entries_of kind entries.now) }
 {
@@ -47,6 +48,7 @@ pub fn count(kind: Kind, entries: &[Entry]) -> usize
     found
 }
 
+/// Returns the title of a kind's section in the text report.
 fn title(kind: Kind) -> &'static [u8]
     ensures { result.now ≡ title kind }
 {
@@ -59,8 +61,14 @@ fn title(kind: Kind) -> &'static [u8]
     }
 }
 
-/// Writes the title of a kind's section in the text report, unless the entry before it, of kind
-/// `before`, stands in that section.
+/// Writes the title of a kind's section in the text report, unless the entry before it is in that
+/// section (this profile).
+///
+/// `before` is the kind of the entry before it. The function doesn't allocate.
+///
+/// # Errors
+///
+/// - `OutputFault`: a write fails. A proper prefix of the title was written.
 pub fn text_title<W: Write>(
     before: Option<Kind>,
     kind: Kind,
@@ -93,7 +101,7 @@ fn write_lines<W: Write>(
     Ok(())
 }
 
-/// Writes the section of a kind, if it is chosen and has a line.
+/// Writes the section of a kind, if the kind is chosen and has an entry.
 fn write_section<W: Write>(
     verbose: bool,
     kinds: &[Kind],
@@ -114,7 +122,7 @@ fn write_section<W: Write>(
     write_lines(verbose, kind, entries, out)
 }
 
-/// Writes the chosen sections.
+/// Writes the sections of the chosen kinds, in their order.
 pub fn write_sections<W: Write>(
     verbose: bool,
     kinds: &[Kind],

@@ -7,7 +7,7 @@ use jiff::civil::Date;
 use kt_base::{Decimal, Entry, Kind, OutputFault, Run, emit, emit_all};
 use std::io::Write;
 
-/// The sum of the entries' times, in milliseconds.
+/// Returns the sum of the durations of these entries, in milliseconds.
 fn total_millis(entries: &[Entry]) -> u128
     ensures { result ≡ sum_by (λ e. e.millis) entries.now }
 {
@@ -18,14 +18,14 @@ fn total_millis(entries: &[Entry]) -> u128
     total
 }
 
-/// How many entries have the kind, in decimal.
+/// Returns the number of entries of a kind, in decimal.
 pub fn count_digits(kind: Kind, entries: &[Entry]) -> Decimal
     ensures { result ≡ count_bytes kind entries.now }
 {
     Decimal::new(count(kind, entries) as u64)
 }
 
-/// Writes that a run is unfinished, if it is.
+/// Writes `, unfinished` if a run is not finished.
 fn write_unfinished<W: Write>(finished: bool, out: &mut W) -> Result<(), OutputFault>
     ensures { Shows (W.contents out.old) (W.contents out.new) (is_err result)
         (unfinished_bytes finished) }
@@ -36,6 +36,7 @@ fn write_unfinished<W: Write>(finished: bool, out: &mut W) -> Result<(), OutputF
     emit(b", unfinished", out)
 }
 
+/// Writes the title of the summary, the number of a run and the time of its start.
 fn write_started<W: Write>(date: Date, run: &Run, out: &mut W) -> Result<(), OutputFault>
     ensures { Shows (W.contents out.old) (W.contents out.new) (is_err result)
         (started_bytes date run.now) }
@@ -49,6 +50,7 @@ fn write_started<W: Write>(date: Date, run: &Run, out: &mut W) -> Result<(), Out
     write_unfinished(run.finished, out)
 }
 
+/// Writes the number of entries, and the number of entries of each kind except passed.
 fn write_counts<W: Write>(entries: &[Entry], out: &mut W) -> Result<(), OutputFault>
     ensures { Shows (W.contents out.old) (W.contents out.new) (is_err result)
         (counts_bytes entries.now) }
@@ -76,8 +78,14 @@ fn write_counts<W: Write>(entries: &[Entry], out: &mut W) -> Result<(), OutputFa
     )
 }
 
-/// Writes the summary at the end of the text report of a run that was started on this date. The
-/// outputs and the pairs of its entries don't matter.
+/// Writes the summary of a run, which ends the text report. `date` is the date of the run's start
+/// (this profile).
+///
+/// Of the entries, only the verdicts and the durations count. The function doesn't allocate.
+///
+/// # Errors
+///
+/// - `OutputFault`: a write fails. A proper prefix of the summary was written.
 pub fn text_summary<W: Write>(date: Date, run: &Run, out: &mut W) -> Result<(), OutputFault>
     ensures { Shows (W.contents out.old) (W.contents out.new) (is_err result)
         (summary date run.now) }

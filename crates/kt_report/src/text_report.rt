@@ -7,10 +7,16 @@ use crate::summary::text_summary;
 use kt_base::{Kind, OutputFault, Run};
 use std::io::Write;
 
-/// Writes the text report: a section for each of the chosen kinds that has an entry, in the order passed, skipped,
-/// expected failures, broken, failed, and then the summary (this profile). If `verbose` is set, what a case declared
-/// stands below its line. It takes no memory. Moments past the year 9999 are printed as its last one. If a write
-/// failed, a proper prefix of the report was written.
+/// Writes the text report of a run: a section for each chosen kind that has an entry, and then the
+/// summary (this profile).
+///
+/// The order of the sections is passed, skipped, expected failures, broken, failed. If `verbose` is
+/// `true`, the properties that a case declares follow its line. A timestamp after the year 9999 is
+/// printed as the last timestamp of that year. The function doesn't allocate.
+///
+/// # Errors
+///
+/// - `OutputFault`: a write fails. A proper prefix of the report was written.
 pub fn text<W: Write>(
     run: &Run,
     kinds: &[Kind],
@@ -26,10 +32,12 @@ pub fn text<W: Write>(
     text_summary(date, run, out)
 }
 
-/// The law of outlines: the text report and the heading of the JUnit report of a run are the same
-/// whatever the outputs of its entries are. So are the JUnit report and the text report without what
-/// cases declared, whatever that is. The sections of the text report are the entries of the chosen
-/// kinds in turn, each with its title unless the entry before it has the same.
+/// Theorem: a report doesn't depend on the parts of entries that it doesn't contain.
+///
+/// The text report and the heading of the JUnit report don't depend on the outputs of entries. The
+/// JUnit report, and the text report without `verbose`, don't depend on the properties that cases
+/// declare. The sections of the text report are the entries of the chosen kinds in order. Each
+/// entry has its title, unless the entry before it has the same title.
 pub fn law_of_outlines()
     ensures text { (change : Entry → Entry) (date : Date) (kinds : List Kind) (verbose : Bool)
         (run : Run) → ChangesUnshown verbose change

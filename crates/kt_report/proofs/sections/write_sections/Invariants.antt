@@ -2,7 +2,7 @@ use Rattle.std.proofs.Common.{false, take, flat_map}
 use Rattle.kt_report.proofs.Common.{Shows, section}
 use Rattle.kt_report.proofs.sections.write_sections.Given as goal
 
--- the sections so far were written
+-- The first sections were written.
 abbrev pub invariant-loop-kind : goal.invariant-loop-kind
 invariant-loop-kind g l =
     Shows (g.W.Write.contents l.fn.out) (g.W.Write.contents l.out) false

@@ -2,6 +2,6 @@ use Rattle.std.proofs.Common.{◌≡◌, ◌*◌, ◌^◌, ◌≤◌, take, sum_
 use Rattle.kt_report.proofs.Common.{Entry}
 use Rattle.kt_report.proofs.summary.total_millis.Given as goal
 
--- the sum so far; each entry adds less than 2 ^ 64
+-- The sum over the first entries, each of which adds less than 2 ^ 64.
 abbrev pub invariant-loop-entry : goal.invariant-loop-entry
 invariant-loop-entry l = (l.total ≡ sum_by (λ (e : Entry). e.millis) (take l.entry-index l.entries)) × (l.total ≤ l.entry-index * 2 ^ 64)
