@@ -11,7 +11,7 @@ out=$top/crates/kyua/out
 log=$out/build.log
 rooms=$out/rooms
 # The longest chains of crates that wait for one another: these go before all that run beside them.
-chain=' kt_base kt_script kt_config kt_metadata kt_suite kt_sched kt_child kt_plan kt_words kt_cli '
+chain=' kt_base kt_script kt_config kt_metadata kt_suite kt_sched kt_child kt_plan kt_args kt_cli '
 
 give_up() {
   tail -n 40 "$log" >&2

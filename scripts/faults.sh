@@ -163,11 +163,11 @@ rule 'names the error of a refused allocation' paths '(^|[^A-Za-z])OutOfMemory([
 kt_base/src/no_memory.rt
 kt_store/src/store_fault/statements.rt
 kt_store/src/store_fault/trees.rt
-kt_words/src/command_fault.rt
+kt_args/src/command_fault.rt
 PLACES
-body kt_cli/src/host/performing.rt 'let around = match platform.surroundings() {' <<'BODY'
+body kt_cli/src/host/performing.rt 'let around = match platform.process_env() {' <<'BODY'
 let error = io::Error::from(ErrorKind::OutOfMemory);
-let around = match platform.surroundings() {
+let around = match platform.process_env() {
 BODY
 
 rule "names the allocator's refusal" paths 'Alloc(Error|Failed)([^A-Za-z]|$)' <<'PLACES'
@@ -176,9 +176,9 @@ kt_base/src/no_memory.rt
 # It is taken apart for the files that it gives back.
 kt_store/src/opening.rt
 PLACES
-body kt_suite/src/loader.rt 'ReadFault::Missing | ReadFault::Failed => blame(file, alloc, 0, SuiteCause::Unreadable),' <<'BODY'
+body kt_suite/src/loader.rt 'ReadFault::Missing | ReadFault::Failed => fault_at(file, alloc, 0, SuiteCause::Unreadable),' <<'BODY'
 ReadFault::Missing => return Err(NoMemory::from(AllocError)),
-ReadFault::Failed => blame(file, alloc, 0, SuiteCause::Unreadable),
+ReadFault::Failed => fault_at(file, alloc, 0, SuiteCause::Unreadable),
 BODY
 
 # A size of any kind can be asked for, so one that no machine has, too.
@@ -192,7 +192,7 @@ kt_cli/src/commands/execution.rt: let mut exits = Vec::with_capacity(alloc, comm
 # A block that is given back at once. What became of it is not looked at.
 kyua/src/main.rt: let _ = Vec::<u8>::with_capacity(alloc, LARGE_BLOCK);
 # The largest variable that a process can have, in 128 KiB.
-kt_cli/src/host/surroundings.rt: let mut room = vec![in rt.alloc(); 0u8; LONGEST_VARIABLE]?;
+kt_cli/src/host/process_env.rt: let mut room = vec![in rt.alloc(); 0u8; LONGEST_VARIABLE]?;
 PLACES
 body kt_plan/src/options/configuring.rt 'for word in words {' <<'BODY'
 if words.len() > 64 {
@@ -235,14 +235,14 @@ kt_store/src/store_fault/statements.rt
 kt_store/src/store_fault/trees.rt
 PLACES
 body kt_store/src/heads.rt 'let head = head_in(row)?;' <<'BODY'
-if rows.len() > 500 { return Err(Trouble::Failed(FailedStatement { is_in_use: false })); }
+if rows.len() > 500 { return Err(StoreFailure::Failed(FailedStatement { is_in_use: false })); }
 let head = head_in(row)?;
 BODY
 
 # A damage is reported by these calls alone.
 rule 'fails a test of its own' lines '(^|[^a-z_])(sure|present)[(]' <<'PLACES'
 # The two functions.
-kt_store/src/store_fault/trees.rt: pub(crate) fn sure(is_sound: bool) -> Result<(), Trouble>
+kt_store/src/store_fault/trees.rt: pub(crate) fn sure(is_sound: bool) -> Result<(), StoreFailure>
 # The path, the value and the random number that an open needs, and the sizes of its files.
 kt_store/src/runs_file.rt: sure(is_path(file.as_str()))?;
 kt_store/src/runs_file.rt: let files = open_files(rt, file, present(start)?)?;
@@ -295,7 +295,7 @@ kt_store/src/runs_file.rt: let files = open_files(rt, file, present(start)?)?;
 kt_store/src/store_fault/statements.rt: done(Connection::open_files(alloc, files, options))
 kt_store/src/runs_file.rt: let connection = connect(alloc, left, options)?;
 # The type of the first contents, and its one value.
-kt_store/src/supposed.rt: use sqlite::{Start, Unknown};
+kt_store/src/trusted_contents.rt: use sqlite::{Start, Unknown};
 kyua/src/host.rt: use sqlite::{FileFrom, FileStore, Unknown};
 kyua/src/main.rt: use sqlite::Unknown;
 PLACES
@@ -321,7 +321,7 @@ kt_suite/src/cause.rt: SuiteCause::NoMemory(_) => OUT_OF_MEMORY,
 kt_suite/src/filter.rt: FilterFault::NoMemory(_) => OUT_OF_MEMORY,
 kt_suite/src/selecting.rt: SelectFault::NoMemory(_) => OUT_OF_MEMORY,
 kt_suite/src/tree.rt: ReadFault::Memory(_) => OUT_OF_MEMORY,
-kt_words/src/command_fault.rt: CommandFault::NoMemory(_) => OUT_OF_MEMORY,
+kt_args/src/command_fault.rt: CommandFault::NoMemory(_) => OUT_OF_MEMORY,
 kt_plan/src/stop.rt: Stop::NoMemory(_) => emit(OUT_OF_MEMORY.as_bytes(), out),
 # The words of a put that failed so, and the line of a refusal that this function takes.
 kt_sched/src/sink.rt: SinkFault::Memory => OUT_OF_MEMORY,
@@ -371,8 +371,8 @@ kt_child/src/host/reads.rt: Err(_) => return Err(ReadFault::Failed),
 kt_child/src/host/reads.rt: return Err(OsFault::Failed);
 kt_child/src/host/reads.rt: ErrorKind::NotFound => Ok(FileRead::Missing),
 kt_child/src/host/reads.rt: _ => Err(OsFault::Failed),
-kt_cli/src/host/host_machine.rt: ErrorKind::NotFound => ReadFault::Missing,
-kt_cli/src/host/host_machine.rt: _ => ReadFault::Failed,
+kt_cli/src/host/os_files.rt: ErrorKind::NotFound => ReadFault::Missing,
+kt_cli/src/host/os_files.rt: _ => ReadFault::Failed,
 kt_removal/src/entries.rt: Err(io::Error::from_raw_os_error(os::errno()))
 # The words of a fault.
 kt_suite/src/cause.rt: SuiteCause::Unreadable => ReadFault::Failed.words(),
@@ -384,7 +384,7 @@ kt_child/src/host/outputs.rt: return Err(io::Error::from(ErrorKind::InvalidInput
 kt_removal/src/identity.rt: return Err(io::Error::from(ErrorKind::NotADirectory));
 # A file with a lease would make its opening wait.
 kt_child/src/host/reads.rt: return Err(io::Error::from(ErrorKind::WouldBlock));
-kt_cli/src/host/host_machine.rt: Ok(_) => return Err(ReadFault::Failed),
+kt_cli/src/host/os_files.rt: Ok(_) => return Err(ReadFault::Failed),
 kt_cli/src/host/host_world.rt: None => Err(ReadFault::Failed),
 # What stands where a new file of results is made may be one that was left.
 kt_store/src/new_file.rt: Err(error) if error.kind() == ErrorKind::AlreadyExists => {
@@ -431,7 +431,7 @@ kt_child/src/ending/parts.rt: Ok(FileRead::Missing) => Some(ReadEnd::Unreadable)
 # None of the roots could be made, the work directory has no path from the root of the host, or the process has no working directory.
 kt_child/src/driving/driver.rt: Err(DriverFault::NoWorkDirectory)
 kt_cli/src/host/host_execution.rt: return Err((DriverFault::NoWorkDirectory, os));
-kt_cli/src/host/surroundings.rt: None => Err(DriverFault::NoWorkDirectory),
+kt_cli/src/host/process_env.rt: None => Err(DriverFault::NoWorkDirectory),
 PLACES
 body kt_child/src/host/reads.rt 'Err(error) => match error.kind() {' <<'BODY'
 Err(error) => match error.kind() {
@@ -441,7 +441,7 @@ body kt_child/src/host/host_os.rt 'read_opened(self.rt.alloc(), opened, from, li
 if path.as_bytes().len() > 255 { return Ok(FileRead::Missing); }
 read_opened(self.rt.alloc(), opened, from, limit)
 BODY
-body kt_cli/src/host/surroundings.rt 'None => Err(DriverFault::NoWorkDirectory),' <<'BODY'
+body kt_cli/src/host/process_env.rt 'None => Err(DriverFault::NoWorkDirectory),' <<'BODY'
 Some(here) if here.as_str().len() > 255 => Err(DriverFault::NoWorkDirectory),
 None => Err(DriverFault::NoWorkDirectory),
 BODY
@@ -528,7 +528,7 @@ BODY
 rule 'does what is not said of a command' lines_of_program \
   '(^|[^A-Za-z_])(fs|env|process|os|thread|net|rt|time|Files|Clock|Env|Processes)::|std::[{]|rt[.]' <<'PLACES'
 # The words that the process was given, and its exit.
-kyua/src/main.rt: env::args(rt),
+kyua/src/main.rt: let (status, _outside) = run_args(outside, host, env::args(rt), &mut out, &mut rt.stderr());
 kyua/src/main.rt: use std::process::ExitCode;
 # The value that represents the first contents of the results, which the open uses up.
 kyua/src/host.rt: RunsFile::open(self.rt, file, access, self.start.take())
@@ -601,7 +601,7 @@ kt_cli/src/output/line_output.rt: hand_on(&mut self.out)
 kt_cli/src/output/line_output.rt: hand_on(&mut self.out)
 kt_cli/src/host/performing.rt: print_command_fault(fault, errors)
 kt_cli/src/host/performing.rt: reject(&fault, out, errors)
-kt_cli/src/host/command_line.rt: carry_out(outside, platform, command, out, errors)
+kt_cli/src/host/command_line.rt: run_command(outside, platform, command, out, errors)
 kt_cli/src/commands/recorder.rt: line(&entry, self.out)
 kt_cli/src/commands/recorder.rt: write_entry(self.written, &entry, self.out)
 PLACES

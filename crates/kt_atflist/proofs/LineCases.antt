@@ -1,16 +1,16 @@
 -- A line has a next state or a fault.
 use Rattle.std.proofs.Common.{codes, bytes_eq, ◌≡◌, ℕ, Bool, true, false, List, [], ◌∷◌, ◌++◌, Option, Some, None, refl, ap, sym, subst, ◌∙◌}
-use Rattle.kt_atflist.proofs.Common.{find, is_empty, ident_in, is_name, key_in, value_in, is_listed, is_given, named, with_property, is_good, begin_with, name_from, set_property, go_on, go_on_with, step_from, Goes, begins, gives, ends, fits_first, fits_further, first_rows, further_rows, Fails, first, further, BadLine, NoIdent, RepeatedKey, RepeatedIdent, UnknownKey, BadValue, CaseDef, Read, Step, To, Wrong}
+use Rattle.kt_atflist.proofs.Common.{find, is_empty, ident_in, is_name, key_in, value_in, is_listed, is_given, named, with_property, is_good, begin_with, name_from, set_property, go_on, go_on_with, step_from, Goes, begins, gives, ends, fits_first, fits_further, first_rows, further_rows, Fails, first, further, BadLine, NoIdent, RepeatedKey, RepeatedIdent, UnknownKey, BadValue, CaseDef, Read, ListStep, To, Wrong}
 use Rattle.kt_base.specs.Lossy.{lossy}
 use Rattle.kt_metadata.specs.ListKeys.{name_of_key}
 
 -- `Led cases line block step`: `step` has the specified state after `line`, or its fault.
-abbrev pub Led : List CaseDef → List ℕ → Option CaseDef → Step → Type 0
+abbrev pub Led : List CaseDef → List ℕ → Option CaseDef → ListStep → Type 0
 Led cases line block (To next) = Goes cases line block next
 Led cases line block (Wrong cause) = Fails cases line block cause
 
 -- Equal steps have equal results.
-leads : (cases : List CaseDef) (line : List ℕ) (block : Option CaseDef) (s t : Step) → s ≡ t → Led cases line block t → Led cases line block s
+leads : (cases : List CaseDef) (line : List ℕ) (block : Option CaseDef) (s t : ListStep) → s ≡ t → Led cases line block t → Led cases line block s
 leads cases line block s t e h = subst (Led cases line block) (sym e) h
 
 -- ---- first lines of blocks

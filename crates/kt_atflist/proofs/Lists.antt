@@ -1,6 +1,6 @@
 -- Reading line by line gives the cases of a text, or its first fault.
 use Rattle.std.proofs.Common.{Ok, Err, bytes_eq, ◌≡◌, ◌⊎◌, ℕ, ◌+◌, Bool, true, false, List, [], ◌∷◌, Option, Some, None, refl, ap, sym, subst, ◌∙◌, inl, inr}
-use Rattle.kt_atflist.proofs.Common.{find, IsUtf8, is_utf8, false≢true, IsUtf8-from_is_utf8, is_utf8-from_IsUtf8, lines, header, Outcome, fault_at, Goes, begins, gives, ends, Spelled, no_block, last_block, line, fits_first, fits_further, first_rows, further_rows, Fails, first, further, Faulty, here, later, IsList, list, IsFault, no_first, other_first, no_second, other_second, no_third, in_blocks, IsAnswer, IsOutOfMemory, IsUnlessMemory, is_empty, ident_in, key_in, value_in, led, closed, step_from, read_from, nothing_read, read_blocks, read_second, read_lines, read_list, BadHeader, ListFault, CaseDef, Read, Step, To, Wrong}
+use Rattle.kt_atflist.proofs.Common.{find, IsUtf8, is_utf8, false≢true, IsUtf8-from_is_utf8, is_utf8-from_IsUtf8, lines, header, Outcome, fault_at, Goes, begins, gives, ends, Spelled, no_block, last_block, line, fits_first, fits_further, first_rows, further_rows, Fails, first, further, Faulty, here, later, IsList, list, IsFault, no_first, other_first, no_second, other_second, no_third, in_blocks, IsAnswer, IsOutOfMemory, IsUnlessMemory, is_empty, ident_in, key_in, value_in, led, closed, step_from, read_from, nothing_read, read_blocks, read_second, read_lines, read_list, BadHeader, ListFault, CaseDef, Read, ListStep, To, Wrong}
 use Rattle.kt_atflist.specs.declared.list_fault.ListCause.{ListCause}
 use Rattle.kt_atflist.proofs.LineCases.{Led, led_by, step_goes}
 use Rattle.kt_atflist.proofs.Utf8.{read_utf8, read_other}
@@ -21,7 +21,7 @@ went_on : (n : ℕ) (r next : Read) (one : List ℕ) (rest : List (List ℕ)) (o
 went_on n r next one rest (Ok all) g h = line r.cases r.block one rest next all g h
 went_on n r next one rest (Err fault) g h = later n r.cases r.block one rest next fault g h
 
-one_read : (n : ℕ) (r : Read) (one : List ℕ) (rest : List (List ℕ)) (s : Step) → Led r.cases one r.block s
+one_read : (n : ℕ) (r : Read) (one : List ℕ) (rest : List (List ℕ)) (s : ListStep) → Led r.cases one r.block s
     → ((next : Read) → Reads (n + 1) next rest (read_from (n + 1) next rest)) → Reads n r (one ∷ rest) (led n s (λ next. read_from (n + 1) next rest))
 one_read n r one rest (Wrong cause) h more = here n r.cases r.block one rest cause h
 one_read n r one rest (To next) h more = went_on n r next one rest (read_from (n + 1) next rest) h (more next)
@@ -108,7 +108,7 @@ goes_or_fails cases (Some block) one next c (gives _ value property e v k w p g 
     no_cause (find (fits_further block (key_in one) (value_in one)) further_rows) c q i
 goes_or_fails cases (Some block) one next c (ends _ e) (further _ _ f _) = false≢true (sym f ∙ e)
 
-fails_at : (cases : List CaseDef) (block : Option CaseDef) (one : List ℕ) (c : ListCause) (s : Step) → Led cases one block s → Fails cases one block c → s ≡ Wrong c
+fails_at : (cases : List CaseDef) (block : Option CaseDef) (one : List ℕ) (c : ListCause) (s : ListStep) → Led cases one block s → Fails cases one block c → s ≡ Wrong c
 fails_at cases block one c (Wrong d) h f = ap (λ (x : ListCause). Wrong x) (fails_once cases block one d c h f)
 fails_at cases block one c (To next) h f = absurd (goes_or_fails cases block one next c h f)
 
@@ -120,15 +120,15 @@ spelled_reads : (n : ℕ) (cases : List CaseDef) (block : Option CaseDef) (ls : 
 spelled_reads n cases None [] all (no_block _) = refl
 spelled_reads n cases (Some block) [] all (last_block _ _) = refl
 spelled_reads n cases block (one ∷ rest) all (line _ _ _ _ next _ g h) =
-    ap (λ (s : Step). led n s (λ m. read_from (n + 1) m rest)) (step_goes cases block one next g) ∙ spelled_reads (n + 1) next.cases next.block rest all h
+    ap (λ (s : ListStep). led n s (λ m. read_from (n + 1) m rest)) (step_goes cases block one next g) ∙ spelled_reads (n + 1) next.cases next.block rest all h
 
 faulty_reads : (n : ℕ) (cases : List CaseDef) (block : Option CaseDef) (ls : List (List ℕ)) (fault : ListFault) → Faulty n cases block ls fault
     → read_from n (record { cases = cases; block = block }) ls ≡ Err fault
 faulty_reads n cases block [] fault x' = elim x' [ ]
 faulty_reads n cases block (one ∷ rest) fault (here _ _ _ _ _ cause f) =
-    ap (λ (s : Step). led n s (λ m. read_from (n + 1) m rest)) (step_fails cases block one cause f)
+    ap (λ (s : ListStep). led n s (λ m. read_from (n + 1) m rest)) (step_fails cases block one cause f)
 faulty_reads n cases block (one ∷ rest) fault (later _ _ _ _ _ next _ g h) =
-    ap (λ (s : Step). led n s (λ m. read_from (n + 1) m rest)) (step_goes cases block one next g) ∙ faulty_reads (n + 1) next.cases next.block rest fault h
+    ap (λ (s : ListStep). led n s (λ m. read_from (n + 1) m rest)) (step_goes cases block one next g) ∙ faulty_reads (n + 1) next.cases next.block rest fault h
 
 list_reads : (ls : List (List ℕ)) (cases : List CaseDef) → IsList ls cases → read_lines ls ≡ Ok cases
 list_reads ls cases (list one two three rest _ e f h) =

@@ -118,7 +118,7 @@ pub fn cases(
 /// Theorem: a text has at most one result, and a program has at most one list of cases.
 ///
 /// The result of a text is its cases or its first fault.
-pub fn law_of_one_answer()
+pub fn theorem_of_one_answer()
     ensures text { (text : List ℕ) → (first : Result (List CaseDef) ListFault)
         → (second : Result (List CaseDef) ListFault) → IsAnswer text first → IsAnswer text second
         → first ≡ second }

@@ -3,7 +3,7 @@
 ghost use Rattle.std.specs.Prelude.{◌⊎◌, List, Result, ◌≡◌, ◌<◌, ◌∷◌, [], length, MatchOption, IfSome};
 ghost use Rattle.kt_atflist.specs.Common.{IsAnswer, IsOutOfMemory, IsUnlessMemory, ListFault, CaseDef, lines, read_from, nothing_read, read_blocks, read_second, read_lines};
 
-use crate::reading::{Reading, Step};
+use crate::reading::{ListReader, ListStep};
 use crate::steps::{finish, step};
 use crate::{CaseDef, ListCause, ListFault};
 use kt_base::{Items, line_length};
@@ -34,11 +34,11 @@ fn read_from(alloc: Global, text: &[u8]) -> Result<Items<CaseDef>, ListFault>
 {
     let mut line = 3u64;
     let mut rest = text;
-    let mut reading = Reading::new(alloc);
+    let mut reading = ListReader::new(alloc);
     while let Some((first, after)) = first_line(rest) {
         match step(alloc, reading, first)? {
-            Step::Wrong(cause) => return Err(ListFault { cause, line }),
-            Step::To(next) => reading = next,
+            ListStep::Wrong(cause) => return Err(ListFault { cause, line }),
+            ListStep::To(next) => reading = next,
         }
         line += 1;
         rest = after;

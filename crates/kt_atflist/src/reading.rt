@@ -1,5 +1,5 @@
 ghost use Rattle.std.specs.Prelude.{◌≡◌};
-ghost use Rattle.kt_atflist.specs.Inner.Reading.{nothing_read};
+ghost use Rattle.kt_atflist.specs.Inner.ListReader.{nothing_read};
 
 use crate::block::Block;
 use crate::names::Names;
@@ -12,7 +12,7 @@ use std::marker::Model;
 ///
 /// In contracts, it is the cases of the finished blocks, and the case of the block in progress.
 #[derive(Drop)]
-pub struct Reading {
+pub struct ListReader {
     /// The cases of the finished blocks.
     pub cases: Items<CaseDef>,
     /// The names of `cases`, and of the case of `block`.
@@ -21,7 +21,7 @@ pub struct Reading {
     pub block: Option<Block>,
 }
 
-impl Model for Reading {
+impl Model for ListReader {
     ghost use Rattle.std.specs.Prelude.{◌≡◌};
     ghost use Rattle.kt_atflist.specs.Inner.Keys.{names_of};
     ghost use Rattle.kt_atflist.specs.Read.{Read};
@@ -33,14 +33,14 @@ impl Model for Reading {
     ghost invariant = { λ r. r.names ≡ names_of r.cases r.block };
 }
 
-impl Reading {
+impl ListReader {
     /// Creates the state of the reader before the first block of a list.
     ///
     /// Allocates nothing.
-    pub fn new(alloc: Global) -> Reading
+    pub fn new(alloc: Global) -> ListReader
         ensures { result ≡ nothing_read }
     {
-        Reading {
+        ListReader {
             cases: Items::new(alloc),
             names: Names::new(alloc),
             block: None,
@@ -50,9 +50,9 @@ impl Reading {
 
 /// A result of reading one line of a list.
 #[derive(Drop)]
-pub enum Step {
+pub enum ListStep {
     /// The state after the line.
-    To(Reading),
+    To(ListReader),
     /// The cause of the fault in the line.
     Wrong(ListCause),
 }

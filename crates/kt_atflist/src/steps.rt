@@ -8,7 +8,7 @@ ghost use Rattle.kt_atflist.specs.Common.{names_of, name_from, begin_named, begi
 use crate::block::Block;
 use crate::list_line::{ident_in, is_name, key_in, value_in};
 use crate::names::Names;
-use crate::reading::{Reading, Step};
+use crate::reading::{ListReader, ListStep};
 use crate::{CaseDef, ListCause};
 use kt_base::{Items, NoMemory, Text, lossy};
 use kt_metadata::{PropFault, property_of_key};
@@ -20,15 +20,15 @@ fn begin_named(
     cases: Items<CaseDef>,
     mut names: Names,
     name: Text,
-) -> Result<Step, NoMemory>
+) -> Result<ListStep, NoMemory>
     requires { names ≡ names_of cases None }
     ensures { IfOk result (λ step. step ≡ begin_named cases name) }
 {
     if names.has(&name) {
-        return Ok(Step::Wrong(ListCause::RepeatedIdent));
+        return Ok(ListStep::Wrong(ListCause::RepeatedIdent));
     }
     names.push(alloc, &name)?;
-    Ok(Step::To(Reading {
+    Ok(ListStep::To(ListReader {
         cases,
         names,
         block: Some(Block::new(alloc, name)),
@@ -51,12 +51,17 @@ fn name_in(alloc: Global, line: &[u8]) -> Result<Result<Text, ListCause>, NoMemo
 }
 
 /// Reads the first line of a block: begins the block, or returns the cause of a fault.
-fn begin(alloc: Global, cases: Items<CaseDef>, names: Names, line: &[u8]) -> Result<Step, NoMemory>
+fn begin(
+    alloc: Global,
+    cases: Items<CaseDef>,
+    names: Names,
+    line: &[u8],
+) -> Result<ListStep, NoMemory>
     requires { names ≡ names_of cases None }
     ensures { IfOk result (λ step. step ≡ begin_with cases (name_from (ident_in line.now))) }
 {
     match name_in(alloc, line)? {
-        Err(cause) => Ok(Step::Wrong(cause)),
+        Err(cause) => Ok(ListStep::Wrong(cause)),
         Ok(name) => begin_named(alloc, cases, names, name),
     }
 }
@@ -159,14 +164,14 @@ fn go_on_with(
     names: Names,
     mut block: Block,
     line: &[u8],
-) -> Result<Step, NoMemory>
+) -> Result<ListStep, NoMemory>
     requires { names ≡ names_of cases (Some block) }
     ensures { IfOk result (λ step. step ≡ go_on_with cases
         (set_line block (key_in line.now) (value_in line.now))) }
 {
     match set_line(alloc, &mut block, line)? {
-        Some(cause) => Ok(Step::Wrong(cause)),
-        None => Ok(Step::To(Reading {
+        Some(cause) => Ok(ListStep::Wrong(cause)),
+        None => Ok(ListStep::To(ListReader {
             cases,
             names,
             block: Some(block),
@@ -189,7 +194,7 @@ fn go_on(
     names: Names,
     block: Block,
     line: &[u8],
-) -> Result<Step, NoMemory>
+) -> Result<ListStep, NoMemory>
     requires { names ≡ names_of cases (Some block) }
     ensures { IfOk result (λ step. step ≡ go_on cases block line.now) }
 {
@@ -197,7 +202,7 @@ fn go_on(
         return go_on_with(alloc, cases, names, block, line);
     }
     let cases = with_block(cases, block)?;
-    Ok(Step::To(Reading {
+    Ok(ListStep::To(ListReader {
         cases,
         names,
         block: None,
@@ -205,10 +210,10 @@ fn go_on(
 }
 
 /// Reads the next line of a list, and returns the state after it or the cause of its fault.
-pub fn step(alloc: Global, reading: Reading, line: &[u8]) -> Result<Step, NoMemory>
+pub fn step(alloc: Global, reading: ListReader, line: &[u8]) -> Result<ListStep, NoMemory>
     ensures { IfOk result (λ step. step ≡ step_of reading line.now) }
 {
-    let Reading {
+    let ListReader {
         cases,
         names,
         block,
@@ -220,10 +225,10 @@ pub fn step(alloc: Global, reading: Reading, line: &[u8]) -> Result<Step, NoMemo
 }
 
 /// Returns all cases of the list, whose end also ends a block in progress.
-pub fn finish(reading: Reading) -> Result<Items<CaseDef>, NoMemory>
+pub fn finish(reading: ListReader) -> Result<Items<CaseDef>, NoMemory>
     ensures { IfOk result (λ cases. cases ≡ finished reading) }
 {
-    let Reading { cases, block, .. } = reading;
+    let ListReader { cases, block, .. } = reading;
     match block {
         None => Ok(cases),
         Some(block) => with_block(cases, block),

@@ -1,8 +1,8 @@
 -- Lemmas on the board after a start, a poll, a turn and a wait.
 use Rattle.std.proofs.Common.{if◌then◌else◌, ◌≡◌, ℕ, zero, suc, List, [], ◌∷◌, ◌++◌, Bool, true, false, Some, Result, map, slice_get, refl, sym, ◌∙◌, ap, subst, append_assoc, remove}
-use Rattle.kt_child.proofs.Common.{All, All-cons, All-head, All-nil, All-tail, Case, Job, Outcome, StartAnswer, Ended, Polled, OsFault, Watched, ChildrenState, Chain, Call, Kill, Pause, Poll, IsOn, answered, heard_of, Heard, HeardKill, HeardPoll, Leaves, Alive, Hears, IsOver, alive_after, alive_of, board_of, limit_of, spawned, state_after_start, asked_by_poll, is_killed, child_of, pending_with, PolledAll, PolledUntil, Waited, WaitedOn, advanced, advanced_below, last_turn, whole_turn}
+use Rattle.kt_child.proofs.Common.{All, All-cons, All-head, All-nil, All-tail, CaseAttempt, Job, Outcome, StartAnswer, Ended, Polled, OsFault, Watched, ChildrenState, Chain, Call, Kill, Pause, Poll, IsOn, answered, heard_of, Heard, HeardKill, HeardPoll, FinishesChild, Alive, IsPolled, IsOver, alive_after, alive_of, driver_state_of, limit_of, spawned, state_after_start, asked_by_poll, is_killed, child_of, pending_with, PolledAll, PolledUntil, Waited, WaitedOn, advanced, advanced_below, last_turn, whole_turn}
 use Rattle.kt_sched.specs.declared.job.StartAnswer.TheVariants.{Started as StartedAt, Refused as RefusedFor}
-use Rattle.kt_child.specs.Driving.Board.{killed, later, paused, polled}
+use Rattle.kt_child.specs.Driving.DriverState.{killed, later, paused, polled}
 use Rattle.kt_child.proofs.Chains.{chain_append}
 use Rattle.kt_child.proofs.Outcomes.{goes_on}
 use Rattle.kt_child.proofs.CaseSteps.{Left}
@@ -14,7 +14,7 @@ abbrev answering : Watched → List Heard → Alive
 answering k heard = record { case = k.case; limit = k.limit; heard = heard }
 
 -- A start appends its child to the board and leaves the pending cases.
-pub board_started : (b after : ChildrenState) (job : Job) (c : Case) (answer : StartAnswer)
+pub board_started : (b after : ChildrenState) (job : Job) (c : CaseAttempt) (answer : StartAnswer)
     → after ≡ state_after_start b (spawned (limit_of job c.role) c) answer
     → (alive_of after.children ≡ alive_after (alive_of b.children) job c answer) × (after.pending ≡ b.pending)
 board_started b after job c (RefusedFor cause) e = rw e (refl, refl)
@@ -22,7 +22,7 @@ board_started b after job c (StartedAt moment) e =
     rw e (map-append (λ (x : Watched). answering x (answered x.limit x.watch)) b.children (spawned (limit_of job c.role) c ∷ []), refl)
 
 -- Responses of the other children don't change the first child.
-all_later : (a : Alive) (old new : List Alive) (calls : List Call) → Chain Hears old calls new → Chain Hears (a ∷ old) calls (a ∷ new)
+all_later : (a : Alive) (old new : List Alive) (calls : List Call) → Chain IsPolled old calls new → Chain IsPolled (a ∷ old) calls (a ∷ new)
 all_later a old new [] h = ap (λ t. a ∷ t) h
 all_later a old new (call ∷ calls) (mid, first, rest) = (a ∷ mid, later a old mid call first, all_later a mid new calls rest)
 
@@ -36,13 +36,13 @@ after_poll_of k answer done = answering k (answered k.limit k.watch ++ heard_of 
 
 -- A poll of the first child appends its responses.
 poll_heard : (k : Watched) (others : List Alive) (answer : Result Polled OsFault) (done : Bool)
-    → Chain Hears (answering k (answered k.limit k.watch) ∷ others) (asked k answer done) (after_poll_of k answer done ∷ others)
+    → Chain IsPolled (answering k (answered k.limit k.watch) ∷ others) (asked k answer done) (after_poll_of k answer done ∷ others)
 poll_heard k others answer done = by (is_killed k.limit k.watch answer)
   where
     H : List Heard
     H = answered k.limit k.watch
 
-    by : (t : Bool) → Chain Hears (answering k H ∷ others) (if t then Poll (child_of k.case) answer ∷ Kill (child_of k.case) done ∷ [] else Poll (child_of k.case) answer ∷ [])
+    by : (t : Bool) → Chain IsPolled (answering k H ∷ others) (if t then Poll (child_of k.case) answer ∷ Kill (child_of k.case) done ∷ [] else Poll (child_of k.case) answer ∷ [])
         (answering k (H ++ (if t then HeardPoll answer ∷ HeardKill done ∷ [] else HeardPoll answer ∷ [])) ∷ others)
     by true = (_, polled (answering k H) others answer, (_, killed (answering k (H ++ HeardPoll answer ∷ [])) others done, simp append_assoc))
     by false = (_, polled (answering k H) others answer, refl)
@@ -50,13 +50,13 @@ poll_heard k others answer done = by (is_killed k.limit k.watch answer)
 -- A poll of the first child, which still runs, and the later calls give all responses.
 first_heard : (k : Watched) (ks : List Watched) (answer : Result Polled OsFault) (done : Bool) (more calls : List Call) (new : List Alive)
     → answered k.limit (advanced k).watch ≡ answered k.limit k.watch ++ heard_of k.limit k.watch answer done → calls ≡ asked k answer done ++ more
-    → Chain Hears (alive_of ks) more new → Chain Hears (alive_of (k ∷ ks)) calls (answering k (answered k.limit (advanced k).watch) ∷ new)
+    → Chain IsPolled (alive_of ks) more new → Chain IsPolled (alive_of (k ∷ ks)) calls (answering k (answered k.limit (advanced k).watch) ∷ new)
 first_heard k ks answer done more calls new goes e h =
-    rw (e, goes) (chain_append Hears (alive_of (k ∷ ks)) (after_poll_of k answer done ∷ alive_of ks) (after_poll_of k answer done ∷ new) (asked k answer done) more
+    rw (e, goes) (chain_append IsPolled (alive_of (k ∷ ks)) (after_poll_of k answer done ∷ alive_of ks) (after_poll_of k answer done ∷ new) (asked k answer done) more
     (poll_heard k (alive_of ks) answer done) (all_later (after_poll_of k answer done) (alive_of ks) new more h))
 
 -- A turn without a finished child appends one response to each child.
-turn_heard : (ks : List Watched) (calls : List Call) → All IsOn ks → PolledAll ks calls → Chain Hears (alive_of ks) calls (alive_of (map advanced ks)) × All IsOn (map advanced ks)
+turn_heard : (ks : List Watched) (calls : List Call) → All IsOn ks → PolledAll ks calls → Chain IsPolled (alive_of ks) calls (alive_of (map advanced ks)) × All IsOn (map advanced ks)
 turn_heard [] calls on h = (rw h refl, All-nil IsOn)
 turn_heard (k ∷ ks) calls on (answer, done, more, e, went, turn) =
     let is = All-head IsOn k ks on in
@@ -92,15 +92,15 @@ wait_heard _ _ _ _ _ on (whole_turn ks after turn more done place outcome all wa
     let t = turn_heard ks turn on all in
     let u = wait_heard (map advanced ks) more place outcome after t.1 waited in
     let now = alive_of (map advanced ks) in
-    (u.0, u.1, (chain_append Hears (alive_of ks) now u.0 turn (Pause done ∷ more) t.0 (now, paused now done, u.2.0), u.2.1, u.2.2), u.3, u.4)
+    (u.0, u.1, (chain_append IsPolled (alive_of ks) now u.0 turn (Pause done ∷ more) t.0 (now, paused now done, u.2.0), u.2.1, u.2.2), u.3, u.4)
 
 -- A wait of the running children is an end on the board.
 pub waited_ends : (old new : ChildrenState) (calls : List Call) (e : Ended) → All IsOn old.children → Left old calls e new
-    → (next : ℕ) → Waited old.children (board_of old next) calls e new.children (board_of new next)
+    → (next : ℕ) → Waited old.children (driver_state_of old next) calls e new.children (driver_state_of new next)
 waited_ends old new calls e on w next =
     let o = wait_heard old.children w.polls w.place w.outcome w.after on w.waited in
     let case : o.1.case ≡ w.over.case = o.4 w.over w.there in
-    let L : Outcome → Type 0 = λ t. Leaves w.over.case w.rest t e in (
+    let L : Outcome → Type 0 = λ t. FinishesChild w.over.case w.rest t e in (
       record {
         polls = w.polls;
         leaving = w.rest;

@@ -1,6 +1,6 @@
 -- Lemmas on the number of cases at a position.
 use Rattle.std.proofs.Common.{◌≡◌, ◌≢◌, ℕ, zero, suc, ◌+◌, ◌<◌, ◌≤◌, ◌==◌, ◌&&◌, List, [], ◌∷◌, ◌++◌, slice_get, map, Bool, true, false, Option, Some, None, refl, arith, if◌then◌else◌, nat_lt, ap, remove}
-use Rattle.kt_child.proofs.Common.{nat_tests, Role, Body, Cleanup, Case, same_role, count_at, one_if, times, is_among, pending_with, shown, shown_at, is_over}
+use Rattle.kt_child.proofs.Common.{nat_tests, Role, Body, Cleanup, CaseAttempt, same_role, count_at, one_if, times, is_among, pending_with, shown, shown_at, is_over}
 use Rattle.kt_sched.specs.Children.{Child as Shown}
 use Rattle.kt_base.proofs.Lists.{same_number}
 use Rattle.std.proofs.lemmas.Option.{same_Some}
@@ -29,13 +29,13 @@ count_step true Cleanup s x y n h p q = absurd (cc (q))
 count_step false role s x y n h p q = omega (arith, h p q)
 
 -- A position at which nothing is shown has no case.
-pub none_shown : (cases : List Case) (i : ℕ) → shown_at cases i Body ≡ None → shown_at cases i Cleanup ≡ None → count_at i cases ≡ 0
+pub none_shown : (cases : List CaseAttempt) (i : ℕ) → shown_at cases i Body ≡ None → shown_at cases i Cleanup ≡ None → count_at i cases ≡ 0
 none_shown [] i p q = refl
 none_shown (c ∷ cases) i p q =
     count_step (i == c.position) c.role (shown c) (shown_at cases i Body) (shown_at cases i Cleanup) (count_at i cases) (none_shown cases i) p q
 
 -- A position has a case exactly if its count is above 0.
-pub among_counts : (cases : List Case) (k : ℕ) → is_among cases k ≡ nat_lt 0 (count_at k cases)
+pub among_counts : (cases : List CaseAttempt) (k : ℕ) → is_among cases k ≡ nat_lt 0 (count_at k cases)
 among_counts [] k = refl
 among_counts (c ∷ cases) k = step (k == c.position) (is_among cases k) (count_at k cases) (among_counts cases k)
   where
@@ -43,7 +43,7 @@ among_counts (c ∷ cases) k = step (k == c.position) (is_among cases k) (count_
     step b x n e = grind (arith, nat_tests, one_if_is b)
 
 -- A position without a case has the count 0.
-pub none_among : (cases : List Case) (i : ℕ) → is_among cases i ≡ false → count_at i cases ≡ 0
+pub none_among : (cases : List CaseAttempt) (i : ℕ) → is_among cases i ≡ false → count_at i cases ≡ 0
 none_among cases i p = grind (arith, nat_tests, among_counts cases i)
 
 -- Counts of a number `n` among the values `f x` of a list.
@@ -60,7 +60,7 @@ module _ {X : Type 0} (f : X → ℕ) (n : ℕ) where
   times_less (y ∷ xs) (suc p) x h = omega (arith, times_less xs p x h)
 
 -- The end of a child adds its case to the pending cases at most once.
-pub times_owed : (f : Case → ℕ) (n : ℕ) (owed : List Case) (c : Case) → times n (map f (pending_with c owed)) ≤ times n (map f owed) + one_if (n == f c)
+pub times_owed : (f : CaseAttempt → ℕ) (n : ℕ) (owed : List CaseAttempt) (c : CaseAttempt) → times n (map f (pending_with c owed)) ≤ times n (map f owed) + one_if (n == f c)
 times_owed f n owed c = by (is_over c)
   where
     by : (t : Bool) → times n (map f (if t then owed else owed ++ c ∷ [])) ≤ times n (map f owed) + one_if (n == f c)
@@ -68,11 +68,11 @@ times_owed f n owed c = by (is_over c)
     by false = omega (arith, times_more f n owed c)
 
 -- `position c`: the position of the case `c`.
-abbrev pub position : Case → ℕ
+abbrev pub position : CaseAttempt → ℕ
 position c = c.position
 
 -- The position of a case in a list has a count above 0.
-pub count_there : (cases : List Case) (p : ℕ) (c : Case) → slice_get cases p ≡ Some c → 0 < count_at c.position cases
+pub count_there : (cases : List CaseAttempt) (p : ℕ) (c : CaseAttempt) → slice_get cases p ≡ Some c → 0 < count_at c.position cases
 count_there cases p c h = omega (arith, times_less position c.position cases p c h, ap one_if (same_number c.position))
 
 -- Positions with an equality test of `true` are equal.

@@ -1,6 +1,6 @@
 -- Lemmas on the children's cases, which no poll changes.
 use Rattle.std.proofs.Common.{◌≡◌, ℕ, zero, suc, List, [], ◌∷◌, ◌++◌, Some, map, slice_get, refl, sym, ◌∙◌, ap, remove}
-use Rattle.kt_child.proofs.Common.{Outcome, Ended, Watched, ChildrenState, Call, Leaves, cases_of, WaitedOn, advanced, advanced_below, last_turn, pending_with, whole_turn}
+use Rattle.kt_child.proofs.Common.{Outcome, Ended, Watched, ChildrenState, Call, FinishesChild, cases_of, WaitedOn, advanced, advanced_below, last_turn, pending_with, whole_turn}
 use Rattle.std.specs.Option.{option_map}
 use Rattle.std.proofs.lemmas.Option.{slice_get-map}
 use Rattle.indexmap.proofs.SetLemmas.{map-remove}
@@ -42,7 +42,7 @@ pub record Left (old : ChildrenState) (calls : List Call) (e : Ended) (new : Chi
   pub asked : calls ≡ polls ++ rest
   pub waited : WaitedOn old.children polls place outcome after
   pub there : slice_get after place ≡ Some over
-  pub left : Leaves over.case rest outcome e
+  pub left : FinishesChild over.case rest outcome e
   pub children : new.children ≡ remove after place
   pub pending : new.pending ≡ pending_with over.case old.pending
 

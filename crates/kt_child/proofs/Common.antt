@@ -9,26 +9,26 @@ pub use Rattle.std.specs.List.{All}
 pub use Rattle.std.specs.Process.{SameDir, SameEnv, SameProgramAndArgs, clears_env, command_args, command_program, command_var, status_bits}
 pub use Rattle.std.specs.Str.{bytes_eq}
 unfoldable pub use Rattle.std.specs.Str.{chars}
-pub use Rattle.kt_child.specs.Types.{Body, Case, Chain, Child, Cleanup, Ended, FileRead, Job, OsFault, Outcome, Paths, Polled, Role, Spawning, StartAnswer, Watch, Watched}
+pub use Rattle.kt_child.specs.Types.{Body, CaseAttempt, Chain, Child, Cleanup, Ended, FileRead, Job, OsFault, Outcome, Paths, Polled, Role, Spawning, StartAnswer, Watch, Watched}
 pub use Rattle.kt_base.specs.Utf8.{utf8}
 pub use Rattle.kt_base.specs.declared.child.Refused.{Refused}
 pub use Rattle.kt_sched.specs.Children.{IsEvidence, pending_after_end, running_after_end, same_role, with_cleanup_declared}
 pub use Rattle.kt_sched.specs.Trace.{End, Leads, NoEvent, Start, Then, Trace}
 pub use Rattle.kt_child.specs.Driving.Starting.{Ask, Begun, SetUpAs, Started, Tried, cause_of, child_asks, open_ask, spawn_ask, spawned, work_ask}
-pub use Rattle.kt_child.specs.Driving.Board.{Alive, Board, Ends, Hears, IsOver, Starts, Waited, alive_after, alive_of, board, board_of}
+pub use Rattle.kt_child.specs.Driving.DriverState.{Alive, DriverState, Ends, IsPolled, IsOver, Starts, Waited, alive_after, alive_of, driver_state, driver_state_of}
 pub use Rattle.kt_child.specs.Driving.ChildrenState.{ChildrenState, cases_of, is_among, pending_with, shown, shown_at, shown_in}
 pub use Rattle.kt_child.specs.Driving.JobPlan.{case_of, job_purpose, limit_of, spawning_for, spawning_of, want_of}
 pub use Rattle.kt_child.specs.Driving.DriverSteps.{DriverStarts, DriverWaits}
 pub use Rattle.kt_child.specs.Driving.Numbers.{AttemptsDiffer, IsApart, ListOf, Request, Serves, ServesAll, Wait, is_attempt, numbers, NumbersDiffer}
 pub use Rattle.kt_child.specs.Driving.Roots.{FailedRoots, root_of}
 pub use Rattle.kt_child.specs.Driving.Runs.{Runs, RunsFrom}
-pub use Rattle.kt_child.specs.Ending.Ends.{Leaves, Removes, err_of, is_over, out_of}
+pub use Rattle.kt_child.specs.Ending.Ends.{FinishesChild, Removes, err_of, is_over, out_of}
 pub use Rattle.kt_child.specs.Ending.Parts.{IsEnd, Reads, next_part}
 pub use Rattle.kt_child.specs.Ending.Reads.{bytes_of}
 pub use Rattle.kt_child.specs.Host.HostStands.{AllProceed, AllStay, OthersStay, Proceeds, Stand, same_child, stand_in, stand_of}
 pub use Rattle.kt_child.specs.Inner.Children.{IsChildrenState, IsOn, IsShort, IsWatched, TakesBytes, count_at, count_in, one_if, state_after_start, times, with_pending}
 pub use Rattle.kt_child.specs.Inner.Host.{RunsIn, after_removed, after_set}
-pub use Rattle.kt_child.specs.Planning.ChildPlan.{child_of, paths_of, test_variable, variable_word}
+pub use Rattle.kt_child.specs.Planning.ChildPlan.{child_of, paths_of, test_variable, variable_argument}
 pub use Rattle.kt_child.specs.Polling.ChildOutcome.{Heard, HeardKill, HeardPoll, Yields, YieldsAfterKill, answered, running}
 pub use Rattle.kt_child.specs.Polling.Polls.{asked_by_poll, heard_of, is_killed, after_poll, watch_after}
 pub use Rattle.kt_child.specs.Polling.Turns.{PolledAll, PolledLast, PolledUntil, WaitedOn, advanced, advanced_below, last_turn, whole_turn}

@@ -1,16 +1,16 @@
 -- The next attempt number never decreases, and no number occurs twice on a board.
 use Rattle.std.proofs.Common.{◌≡◌, ℕ, ◌==◌, ◌&&◌, ◌+◌, ◌-◌, ◌^◌, ◌<◌, ◌≤◌, List, [], ◌∷◌, ◌++◌, Bool, true, false, map, refl, sym, ◌∙◌, ap, subst, arith, inl, inr}
-use Rattle.kt_child.proofs.Common.{nat_tests, Alive, Board, Body, Cleanup, Call, Case, Chain, Driver, End, Ended, Ends, Hears, Job, NoEvent, Role, Runs, Start as Started, StartAnswer, Starts, Then, Trace, alive_after, limit_of, one_if, AttemptsDiffer, IsApart, NumbersDiffer, numbers, times, Request, Wait, ListOf, Serves, ServesAll, is_attempt}
+use Rattle.kt_child.proofs.Common.{nat_tests, Alive, DriverState, Body, Cleanup, Call, CaseAttempt, Chain, Driver, End, Ended, Ends, IsPolled, Job, NoEvent, Role, Runs, Start as Started, StartAnswer, Starts, Then, Trace, alive_after, limit_of, one_if, AttemptsDiffer, IsApart, NumbersDiffer, numbers, times, Request, Wait, ListOf, Serves, ServesAll, is_attempt}
 use Rattle.kt_child.specs.Driving.Numbers.{Start}
 use Rattle.kt_sched.specs.declared.job.StartAnswer.TheVariants.{Started as StartedAt, Refused as RefusedFor}
-use Rattle.kt_child.specs.Driving.Board.{killed, later, paused, polled}
+use Rattle.kt_child.specs.Driving.DriverState.{killed, later, paused, polled}
 use Rattle.kt_child.proofs.CaseCounts.{one_if_is, times_less, times_more, times_owed}
 
 -- No request decreases the next number, and an attempt increases it.
 serves : {O : Type 0} (leads : O → Call → O → Type 0) (d e : Driver O) (request : Request) → Serves leads d request e
     → (d.next ≤ e.next) × (is_attempt request ≡ true → d.next < 2 ^ 64 - 1 → d.next < e.next)
 serves leads d e (Start job role answer) ((_, _, inl (_, l, _, _, same)), _, _) =
-    (omega (arith, ap (λ (b : Board). b.next) same), λ is lt. absurd (omega (arith, l)))
+    (omega (arith, ap (λ (b : DriverState). b.next) same), λ is lt. absurd (omega (arith, l)))
 serves leads d e (Start job Cleanup answer) ((_, _, inr (_, (_, _, _, _, n, _, _), _, _)), _, _) = (omega arith, λ is. absurd (cc))
 serves leads d e (Start job Body answer) ((_, _, inr (_, ((_, _, n), _, _), _, _)), _, _) = (omega arith, λ is lt. omega arith)
 serves leads d e (Wait ended) ((calls, chain, waited), source, root) = (omega (arith, waited.0.next), λ is. absurd (cc))
@@ -38,23 +38,23 @@ abbrev runs_by : Alive → ℕ
 runs_by a = a.case.attempt
 
 -- `owed_by c`: the attempt number of the pending case `c`.
-abbrev owed_by : Case → ℕ
+abbrev owed_by : CaseAttempt → ℕ
 owed_by c = c.attempt
 
 -- No call changes the attempt numbers of the running children.
-call_kept : (old new : List Alive) (call : Call) → Hears old call new → map runs_by new ≡ map runs_by old
+call_kept : (old new : List Alive) (call : Call) → IsPolled old call new → map runs_by new ≡ map runs_by old
 call_kept _ _ _ (polled a others answer) = refl
 call_kept _ _ _ (killed a others done) = refl
 call_kept _ _ _ (later a others after call h) = ap (λ t. a.case.attempt ∷ t) (call_kept others after call h)
 call_kept _ _ _ (paused alive done) = refl
 
 -- No list of calls changes the attempt numbers of the running children.
-calls_kept : (calls : List Call) (old new : List Alive) → Chain Hears old calls new → map runs_by new ≡ map runs_by old
+calls_kept : (calls : List Call) (old new : List Alive) → Chain IsPolled old calls new → map runs_by new ≡ map runs_by old
 calls_kept [] old new h = ap (map runs_by) h
 calls_kept (call ∷ calls) old new (mid, first, rest) = calls_kept calls mid new rest ∙ call_kept old mid call first
 
 -- A start adds the attempt number of its case at most once.
-started_most : (n : ℕ) (alive : List Alive) (job : Job) (c : Case) (answer : StartAnswer)
+started_most : (n : ℕ) (alive : List Alive) (job : Job) (c : CaseAttempt) (answer : StartAnswer)
     → times n (map runs_by (alive_after alive job c answer)) ≤ times n (map runs_by alive) + one_if (n == c.attempt)
 started_most n alive job c (RefusedFor cause) = omega arith
 started_most n alive job c (StartedAt moment) =
@@ -67,7 +67,7 @@ apart_still t n x y next after le h (one, none) =
     (grind (arith, nat_tests, one_if_is t, one_if_is (t && n == next)), λ below. grind (arith, nat_tests, one_if_is t, one_if_is (t && n == next)))
 
 -- A board on which no number occurs more often, except the next one if used, stays apart.
-fewer : (t : Bool) (old new : Board) → IsApart old → old.next + one_if t ≤ new.next
+fewer : (t : Bool) (old new : DriverState) → IsApart old → old.next + one_if t ≤ new.next
     → ((n : ℕ) → times n (map runs_by new.alive) + times n (map owed_by new.owed)
     ≤ times n (map runs_by old.alive) + times n (map owed_by old.owed) + one_if (t && n == old.next)) → IsApart new
 fewer t old new apart le h n =
@@ -76,7 +76,7 @@ fewer t old new apart le h n =
     apart_still t n (times n (numbers old)) (times n (numbers new)) old.next new.next le (omega (arith, h n, x, y)) (apart n)
 
 -- The attempt numbers on a board are different after an end.
-ends_apart : (old new : Board) (calls : List Call) (e : Ended) → Ends old calls e new → IsApart old → IsApart new
+ends_apart : (old new : DriverState) (calls : List Call) (e : Ended) → Ends old calls e new → IsApart old → IsApart new
 ends_apart old new calls e s apart =
     fewer false old new apart (omega (arith, s.next)) (λ n.
     omega (
@@ -89,7 +89,7 @@ ends_apart old new calls e s apart =
     ))
 
 -- The attempt numbers on a board are different after a start.
-starts_apart : (source root : List ℕ) (old new : Board) (job : Job) (role : Role) (calls : List Call) (answer : StartAnswer)
+starts_apart : (source root : List ℕ) (old new : DriverState) (job : Job) (role : Role) (calls : List Call) (answer : StartAnswer)
     → Starts source root old job role calls answer new → IsApart old → IsApart new
 starts_apart source root old new job role calls answer (inl (r, l, refused, none, same)) apart = subst IsApart (sym same) apart
 starts_apart source root old new job Cleanup calls answer (inr (c, (place, was, at, position, next, owed, case), begun, alive)) apart =
@@ -100,7 +100,7 @@ starts_apart source root old new job Cleanup calls answer (inr (c, (place, was, 
       ap (λ t. times n (map runs_by t)) alive,
       times_less owed_by n old.owed place was at,
       ap (λ t. times n (map owed_by t)) owed,
-      ap (λ (t : Case). one_if (n == t.attempt)) case,
+      ap (λ (t : CaseAttempt). one_if (n == t.attempt)) case,
     ))
 starts_apart source root old new job Body calls answer (inr (c, ((lt, number, next), owed, case), begun, alive)) apart =
     fewer true old new apart (omega (arith, next)) (λ n.
@@ -109,11 +109,11 @@ starts_apart source root old new job Body calls answer (inr (c, ((lt, number, ne
       started_most n old.alive job c answer,
       ap (λ t. times n (map runs_by t)) alive,
       ap (λ t. times n (map owed_by t)) owed,
-      ap (λ (t : Case). one_if (n == t.attempt)) case,
+      ap (λ (t : CaseAttempt). one_if (n == t.attempt)) case,
     ))
 
 -- The attempt numbers on a board are different after a run.
-runs_apart : (plan : List Job) (source root : List ℕ) (old : Board) (T : Trace) (calls : List Call) (new : Board) → Runs plan source root old T calls new → IsApart old → IsApart new
+runs_apart : (plan : List Job) (source root : List ℕ) (old : DriverState) (T : Trace) (calls : List Call) (new : DriverState) → Runs plan source root old T calls new → IsApart old → IsApart new
 runs_apart plan source root old NoEvent calls new (none, same) apart = subst IsApart (sym same) apart
 runs_apart plan source root old (Then T (Started i role answer)) calls new (mid, before, asked, e, runs, (job, at, s)) apart =
     starts_apart source root mid new job role asked answer s (runs_apart plan source root old T before mid runs apart)

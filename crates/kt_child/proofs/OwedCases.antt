@@ -1,15 +1,15 @@
 -- Lemmas on the cases with a pending cleanup.
 use Rattle.std.proofs.Common.{◌≡◌, ℕ, ◌≤◌, ◌==◌, ◌&&◌, List, [], ◌∷◌, ◌++◌, slice_get, Bool, true, false, Some, refl, ◌∙◌, ap, arith, if◌then◌else◌, remove}
-use Rattle.kt_child.proofs.Common.{nat_tests, Role, Body, Cleanup, Case, same_role, with_cleanup_declared, count_at, is_among, pending_with, shown, shown_at, is_over}
+use Rattle.kt_child.proofs.Common.{nat_tests, Role, Body, Cleanup, CaseAttempt, same_role, with_cleanup_declared, count_at, is_among, pending_with, shown, shown_at, is_over}
 use Rattle.kt_child.proofs.CaseCounts.{among_counts, one_if_is, position, same_position, times_less, times_more}
 
 -- The positions of `cases` with `c` appended are those of `cases` and that of `c`.
-pub among_append : (cases : List Case) (c : Case) (k : ℕ) → is_among (cases ++ c ∷ []) k ≡ (if k == c.position then true else is_among cases k)
+pub among_append : (cases : List CaseAttempt) (c : CaseAttempt) (k : ℕ) → is_among (cases ++ c ∷ []) k ≡ (if k == c.position then true else is_among cases k)
 among_append cases c k =
     grind (arith, nat_tests, among_counts (cases ++ c ∷ []) k, among_counts cases k, times_more position k cases c, one_if_is (k == c.position))
 
 -- After a body with a declared cleanup has ended, its case is pending; the others are unchanged.
-pub among_owed : (cases pending : List Case) (c : Case) (k : ℕ) → shown_at cases c.position c.role ≡ Some (shown c)
+pub among_owed : (cases pending : List CaseAttempt) (c : CaseAttempt) (k : ℕ) → shown_at cases c.position c.role ≡ Some (shown c)
     → is_among (pending_with c pending) k
     ≡ (if k == c.position && (same_role c.role Body && with_cleanup_declared (shown_at cases c.position Body)) then true else is_among pending k)
 among_owed cases pending c k e =
@@ -30,7 +30,7 @@ among_owed cases pending c k e =
     owed b body cleanup shows x y h e = grind (arith, nat_tests)
 
 -- The positions of `cases` without the case `c` are the others.
-pub among_remove : (cases : List Case) (p : ℕ) (c : Case) (k : ℕ) → slice_get cases p ≡ Some c → count_at c.position cases ≤ 1
+pub among_remove : (cases : List CaseAttempt) (p : ℕ) (c : CaseAttempt) (k : ℕ) → slice_get cases p ≡ Some c → count_at c.position cases ≤ 1
     → is_among (remove cases p) k ≡ (if k == c.position then false else is_among cases k)
 among_remove cases p c k at once =
     let most : (k == c.position) ≡ true → count_at k cases ≤ 1 = λ e. rw (same_position k c.position e) once in

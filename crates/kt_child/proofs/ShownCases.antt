@@ -1,26 +1,26 @@
 -- Lemmas on `shown_at`, the contracts' view of the running cases.
 use Rattle.std.proofs.Common.{◌≡◌, ◌≢◌, ℕ, zero, suc, ◌≤◌, ◌==◌, ◌&&◌, List, [], ◌∷◌, ◌++◌, slice_get, Bool, Option, Some, None, refl, ◌∙◌, ap, arith, if◌then◌else◌, remove}
-use Rattle.kt_child.proofs.Common.{nat_tests, Role, Case, same_role, count_at, one_if, shown, shown_at}
+use Rattle.kt_child.proofs.Common.{nat_tests, Role, CaseAttempt, same_role, count_at, one_if, shown, shown_at}
 use Rattle.kt_sched.specs.Children.{Child as Shown}
 use Rattle.kt_child.proofs.CaseCounts.{apart, count_there, own_role, position, times_less}
 use Rattle.kt_base.proofs.Lists.{same_number}
 use Rattle.std.proofs.lemmas.Option.{same_Some}
 
 -- `is_at c k r`: the case `c` is at the position `k` in the role `r`.
-abbrev is_at : Case → ℕ → Role → Bool
+abbrev is_at : CaseAttempt → ℕ → Role → Bool
 is_at c k r = k == c.position && same_role r c.role
 
 -- Two tests for cases at different positions can be exchanged.
-swap_tests : {X : Type 0} (c d : Case) (k : ℕ) (r : Role) (x y z : X) → c.position ≢ d.position
+swap_tests : {X : Type 0} (c d : CaseAttempt) (k : ℕ) (r : Role) (x y z : X) → c.position ≢ d.position
     → (if is_at d k r then x else (if is_at c k r then y else z)) ≡ (if is_at c k r then y else (if is_at d k r then x else z))
 swap_tests c d k r x y z h = grind (arith, nat_tests)
 
 -- The test for a case at another position is `false`.
-skip_test : {X : Type 0} (c : Case) (k : ℕ) (r : Role) (x y : X) → k ≢ c.position → (if is_at c k r then x else y) ≡ y
+skip_test : {X : Type 0} (c : CaseAttempt) (k : ℕ) (r : Role) (x y : X) → k ≢ c.position → (if is_at c k r then x else y) ≡ y
 skip_test c k r x y h = grind (arith, nat_tests)
 
 -- Appending a case at a free position makes it visible and changes no other.
-pub shown_append : (cases : List Case) (c : Case) (k : ℕ) (r : Role) → count_at c.position cases ≡ 0
+pub shown_append : (cases : List CaseAttempt) (c : CaseAttempt) (k : ℕ) (r : Role) → count_at c.position cases ≡ 0
     → shown_at (cases ++ c ∷ []) k r ≡ (if is_at c k r then Some (shown c) else shown_at cases k r)
 shown_append [] c k r h = refl
 shown_append (d ∷ cases) c k r h =
@@ -28,18 +28,18 @@ shown_append (d ∷ cases) c k r h =
     ∙ swap_tests c d k r (Some (shown d)) (Some (shown c)) (shown_at cases k r) (apart c.position d.position (omega arith))
 
 -- Nothing is shown at a position without a case.
-pub not_shown : (cases : List Case) (k : ℕ) (r : Role) → count_at k cases ≡ 0 → shown_at cases k r ≡ None
+pub not_shown : (cases : List CaseAttempt) (k : ℕ) (r : Role) → count_at k cases ≡ 0 → shown_at cases k r ≡ None
 not_shown [] k r h = refl
 not_shown (c ∷ cases) k r h =
     skip_test c k r (Some (shown c)) (shown_at cases k r) (apart k c.position (omega arith)) ∙ not_shown cases k r (omega arith)
 
 -- A first case at `k` that is removed leaves nothing at its position.
-first_test : (c : Case) (k : ℕ) (r : Role) (x y : Option Shown) → (k ≡ c.position → y ≡ None)
+first_test : (c : CaseAttempt) (k : ℕ) (r : Role) (x y : Option Shown) → (k ≡ c.position → y ≡ None)
     → y ≡ (if is_at c k r then None else (if is_at c k r then x else y))
 first_test c k r x y h = grind (arith, nat_tests)
 
 -- Removing a case hides it and changes no other.
-pub shown_remove : (cases : List Case) (p : ℕ) (c : Case) (k : ℕ) (r : Role) → slice_get cases p ≡ Some c → count_at c.position cases ≤ 1
+pub shown_remove : (cases : List CaseAttempt) (p : ℕ) (c : CaseAttempt) (k : ℕ) (r : Role) → slice_get cases p ≡ Some c → count_at c.position cases ≤ 1
     → shown_at (remove cases p) k r ≡ (if is_at c k r then None else shown_at cases k r)
 shown_remove [] p c k r h once = absurd (cc (h))
 shown_remove (d ∷ cases) zero c k r h once =
@@ -53,7 +53,7 @@ shown_remove (d ∷ cases) (suc p) c k r h once =
     ∙ swap_tests c d k r (Some (shown d)) None (shown_at cases k r) (apart c.position d.position (omega (arith, there)))
 
 -- The case at index `p` is shown at its position and role.
-pub shown_there : (cases : List Case) (p : ℕ) (c : Case) → slice_get cases p ≡ Some c → count_at c.position cases ≤ 1
+pub shown_there : (cases : List CaseAttempt) (p : ℕ) (c : CaseAttempt) → slice_get cases p ≡ Some c → count_at c.position cases ≤ 1
     → shown_at cases c.position c.role ≡ Some (shown c)
 shown_there [] p c h once = absurd (cc (h))
 shown_there (d ∷ cases) zero c h once = rw (same_Some d c h, same_number c.position, own_role c.role) refl

@@ -1,6 +1,6 @@
 -- Lemmas on the state after a start, after a wait, and after a pending case was removed.
 use Rattle.std.proofs.Common.{◌≡◌, ℕ, suc, ◌+◌, ◌≤◌, List, ◌++◌, slice_get, take, drop, Bool, true, Some, refl, ◌∙◌, ap, subst, arith, ◌==◌, [], ◌∷◌, false, remove}
-use Rattle.kt_child.proofs.Common.{Job, Paths, StartAnswer, case_of, limit_of, spawned, state_after_start, All, All-append, All-take, All-drop, All-push, Role, Outcome, Watched, Case, Ended, Chain, Call, IsChildrenState, IsOn, count_at, count_in, one_if, WaitedOn, IsEvidence, running_after_end, pending_after_end, ChildrenState, cases_of, is_among, pending_with, shown, shown_at, shown_in, Leaves}
+use Rattle.kt_child.proofs.Common.{Job, Paths, StartAnswer, case_of, limit_of, spawned, state_after_start, All, All-append, All-take, All-drop, All-push, Role, Outcome, Watched, CaseAttempt, Ended, Chain, Call, IsChildrenState, IsOn, count_at, count_in, one_if, WaitedOn, IsEvidence, running_after_end, pending_after_end, ChildrenState, cases_of, is_among, pending_with, shown, shown_at, shown_in, FinishesChild}
 use Rattle.kt_sched.specs.Children.{Child as Shown, running_after_start}
 use Rattle.kt_sched.specs.declared.job.StartAnswer.TheVariants.{Started as StartedAt, Refused as RefusedFor}
 use Rattle.kt_child.proofs.CaseSteps.{Left, case_at, cases_remove, waited_cases}
@@ -21,7 +21,7 @@ pub cases_more : (ks : List Watched) (k : Watched) → cases_of (ks ++ k ∷ [])
 cases_more ks k = map-append (λ (x : Watched). x.case) ks (k ∷ [])
 
 -- The invariant is true after a start at a free position.
-pub state_started : (children children' : List Watched) (pending pending' : List Case) (k : Watched)
+pub state_started : (children children' : List Watched) (pending pending' : List CaseAttempt) (k : Watched)
     → IsChildrenState children pending → IsOn k → count_at k.case.position (cases_of children) + count_at k.case.position pending ≡ 0
     → children' ≡ children ++ k ∷ [] → pending' ≡ pending → IsChildrenState children' pending'
 state_started children children' pending pending' k b on free e f =
@@ -46,19 +46,19 @@ shown_started b job role number paths (StartedAt moment) free k r =
     ap (λ t. shown_at t k r) (cases_more b.children (spawned (limit_of job role) c)) ∙ shown_append (cases_of b.children) c k r (omega (arith, free))
 
 -- The invariant is true after a pending case was removed.
-pub state_taken : (children : List Watched) (pending pending' : List Case) (p : ℕ) (c : Case)
+pub state_taken : (children : List Watched) (pending pending' : List CaseAttempt) (p : ℕ) (c : CaseAttempt)
     → IsChildrenState children pending → slice_get pending p ≡ Some c → pending' ≡ remove pending p → IsChildrenState children pending'
 state_taken children pending pending' p c b at e =
     rw e (record { on = b.on; once = λ i. omega (arith, times_less position i pending p c at, b.once i) })
 
 -- The position of a removed pending case is free.
-pub free_taken : (cases pending : List Case) (p : ℕ) (c : Case) → ((i : ℕ) → count_at i cases + count_at i pending ≤ 1)
+pub free_taken : (cases pending : List CaseAttempt) (p : ℕ) (c : CaseAttempt) → ((i : ℕ) → count_at i cases + count_at i pending ≤ 1)
     → slice_get pending p ≡ Some c → count_at c.position cases + count_at c.position (remove pending p) ≡ 0
 free_taken cases pending p c once at =
     omega (arith, times_less position c.position pending p c at, ap one_if (same_number c.position), once c.position)
 
 -- The invariant is true after a child has finished.
-pub state_after : (children after children' : List Watched) (pending pending' : List Case) (p : ℕ) (k : Watched)
+pub state_after : (children after children' : List Watched) (pending pending' : List CaseAttempt) (p : ℕ) (k : Watched)
     → IsChildrenState children pending → cases_of after ≡ cases_of children → All IsOn after → slice_get after p ≡ Some k
     → children' ≡ remove after p → pending' ≡ pending_with k.case pending → IsChildrenState children' pending'
 state_after children after children' pending pending' p k b same on at e q =
@@ -107,7 +107,7 @@ module _ (old new : ChildrenState) (calls : List Call) (e : Ended) (once : Once 
 -- The polls and the calls after them are the calls of one wait.
 pub waited_all : {O : Type 0} (leads : O → Call → O → Type 0) (a b d : O) (old new : ChildrenState) (children after : List Watched) (place : ℕ) (outcome : Outcome) (k : Watched) (e : Ended)
     → (calls : List Call) × Chain leads a calls b × WaitedOn children calls place outcome after
-    → (calls : List Call) × Chain leads b calls d × Leaves k.case calls outcome e
+    → (calls : List Call) × Chain leads b calls d × FinishesChild k.case calls outcome e
     → children ≡ old.children → slice_get after place ≡ Some k
     → new.children ≡ remove after place → new.pending ≡ pending_with k.case old.pending
     → (calls : List Call) × Chain leads a calls d × ((w : Left old calls e new) × (w.over ≡ k))

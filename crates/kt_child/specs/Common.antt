@@ -10,7 +10,7 @@ pub use Rattle.kt_sched.specs.Plan.{IsFit, IsPlan, IsWidth}
 pub use Rattle.kt_sched.specs.Run.{Ran}
 pub use Rattle.kt_sched.specs.Trace.{HasMoment, Leads, Trace}
 pub use Rattle.kt_child.specs.Driving.ChildrenState.{idle_state, is_among, shown_in}
-pub use Rattle.kt_child.specs.Driving.Board.{TakesNumber, Waited, board, board_of}
+pub use Rattle.kt_child.specs.Driving.DriverState.{TakesNumber, Waited, driver_state, driver_state_of}
 pub use Rattle.kt_child.specs.Driving.DriverSteps.{DriverStarts, DriverWaits}
 pub use Rattle.kt_child.specs.Driving.JobPlan.{case_of, limit_of, list_case, list_purpose, program_directory, program_path, spawning_for, spawning_of, want_of}
 pub use Rattle.kt_child.specs.Driving.Lists.{ListsBy, RanList, WatchedList}
@@ -18,7 +18,7 @@ pub use Rattle.kt_child.specs.Driving.Numbers.{AttemptsDiffer, NumbersDiffer}
 pub use Rattle.kt_child.specs.Driving.Roots.{FindsRoot, driver_words, root_of}
 pub use Rattle.kt_child.specs.Driving.Runs.{EndsFollow, RunsFrom}
 pub use Rattle.kt_child.specs.Driving.Starting.{Begun, SetUp, SetUpIn, SetUpNew, Started, Tried, cause_of, child_asks, furnish_asks, spawn_ask, spawned}
-pub use Rattle.kt_child.specs.Ending.Ends.{Leaves, Removes, err_of, is_over, out_of}
+pub use Rattle.kt_child.specs.Ending.Ends.{FinishesChild, Removes, err_of, is_over, out_of}
 pub use Rattle.kt_child.specs.Ending.Gathering.{Gathers, ReadsClaim, ReadsTap}
 pub use Rattle.kt_child.specs.Ending.Parts.{IsEnd, Reads, next_part}
 pub use Rattle.kt_child.specs.Ending.Reads.{IsListWithin, IsReadWithin, bytes_of, list_of}
@@ -28,7 +28,7 @@ pub use Rattle.kt_child.specs.Host.Lateness.{IsLate, IsLateAt, Looks, Sees}
 pub use Rattle.kt_child.specs.Inner.Children.{IsOn, IsOnBy, IsWatched, TakesBytes, count_in, state_after_start, with_pending}
 pub use Rattle.kt_child.specs.Inner.Host.{IsAt, IsCommandOf, IsFaultOf, IsFree, IsUnopened, RunsIn, after_removed, after_set}
 pub use Rattle.kt_child.specs.Inner.Started.{IsStart}
-pub use Rattle.kt_child.specs.Planning.ChildPlan.{child_of, common_variables, env_of, own_variables, paths_of, removed_names, test_variable, variable, variable_word, words_of}
+pub use Rattle.kt_child.specs.Planning.ChildPlan.{child_of, common_variables, env_of, own_variables, paths_of, removed_names, test_variable, variable, variable_argument, words_of}
 pub use Rattle.kt_child.specs.Polling.ChildOutcome.{fresh}
 pub use Rattle.kt_child.specs.Polling.Polls.{asked_by_poll, is_due, after_poll, watch_after}
 pub use Rattle.kt_child.specs.Polling.Turns.{PolledAll, PolledUntil, WaitedOn, advanced_below}

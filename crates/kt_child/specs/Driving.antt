@@ -1,5 +1,5 @@
 -- The driver: starts children, waits for them and lists test cases.
-pub mod Board
+pub mod DriverState
 pub mod ChildrenState
 pub mod DriverSteps
 pub mod JobPlan

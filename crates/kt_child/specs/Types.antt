@@ -13,7 +13,7 @@ pub use Rattle.kt_sched.specs.declared.job.Ended.{Ended}
 pub use Rattle.kt_sched.specs.declared.job.Job.{Job}
 pub use Rattle.kt_sched.specs.declared.job.StartAnswer.{StartAnswer}
 pub use Rattle.kt_sched.specs.declared.job.StartAnswer.TheVariants.{Refused, Started}
-pub use Rattle.kt_child.specs.declared.planning.Case.{Case}
+pub use Rattle.kt_child.specs.declared.planning.CaseAttempt.{CaseAttempt}
 pub use Rattle.kt_child.specs.declared.planning.Spawning.{Spawning}
 pub use Rattle.kt_child.specs.declared.planning.Want.{Want}
 pub use Rattle.kt_child.specs.declared.planning.workdir.Paths.{Paths}

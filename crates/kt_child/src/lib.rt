@@ -10,7 +10,7 @@ mod polling;
 mod system;
 
 pub use driving::driver::{Driver, DriverFault};
-pub use driving::run::{law_of_names, law_of_numbers, law_of_traces, run_driver};
+pub use driving::run::{run_driver, theorem_of_names, theorem_of_numbers, theorem_of_traces};
 pub use host::background::Background;
 pub use host::host_os::HostOs;
 pub use host::reads::{read_front, read_start};

@@ -16,7 +16,7 @@ pub use Rattle.kt_claim.specs.Inner.ResultReading.{after_bracket, after_known, c
 unfoldable pub use Rattle.kt_claim.specs.Inner.ResultReading.{claim_of, claim_of_line, number_in, word_of}
 pub use Rattle.kt_claim.specs.Inner.TapReading.{HasLines, IsTally, first, has_second, one, state_of, with_plan}
 pub use Rattle.kt_claim.specs.ResultFile.{IsClaimOf, IsNumber, IsReason, Says, after_digits, after_number, after_word, closes, digits, fault_of, fits_line, has_bracket, has_number, has_reason, is, limit, line, with_number, with_reason}
-pub use Rattle.kt_claim.specs.TapStream.{begins, below_limit, count, directive_in, ends_plan, front, heard, is_bail, is_test, is_unexcused, lines_of, past, plan, plan_for, planned_from, skip_reason, skips, tap_of_lines, trimmed, why, without_return}
+pub use Rattle.kt_claim.specs.TapStream.{begins, below_limit, count, directive_in, is_plan_end, front, heard, is_bail, is_test, is_unexcused, lines_of, past, plan, plan_for, planned_from, skip_reason, skips, tap_of_lines, trimmed, why, without_return}
 pub use Rattle.kt_claim.specs.declared.begun.Begun.{Begun}
 pub use Rattle.kt_claim.specs.declared.begun.Begun.TheVariants.{Digits, Nothing}
 pub use Rattle.kt_claim.specs.declared.begun.LineKind.{LineKind}

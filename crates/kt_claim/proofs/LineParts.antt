@@ -1,6 +1,6 @@
 -- Facts of lines that are read byte by byte.
 use Rattle.std.proofs.Common.{◌≡◌, ℕ, ◌≤◌, Bool, true, false, eqb, List, [], ◌∷◌, ◌++◌, length, drop, Option, Some, None, refl, ap, sym, ◌∙◌, arith, if◌then◌else◌, option_map}
-use Rattle.kt_claim.proofs.Common.{le-ltb, ne_eqb, length-append, is_digit, decimal_from, is_blank, nothing, planning, after_opening, opened, below_limit, trimmed, begins, front, past, ends_plan, planned_from, directive_in, skips, plan_for}
+use Rattle.kt_claim.proofs.Common.{le-ltb, ne_eqb, length-append, is_digit, decimal_from, is_blank, nothing, planning, after_opening, opened, below_limit, trimmed, begins, front, past, is_plan_end, planned_from, directive_in, skips, plan_for}
 use Rattle.kt_claim.specs.declared.begun.Opening.{Opening}
 use Rattle.std.proofs.Math.Bool.{and-false}
 use Rattle.kt_base.proofs.Numbers.{decimal_from-grows}
@@ -19,7 +19,7 @@ pub plans_none : (n : ℕ) (text more : List ℕ) → 1000000000 ≤ n
     → planning None ≡ planning (option_map (plan_for (skips (directive_in false more))) (planned_from (Some n) text))
 plans_none n text more le =
     ap (λ (o : Option ℕ). planning (option_map (plan_for (skips (directive_in false more))) o))
-    (sym (none_at_all (ends_plan (past is_blank (past is_digit text))) (below_limit (decimal_from n (front is_digit text))) (too_large n (front is_digit text) le)))
+    (sym (none_at_all (is_plan_end (past is_blank (past is_digit text))) (below_limit (decimal_from n (front is_digit text))) (too_large n (front is_digit text) le)))
 
 -- ---- the word that a line begins with
 

@@ -121,10 +121,10 @@ is_unexcused line = is_not_ok line && not (is_some (directive line))
 
 -- ---- plans
 
--- `ends_plan text`: `text` is empty or begins with a hash.
-abbrev pub ends_plan : List ℕ → Bool
-ends_plan [] = true
-ends_plan (b ∷ rest) = b == 35
+-- `is_plan_end text`: `text` is empty or begins with a hash.
+abbrev pub is_plan_end : List ℕ → Bool
+is_plan_end [] = true
+is_plan_end (b ∷ rest) = b == 35
 
 -- `below_limit n`: the number `n` of tests, if a plan may have it.
 abbrev pub below_limit : ℕ → Option ℕ
@@ -139,7 +139,7 @@ value_from (Some n) digits = below_limit (decimal_from n digits)
 
 -- `planned_from value text`: the number of tests in digits, then blanks, then the end or a hash.
 abbrev pub planned_from : Option ℕ → List ℕ → Option ℕ
-planned_from value text = if ends_plan (past is_blank (past is_digit text)) then value_from value (front is_digit text) else None
+planned_from value text = if is_plan_end (past is_blank (past is_digit text)) then value_from value (front is_digit text) else None
 
 -- `planned line`: the number of tests that a line plans.
 abbrev pub planned : List ℕ → Option ℕ

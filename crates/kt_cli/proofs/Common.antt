@@ -46,9 +46,9 @@ pub use Rattle.kt_store.specs.declared.result_store.CaseOutputs.{CaseOutputs}
 pub use Rattle.kt_store.specs.declared.result_store.RunHead.{RunHead}
 pub use Rattle.kt_store.specs.declared.store_fault.StoreFault.{StoreFault}
 pub use Rattle.kt_store.specs.declared.store_fault.StoreFault.TheVariants.{NoRun}
-pub use Rattle.kt_words.specs.Commands.{cases_of, needs_case}
-pub use Rattle.kt_words.specs.declared.command.Command.{Command}
-pub use Rattle.kt_words.specs.declared.options.ReportOptions.{ReportOptions}
+pub use Rattle.kt_args.specs.Commands.{cases_of, needs_case}
+pub use Rattle.kt_args.specs.declared.command.Command.{Command}
+pub use Rattle.kt_args.specs.declared.options.ReportOptions.{ReportOptions}
 unfoldable pub use lib.Utf8.{encode}
 unfoldable pub use Rattle.std.specs.Str.{chars}
 pub use Rattle.kt_cli.specs.CaseLines.{case_line}
@@ -64,11 +64,11 @@ pub use Rattle.kt_cli.specs.Inner.Recordings.{RecordEnds, RecordedAll, RecordedN
 pub use Rattle.kt_cli.specs.Inner.Reports.{DidReport, EndsEntries, JunitOrUnread, TextOrUnread, WritesEntries, WritesFirst, WritesJunit, WritesText}
 pub use Rattle.kt_cli.specs.Inner.Stores.{put_all}
 pub use Rattle.kt_cli.specs.Inner.Testing.{RanPlan}
-pub use Rattle.kt_cli.specs.Machines.{InDirectory, MachineAnswer, Searched, directories, further, here, nowhere}
-pub use Rattle.kt_cli.specs.Meaning.{AsksFirst, Course, CutShort, Did, IsAskedOnly, IsPrepared, IsUnasked, Means, Seen, cut, debugged, nothing_to_debug, junit_cut, listed, listing, listing_exit, no_memory, preparing, report_cut, reported, reported_junit, selecting, stopped, taken, tested, text_cut}
+pub use Rattle.kt_cli.specs.Machines.{InDirectory, HostResponse, Searched, directories, further, here, nowhere}
+pub use Rattle.kt_cli.specs.Meaning.{AsksFirst, Course, CutShort, CommandResult, IsAskedOnly, IsPrepared, IsUnasked, Means, Seen, cut, debugged, nothing_to_debug, junit_cut, listed, listing, listing_exit, no_memory, preparing, report_cut, reported, reported_junit, selecting, stopped, taken, tested, text_cut}
 pub use Rattle.kt_cli.specs.MemoryRuns.{LeavesInMemory, memory_runs}
 pub use Rattle.kt_cli.specs.Pages.{Printed}
-pub use Rattle.kt_cli.specs.Performing.{DoneBy, DoneIn, DoneOver, NoRoot, Program, State, needs_nothing, closed, done, no_driver, no_surroundings, no_world, none_made, not_absolute, not_opened, program, state}
+pub use Rattle.kt_cli.specs.Performing.{RunsCommand, WithResults, OverProcesses, NoRoot, Program, State, needs_nothing, closed, done, no_driver, no_surroundings, no_world, none_made, not_absolute, not_opened, program, state}
 pub use Rattle.kt_cli.specs.Recordings.{AllRecorded, IsStopped}
 pub use Rattle.kt_cli.specs.Reports.{DifferInOutputs, DifferInPairs, JunitCut, Reported, ReportedJunit, TextCut, Unread, asked_outputs, asked_pairs, chosen, ending_of, next_bytes, no_outputs, no_pairs, no_run, run_of, run_shown, pairs_shown, no_output}
 pub use Rattle.kt_cli.specs.Scenes.{Scene, World, launcher_of, scene, with_store, world_of}

@@ -4,7 +4,7 @@ use Rattle.kt_cli.proofs.Common.{Entry, Run, Shows, StoreFault, shows_as, shows_
 use Rattle.kt_report.specs.Cases.{with_outputs}
 use Rattle.kt_report.specs.declared.report_fault.ReportFault.{ReportFault}
 use Rattle.kt_report.proofs.Outlines.{same_heading}
-use Rattle.kt_store.specs.declared.result_store.Keeping as keeping
+use Rattle.kt_store.specs.declared.result_store.StoreSpec as keeping
 use Rattle.kt_cli.proofs.StoreChains.{stored_none, stored_both, stored_as}
 use Rattle.std.proofs.lemmas.List.{drop_more, flat_map_more, map-append}
 

@@ -3,7 +3,7 @@ use Rattle.std.proofs.Common.{Option, Result, Ok, Err, Bool, false, if◌then◌
 use Rattle.kt_cli.proofs.Common.{Shows, utf8, Entry, SinkFault, Totals, RunFault, NoMemory, SinkFailed, NoEvent, StoreCall, Began, Put, Finished, StoreFault, run_line, memory_line, refusal_line, Says, sink_fault_of, Records, RecordEnds, RecordedAll, RecordedSome, RecordedNone, Scene, scene, Stored, puts, RanPlan, PlannedRun, begins, exit_of, results, results_exit, not_begun, not_run, not_put, not_finished, lines}
 use Rattle.kt_cli.specs.Testing.{Tested, TestCut, ending, recorded as all_recorded}
 use Rattle.kt_sched.specs.declared.launcher.Launcher as launcher
-use Rattle.kt_store.specs.declared.result_store.Keeping as keeping
+use Rattle.kt_store.specs.declared.result_store.StoreSpec as keeping
 use Rattle.kt_store.specs.declared.store_fault.StoreFault.TheVariants as store
 use Rattle.kt_cli.proofs.Saying.{says_both}
 use Rattle.kt_cli.proofs.StoreChains.{stored_both, stored_as}

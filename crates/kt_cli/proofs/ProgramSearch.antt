@@ -7,7 +7,7 @@ use Rattle.std.proofs.lemmas.Str.{IsUtf8-drop}
 use Rattle.std.specs.Char.{len_utf8}
 use Rattle.std.specs.Str.Pattern.{FindsChar}
 use Rattle.std.specs.List.{after_first, before_first, position_or_len, slice_split}
-use Rattle.kt_cli.proofs.Common.{InDirectory, MachineAnswer, Searched, directories, further, here, nowhere}
+use Rattle.kt_cli.proofs.Common.{InDirectory, HostResponse, Searched, directories, further, here, nowhere}
 
 -- `colon b`: `b` is a colon
 abbrev pub colon : ℕ → Bool
@@ -23,7 +23,7 @@ behind_text s behind i j u f b =
     let at = f.1 in
     subst IsUtf8 (sym b) (subst (λ (k : ℕ). IsUtf8 (drop k s)) (sym at.ends) (IsUtf8-drop s (i + len_utf8 58) u at.after))
 
-module _ {M : Type 0} (answers : M → MachineAnswer → M → Type 0) (name : List ℕ) where
+module _ {M : Type 0} (answers : M → HostResponse → M → Type 0) (name : List ℕ) where
   -- if the program is not in the first directory, the search continues after the colon
   pub goes_on : (among rest directory behind : List ℕ) (was old mid : M) → position_or_len colon rest < length rest → directory ≡ before_first colon rest
       → behind ≡ after_first colon rest → InDirectory answers name directory false old mid

@@ -1,8 +1,8 @@
 -- Commands that are executed one after the other.
 use Rattle.std.proofs.Common.{List, [], ◌∷◌, ◌++◌, sym, subst, append_assoc, append-nil}
-use Rattle.kt_cli.proofs.Common.{Command, Exit, Did, Scene, World}
+use Rattle.kt_cli.proofs.Common.{Command, Exit, CommandResult, Scene, World}
 use Rattle.kt_cli.specs.Sequences.{DidAll, none_left, one_and}
-use Rattle.kt_store.specs.declared.result_store.Keeping as keeping
+use Rattle.kt_store.specs.declared.result_store.StoreSpec as keeping
 
 module _ {W R : Type 0} (w : World W) (keep : keeping.Ghosts R) where
   -- `GoesOn commands rest old mid done`: executing `rest` from `mid` completes `commands`
@@ -11,7 +11,7 @@ module _ {W R : Type 0} (w : World W) (keep : keeping.Ghosts R) where
 
   -- executing one more command leaves the rest to execute
   pub goes_more : (commands later : List Command) (c : Command) (old mid next : Scene W R) (done : List Exit) (exit : Exit) → GoesOn commands (c ∷ later) old mid done
-      → Did w keep c mid next exit.status → GoesOn commands later old next (done ++ exit ∷ [])
+      → CommandResult w keep c mid next exit.status → GoesOn commands later old next (done ++ exit ∷ [])
   goes_more commands later c old mid next done exit g d = record {
     then_all = λ new exits m. subst (λ (xs : List Exit). DidAll w keep commands old new xs) (sym (append_assoc done (exit ∷ []) exits))
         (g.then_all new (exit ∷ exits) (one_and c later mid next new exit exits d m));

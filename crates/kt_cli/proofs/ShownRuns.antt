@@ -3,11 +3,11 @@ use Rattle.std.proofs.Common.{Option, Some, None, Ok, Err, Bool, true, false, �
 use Rattle.kt_cli.proofs.Common.{Shows, utf8, Entry, Kind, Run, shows_as, shows_both, heading, case_bytes, ending, junit_bytes, StoreCall, Heads, Outline, Outputs, Pairs, RunHead, StoreFault, Refused, Report, NoPairs, Output, memory_line, refusal_line, TextOrUnread, JunitOrUnread, DidReport, WritesJunit, WritesText, chosen, run_of, Reported, run_shown, pairs_shown, ReportedJunit, Unread, no_pairs, no_output, no_outputs, asked_outputs, ending_of, asked_pairs, next_bytes, IsDateOf, last_kind, opening, summary, text_bytes, titled_lines, Stored, Date}
 use Rattle.kt_report.specs.declared.report_fault.ReportFault.{ReportFault}
 use Rattle.kt_base.specs.declared.emission.OutputFault.{OutputFault}
-use Rattle.kt_cli.specs.declared.commands.report_stop.NotShown.{NotShown}
-use Rattle.kt_cli.specs.declared.commands.report_stop.NotShown.TheVariants.{Refused as Unshown}
+use Rattle.kt_cli.specs.declared.commands.report_stop.ReportError.{ReportError}
+use Rattle.kt_cli.specs.declared.commands.report_stop.ReportError.TheVariants.{Refused as Unshown}
 use Rattle.kt_cli.specs.Reports.{missing_line, run_shown as run_shown_junit, no_heads as unread_heads, no_outline as unread_outline, no_memory, no_output as no_junit_output}
 use Rattle.kt_cli.specs.Inner.Shown.{IsMissing, not_shown_line, FindsRun, read, missing, no_heads, no_outline, ReadsRun}
-use Rattle.kt_store.specs.declared.result_store.Keeping as keeping
+use Rattle.kt_store.specs.declared.result_store.StoreSpec as keeping
 use Rattle.kt_cli.proofs.JunitSteps.{heading_shown}
 use Rattle.kt_cli.proofs.StoreChains.{stored_both}
 
@@ -19,7 +19,7 @@ module _ {R : Type 0} (keep : keeping.Ghosts R) (number : Option ℕ) where
   reads_no_heads old new fault p = record { calls = Heads (Err fault) ∷ []; stored = p; finds = no_heads fault }
 
   -- a report reads no run if none has the number
-  pub reads_missing : (old new : R) (heads seen again : List RunHead) (why : NotShown) → seen ≡ heads → again ≡ heads → Stored keep (Heads (Ok heads) ∷ []) old new
+  pub reads_missing : (old new : R) (heads seen again : List RunHead) (why : ReportError) → seen ≡ heads → again ≡ heads → Stored keep (Heads (Ok heads) ∷ []) old new
       → None ≡ chosen number seen → IsMissing number again why
       → ReadsRun keep number old new (Err why)
   reads_missing old new heads seen again why e f p n m = record {
@@ -49,7 +49,7 @@ module _ {R : Type 0} (keep : keeping.Ghosts R) (number : Option ℕ) where
   }
 
 module _ {R : Type 0} (keep : keeping.Ghosts R) (number : Option ℕ) where
-  not_shown : (M C : List StoreCall → List ℕ → ℕ → Type 0) (calls : List StoreCall) (why : NotShown)
+  not_shown : (M C : List StoreCall → List ℕ → ℕ → Type 0) (calls : List StoreCall) (why : ReportError)
       → ((heads : List RunHead) → chosen number heads ≡ None → M (Heads (Ok heads) ∷ []) (utf8 (missing_line number heads)) 2)
       → ((cs : List StoreCall) (xs : List ℕ) → Unread number cs xs 2 → C cs xs 2) → FindsRun number calls (Err why)
       → M calls (utf8 (not_shown_line why)) 2 ⊎ C calls (utf8 (not_shown_line why)) 2
@@ -65,7 +65,7 @@ module _ {R : Type 0} (keep : keeping.Ghosts R) (number : Option ℕ) where
     did calls bytes due f p is s e = record { calls = calls; stored = p; bytes = bytes; due = due; printed = record { failed = f; shows = s; exits = e }; is = is }
 
     -- a report without a run prints the error line
-    pub did_not_show : (M : List StoreCall → List ℕ → ℕ → Type 0) (C : Bool → List StoreCall → List ℕ → ℕ → Type 0) (why : NotShown) (f : Bool)
+    pub did_not_show : (M : List StoreCall → List ℕ → ℕ → Type 0) (C : Bool → List StoreCall → List ℕ → ℕ → Type 0) (why : ReportError) (f : Bool)
         → ((heads : List RunHead) → chosen number heads ≡ None → M (Heads (Ok heads) ∷ []) (utf8 (missing_line number heads)) 2)
         → ((cs : List StoreCall) (xs : List ℕ) → Unread number cs xs 2 → C f cs xs 2)
         → ReadsRun keep number old new (Err why) → Shows was now f (utf8 (not_shown_line why)) → exit ≡ (if f then 2 else 2) → DidReport keep old new was now exit M C

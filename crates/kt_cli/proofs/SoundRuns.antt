@@ -1,11 +1,11 @@
 -- Effect of a command on the runs of a sound store.
 use Rattle.std.proofs.Common.{Option, Some, None, Ok, Err, Bool, true, false, map, ◌≡◌, ℕ, suc, List, [], ◌∷◌, ◌++◌, length, refl, sym, ap, ◌∙◌, subst, append-nil, ◌⊎◌, inl, inr}
-use Rattle.kt_cli.proofs.Common.{AllByRecursion, Entry, Run, Job, plan_fits, AreEntries, IsPlan, Trace, IsStoreFault, entry_at, AreNumbered, new_run, run_at, with_entry, put_refusal, finish_refusal, StoreCall, Began, Put, Finished, Heads, Outline, Outputs, Pairs, outputs_of, without_outputs, RunHead, StoreFault, Command, Kind, Seen, Means, stopped, listed, tested, debugged, nothing_to_debug, reported, reported_junit, CutShort, no_memory, cut, report_cut, text_cut, junit_cut, Did, Scene, World, AllRecorded, JunitOrUnread, Reported, run_shown, pairs_shown, no_run, ReportedJunit, Unread, TextCut, no_pairs, no_output, asked_outputs, asked_pairs, with_new, Left, put_all, Agrees, changed_by, puts, changed, Agree, PlannedRun, run_for, Tested, TestCut, not_begun, not_run, not_put, not_finished}
+use Rattle.kt_cli.proofs.Common.{AllByRecursion, Entry, Run, Job, plan_fits, AreEntries, IsPlan, Trace, IsStoreFault, entry_at, AreNumbered, new_run, run_at, with_entry, put_refusal, finish_refusal, StoreCall, Began, Put, Finished, Heads, Outline, Outputs, Pairs, outputs_of, without_outputs, RunHead, StoreFault, Command, Kind, Seen, Means, stopped, listed, tested, debugged, nothing_to_debug, reported, reported_junit, CutShort, no_memory, cut, report_cut, text_cut, junit_cut, CommandResult, Scene, World, AllRecorded, JunitOrUnread, Reported, run_shown, pairs_shown, no_run, ReportedJunit, Unread, TextCut, no_pairs, no_output, asked_outputs, asked_pairs, with_new, Left, put_all, Agrees, changed_by, puts, changed, Agree, PlannedRun, run_for, Tested, TestCut, not_begun, not_run, not_put, not_finished}
 use Rattle.kt_sched.specs.RecordOrder.{recorded as record_order}
 use Rattle.kt_cli.specs.Reports.{run_shown as run_shown_junit, no_run as no_junit, no_heads as unread_heads, no_outline as unread_outline, no_outputs as cut_outputs, no_memory as cut_junit, no_output as no_junit_output}
 use Rattle.kt_cli.specs.SoundStores.{Adds, none, one_run, OnlyFails, entries_put}
 use Rattle.kt_cli.specs.Testing.{recorded}
-use Rattle.kt_store.specs.declared.result_store.Keeping as keeping
+use Rattle.kt_store.specs.declared.result_store.StoreSpec as keeping
 use Rattle.kt_store.specs.declared.store_fault.StoreFault.TheVariants.{StoreFull, NoRun as Absent}
 use Rattle.kt_cli.proofs.ChosenRuns.{entries_there, entry_found}
 use Rattle.kt_cli.proofs.NewRuns.{put_new, finish_new, finishes}
@@ -187,7 +187,7 @@ module _ (seen : Seen) (runs : List Run) (h : AreNumbered 1 runs) (a : Agree run
   coming c failed bytes exit (inr (junit_cut options bs x u r)) = junit_or_unread options.run runs h failed seen.calls bytes exit r a
 
 -- a command on a sound store of `runs` leaves what `Left` states
-pub left_by : {W R : Type 0} (w : World W) (keep : keeping.Ghosts R) (c : Command) (old new : Scene W R) (exit : ℕ) (runs : List Run) (did : Did w keep c old new exit)
+pub left_by : {W R : Type 0} (w : World W) (keep : keeping.Ghosts R) (c : Command) (old new : Scene W R) (exit : ℕ) (runs : List Run) (did : CommandResult w keep c old new exit)
     → keep.stands old.store runs → keep.sound new.store → Left did runs
 left_by w keep c old new exit runs did h sound =
     let it = coming did.seen runs (keep.numbered old.store runs h) (did.stored.kept.agree runs h sound) c did.printed.failed did.bytes did.due did.is in

@@ -1,7 +1,7 @@
 -- Calls of a store, one after the other.
 use Rattle.std.proofs.Common.{Ok, ◌≡◌, List, [], ◌∷◌, ◌++◌, refl, sym, subst}
 use Rattle.kt_cli.proofs.Common.{Run, StoreCall, Began, Put, Finished, Heads, Outline, Outputs, Pairs, chain-append, Outlasts, Serves, changed_by, beside_by, changed, beside, Agree, Stored}
-use Rattle.kt_store.specs.declared.result_store.Keeping as keeping
+use Rattle.kt_store.specs.declared.result_store.StoreSpec as keeping
 
 -- calls and then others change the runs one after the other
 pub changed-append : (xs ys : List StoreCall) (runs : List Run) → changed (xs ++ ys) runs ≡ changed ys (changed xs runs)

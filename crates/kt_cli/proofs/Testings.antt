@@ -1,10 +1,10 @@
 -- Commands over a world and a store.
 use Rattle.std.proofs.Common.{Option, Some, Ok, Err, Bool, true, false, take, ◌==◌, if◌then◌else◌, ◌≡◌, ℕ, List, [], ◌∷◌, ◌++◌, refl, sym, ap, ◌∙◌, subst, ◌⊎◌, inl, inr}
-use Rattle.kt_cli.proofs.Common.{utf8, Kind, IsIdle, Job, StoreCall, Chain, Candidate, Command, ReportOptions, Entry, RunFault, NoMemory, SinkFailed, Totals, NoEvent, Trace, cases_of, needs_case, Debugged, all_debug_bytes, debug_exit, memory_line, run_line, Seen, IsPrepared, IsAskedOnly, IsUnasked, Means, stopped, tested, debugged, reported, reported_junit, taken, AsksFirst, selecting, preparing, CutShort, no_memory, cut, report_cut, text_cut, junit_cut, Did, Says, Printed, Question, leads_by, of_host, TextOrUnread, JunitOrUnread, DidReport, Reported, ReportedJunit, Scene, scene, World, launcher_of, Shows, RanPlan, run_for, chain-append}
+use Rattle.kt_cli.proofs.Common.{utf8, Kind, IsIdle, Job, StoreCall, Chain, Candidate, Command, ReportOptions, Entry, RunFault, NoMemory, SinkFailed, Totals, NoEvent, Trace, cases_of, needs_case, Debugged, all_debug_bytes, debug_exit, memory_line, run_line, Seen, IsPrepared, IsAskedOnly, IsUnasked, Means, stopped, tested, debugged, reported, reported_junit, taken, AsksFirst, selecting, preparing, CutShort, no_memory, cut, report_cut, text_cut, junit_cut, CommandResult, Says, Printed, Question, leads_by, of_host, TextOrUnread, JunitOrUnread, DidReport, Reported, ReportedJunit, Scene, scene, World, launcher_of, Shows, RanPlan, run_for, chain-append}
 use Rattle.kt_base.specs.declared.child.Role.{Role}
 use Rattle.kt_metadata.specs.declared.host.Host.{Host}
 use Rattle.kt_suite.specs.Answers.{Answered}
-use Rattle.kt_words.specs.declared.options.CaseOptions.{CaseOptions}
+use Rattle.kt_args.specs.declared.options.CaseOptions.{CaseOptions}
 use Rattle.kt_plan.specs.declared.cases.Picked.{Picked}
 use Rattle.kt_plan.specs.declared.stop.Stop.{Stop}
 use Rattle.kt_plan.specs.Selecting.{Selects, SelectsOrShort}
@@ -14,8 +14,8 @@ use Rattle.kt_plan.proofs.LookLaws.{all_surveyed}
 use Rattle.kt_cli.specs.StopLines.{stop_line, stop_exit}
 use Rattle.kt_plan.specs.Reply.{Reply, Now}
 use Rattle.kt_plan.proofs.QuestionChains.{chain_of_host}
-use Rattle.kt_store.specs.declared.result_store.Keeping as keeping
-use Rattle.kt_words.specs.declared.command.Command.TheVariants as command
+use Rattle.kt_store.specs.declared.result_store.StoreSpec as keeping
+use Rattle.kt_args.specs.declared.command.Command.TheVariants as command
 use Rattle.kt_cli.proofs.Saying.{says_both}
 use Rattle.kt_cli.proofs.StoreChains.{stored_none, stored_as}
 
@@ -133,8 +133,8 @@ module _ {W : Type 0} (w : World W) where
       }
 
   module _ {R : Type 0} (keep : keeping.Ghosts R) where
-    -- a command that makes no calls of the store did what `Did` states
-    pub did_asked : (c : Command) (old new : W) (store : R) (was now : Option (List ℕ)) (exit : ℕ) → AsksOnly w c old new was now exit → Did w keep c (scene old store was) (scene new store now) exit
+    -- a command that makes no calls of the store did what `CommandResult` states
+    pub did_asked : (c : Command) (old new : W) (store : R) (was now : Option (List ℕ)) (exit : ℕ) → AsksOnly w c old new was now exit → CommandResult w keep c (scene old store was) (scene new store now) exit
     did_asked c old new store was now exit t = record {
       seen = t.seen;
       course = t.course;
@@ -145,11 +145,11 @@ module _ {W : Type 0} (w : World W) where
       printed = t.printed;
     }
 
-    -- `test` did what `Did` states, after its plan was run
+    -- `test` did what `CommandResult` states, after its plan was run
     pub did_test : (old new : Scene W R) (options : CaseOptions) (file : List ℕ) (mid asked begun : W) (picked : Picked) (cases : List Candidate) (plan : List Job) (moment exit : ℕ)
         → HasSelected (command.Test options file) options old.world picked mid → cases ≡ picked.chosen.cases
         → Answered w.replies mid asked (Prepares picked cases plan) → w.replies asked (Now moment) begun
-        → RanPlan (launcher_of w) keep (run_for plan options picked moment) (scene begun old.store old.held) new exit → Did w keep (command.Test options file) old new exit
+        → RanPlan (launcher_of w) keep (run_for plan options picked moment) (scene begun old.store old.held) new exit → CommandResult w keep (command.Test options file) old new exit
     did_test old new options file mid asked begun picked cases plan moment exit a same parts t r =
         let b : Answered w.replies mid asked (Prepares picked picked.chosen.cases plan) = subst (λ (xs : List Candidate). Answered w.replies mid asked (Prepares picked xs plan)) same parts in
         let seen : Seen = record { questions = a.asked ++ (of_host b.asked ++ of_host (Now moment ∷ [])); plan = plan; trace = r.trace; calls = r.calls } in
@@ -172,11 +172,11 @@ module _ {W : Type 0} (w : World W) where
     none_asked = record { questions = refl; trace = refl }
 
     module _ (c : Command) (world : W) (store after : R) (was now : Option (List ℕ)) (exit : ℕ) (options : ReportOptions) where
-      -- a report did what `Did` states of its command
+      -- a report did what `CommandResult` states of its command
       reports : {M : List StoreCall → List ℕ → ℕ → Type 0} {C : Bool → List StoreCall → List ℕ → ℕ → Type 0} (k : Command) → c ≡ k → (d : DidReport keep store after was now exit M C)
           → (M d.calls d.bytes d.due → Means (called_only d.calls) k d.bytes d.due) → (C d.printed.failed d.calls d.bytes d.due → CutShort (called_only d.calls) d.printed.failed k d.bytes d.due)
-          → Did w keep c (scene world store was) (scene world after now) exit
-      reports k e d means short = subst (λ (x : Command). Did w keep x (scene world store was) (scene world after now) exit) (sym e) (record {
+          → CommandResult w keep c (scene world store was) (scene world after now) exit
+      reports k e d means short = subst (λ (x : Command). CommandResult w keep x (scene world store was) (scene world after now) exit) (sym e) (record {
         seen = called_only d.calls;
         course = record { begun = world; asked = refl; ran = refl };
         stored = d.stored;
@@ -193,10 +193,10 @@ module _ {W : Type 0} (w : World W) where
       text_or_unread kinds false failed calls bytes due (inr u) = absurd (cc)
 
       pub did_report : (kinds : List Kind) (verbose : Bool) → c ≡ command.Report options kinds verbose
-          → DidReport keep store after was now exit (Reported options.run kinds verbose) (TextOrUnread options.run kinds verbose) → Did w keep c (scene world store was) (scene world after now) exit
+          → DidReport keep store after was now exit (Reported options.run kinds verbose) (TextOrUnread options.run kinds verbose) → CommandResult w keep c (scene world store was) (scene world after now) exit
       did_report kinds verbose e d =
           reports (command.Report options kinds verbose) e d (reported options kinds verbose d.bytes d.due none_asked) (text_or_unread kinds verbose d.printed.failed d.calls d.bytes d.due)
 
       pub did_junit : c ≡ command.ReportJunit options
-          → DidReport keep store after was now exit (ReportedJunit options.run) (JunitOrUnread options.run) → Did w keep c (scene world store was) (scene world after now) exit
+          → DidReport keep store after was now exit (ReportedJunit options.run) (JunitOrUnread options.run) → CommandResult w keep c (scene world store was) (scene world after now) exit
       did_junit e d = reports (command.ReportJunit options) e d (reported_junit options d.bytes d.due none_asked) (junit_cut options d.bytes d.due none_asked)

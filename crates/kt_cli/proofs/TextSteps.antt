@@ -7,7 +7,7 @@ use Rattle.kt_report.proofs.LineSteps.{if_of, if_of_all}
 use Rattle.kt_report.proofs.InTurn.{in_turn_more, in_turn_all}
 use Rattle.kt_report.proofs.TitledLines.{last_kind-append, titled_lines-append}
 use Rattle.kt_cli.specs.declared.commands.report_stop.TextStop.{TextStop}
-use Rattle.kt_store.specs.declared.result_store.Keeping as keeping
+use Rattle.kt_store.specs.declared.result_store.StoreSpec as keeping
 use Rattle.kt_cli.proofs.StoreChains.{stored_none, stored_both, stored_as}
 use Rattle.std.proofs.lemmas.List.{map-append, take_all}
 

@@ -2,18 +2,18 @@
 use Rattle.std.specs.Prelude.{◌≡◌, ℕ, List, take, Option, Some, None, Result, Ok, Err, chars, ⊤}
 use Rattle.std.specs.Str.{IsUtf8}
 use Rattle.std.specs.declared.env.FillError.{FillError}
-use Rattle.kt_cli.specs.Types.{DriverFault, Error, NoWorkDirectory, Surroundings}
+use Rattle.kt_cli.specs.Types.{DriverFault, Error, NoWorkDirectory, ProcessEnv}
 use Rattle.kt_base.specs.declared.no_memory.NoMemory.{NoMemory as Shortage}
 use Rattle.kt_child.specs.declared.driving.driver.DriverFault.TheVariants.{NoMemory}
 
--- `IsHere answer result`: `result` is the working directory in the system's `answer`. With a
+-- `IsWorkingDirectory answer result`: `result` is the working directory in the system's `answer`. With a
 -- directory in `answer`, the only possible fault is a failed allocation.
-abbrev pub IsHere : Result (List ℕ) Error → Result (List ℕ) DriverFault → Type 0
-IsHere (Ok answer) (Ok here) = here ≡ chars answer
-IsHere (Ok answer) (Err (NoMemory refusal)) = ⊤
-IsHere (Ok answer) (Err NoWorkDirectory) = ⊥
-IsHere (Err error) (Ok here) = ⊥
-IsHere (Err error) (Err fault) = ⊤
+abbrev pub IsWorkingDirectory : Result (List ℕ) Error → Result (List ℕ) DriverFault → Type 0
+IsWorkingDirectory (Ok answer) (Ok here) = here ≡ chars answer
+IsWorkingDirectory (Ok answer) (Err (NoMemory refusal)) = ⊤
+IsWorkingDirectory (Ok answer) (Err NoWorkDirectory) = ⊥
+IsWorkingDirectory (Err error) (Ok here) = ⊥
+IsWorkingDirectory (Err error) (Err fault) = ⊤
 
 -- `IsVariable answer room result`: `result` is a variable's value, which the system wrote into
 -- `room`, with its length in `answer`. A variable that is not UTF-8 counts as not set. An
@@ -30,6 +30,6 @@ IsAnswered value = (answer : Result ℕ FillError) × (room : List ℕ) × IsVar
 
 -- `IsFound result`: `result` is the working directory with `PATH` and `USER`, as the system
 -- returned them. `NoWorkDirectory` needs a failed call for the working directory.
-abbrev pub IsFound : Result Surroundings DriverFault → Type 0
-IsFound (Ok around) = ((answer : Result (List ℕ) Error) × IsHere answer (Ok around.here)) × IsAnswered around.path × IsAnswered around.user
-IsFound (Err fault) = (answer : Result (List ℕ) Error) × IsHere answer (Err fault)
+abbrev pub IsFound : Result ProcessEnv DriverFault → Type 0
+IsFound (Ok around) = ((answer : Result (List ℕ) Error) × IsWorkingDirectory answer (Ok around.here)) × IsAnswered around.path × IsAnswered around.user
+IsFound (Err fault) = (answer : Result (List ℕ) Error) × IsWorkingDirectory answer (Err fault)

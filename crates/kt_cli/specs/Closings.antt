@@ -11,8 +11,8 @@ abbrev pub CloseFailed : Bool → StoreFault → Option (List ℕ) → Option (L
 CloseFailed true fault old new due exit = (new ≡ old) × (exit ≡ due)
 CloseFailed false fault old new due exit = Printed old new exit (utf8 (refusal_line fault)) failure_exit
 
--- `Concluded closed old new due exit`: `exit` is the status of a command with the status `due` and
+-- `ClosesResults closed old new due exit`: `exit` is the status of a command with the status `due` and
 -- the result `closed` of closing its results. A successful close changes nothing.
-abbrev pub Concluded : Result (Unit {0}) StoreFault → Option (List ℕ) → Option (List ℕ) → ℕ → ℕ → Type 0
-Concluded (Ok done) old new due exit = (new ≡ old) × (exit ≡ due)
-Concluded (Err fault) old new due exit = CloseFailed (due == failure_exit) fault old new due exit
+abbrev pub ClosesResults : Result (Unit {0}) StoreFault → Option (List ℕ) → Option (List ℕ) → ℕ → ℕ → Type 0
+ClosesResults (Ok done) old new due exit = (new ≡ old) × (exit ≡ due)
+ClosesResults (Err fault) old new due exit = CloseFailed (due == failure_exit) fault old new due exit

@@ -3,7 +3,7 @@ use Rattle.std.specs.Prelude.{◌≡◌, ℕ, List, Result, Ok, Err, IsErrAnd}
 use Rattle.std.specs.IoError.{error_kind}
 use Rattle.kt_cli.specs.Types.{Command, CommandFault, Error}
 use Rattle.std.specs.declared.io.ErrorKind.TheVariants.{OutOfMemory}
-use Rattle.kt_words.specs.Reading.{Reads, RefusesWords}
+use Rattle.kt_args.specs.Reading.{Reads, RefusesWords}
 
 -- `IsSaid own words command`: `command` is the parse of the arguments `own words`, those after the
 -- program's own name. If the system returned an error for `words`, the arguments are rejected.

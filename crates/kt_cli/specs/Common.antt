@@ -18,10 +18,10 @@ pub use Rattle.kt_store.specs.Heads.{head_of, outlined, outputs_of}
 pub use Rattle.kt_store.specs.Runs.{AreNumbered, AreOrdered, has_position, insert_at}
 pub use Rattle.kt_store.specs.StoreCalls.{Began, Finished, Heads, Outline, Outputs, Pairs, Put, seen_as}
 pub use Rattle.kt_suite.specs.Selecting.{most_items}
-pub use Rattle.kt_words.specs.Commands.{cases_of}
-pub use Rattle.kt_words.specs.declared.command.Command.{Command}
-pub use Rattle.kt_cli.specs.Around.{IsFound, IsHere, IsAnswered, IsVariable}
-pub use Rattle.kt_cli.specs.Closings.{Concluded}
+pub use Rattle.kt_args.specs.Commands.{cases_of}
+pub use Rattle.kt_args.specs.declared.command.Command.{Command}
+pub use Rattle.kt_cli.specs.Around.{IsFound, IsWorkingDirectory, IsAnswered, IsVariable}
+pub use Rattle.kt_cli.specs.Closings.{ClosesResults}
 pub use Rattle.kt_cli.specs.CommandLines.{IsSaid}
 pub use Rattle.kt_cli.specs.Debugging.{debug_bytes}
 pub use Rattle.kt_cli.specs.FaultLines.{fault_line, memory_line, refusal_line}
@@ -40,9 +40,9 @@ pub use Rattle.kt_cli.specs.Inner.Shown.{IsMissing, ReadsRun, not_shown_line}
 pub use Rattle.kt_cli.specs.Inner.Testing.{RanPlan}
 pub use Rattle.kt_cli.specs.LineOutputs.{HandedOn, given_bytes, has_failed, is_broken, line_state, unflushed, unwritten}
 pub use Rattle.kt_cli.specs.Machines.{longest_path, read_limit}
-pub use Rattle.kt_cli.specs.Meaning.{Did, listing}
+pub use Rattle.kt_cli.specs.Meaning.{CommandResult, listing}
 pub use Rattle.kt_cli.specs.Pages.{Printed}
-pub use Rattle.kt_cli.specs.Performing.{CarriedOut, DoneIn, DoneOver, Flushed, IsMade, NoDriver, NoRoot, OnDriver, Rejected, access_of, program, state}
+pub use Rattle.kt_cli.specs.Performing.{CarriedOut, WithResults, OverProcesses, Flushed, IsMade, NoDriver, NoRoot, OnDriver, Rejected, access_of, program, state}
 pub use Rattle.kt_cli.specs.Places.{source_directory}
 pub use Rattle.kt_cli.specs.Refused.{Refused, command_exit, command_text, driver_line, failure_exit}
 pub use Rattle.kt_cli.specs.Reports.{Reported, ReportedJunit, chosen}

@@ -5,8 +5,8 @@ use Rattle.kt_cli.specs.Types.{Asked, Call, Ended, HostWorld, Job, Now, ReadFaul
 use Rattle.kt_child.specs.Driving.ChildrenState.{is_among, shown_in}
 use Rattle.kt_child.specs.Driving.DriverSteps.{DriverLists, DriverStarts, DriverWaits}
 use Rattle.kt_child.specs.declared.system.os.Os as system
-use Rattle.kt_cli.specs.declared.host.machine.Machine as machine
-use Rattle.kt_cli.specs.Machines.{MachineAnswer, FrontOf, IsFile, IsThere, HasMoment, AtPath, IsSought, read_limit}
+use Rattle.kt_cli.specs.declared.host.host_files.HostFiles as machine
+use Rattle.kt_cli.specs.Machines.{HostResponse, FrontOf, IsFile, IsThere, HasMoment, AtPath, IsSought, read_limit}
 use Rattle.kt_cli.specs.Scenes.{World}
 use Rattle.kt_metadata.specs.declared.host.Need.TheVariants.{File, Program}
 use Rattle.kt_plan.specs.Reply.{ReadConfig, Lists, Finds, IsRoot, HasMemory, HasDisk}
@@ -36,7 +36,7 @@ module _ {M O : Type 0} where
   abbrev pub Asks : HostWorld M O → (M → M → Type 0) → HostWorld M O → Type 0
   Asks old Answered new = (new ≡ with_machine old new.machine) × Answered old.machine new.machine
 
-module _ {M O : Type 0} (answers : M → MachineAnswer → M → Type 0) where
+module _ {M O : Type 0} (answers : M → HostResponse → M → Type 0) where
   -- `IsLook old asked new`: the tree's call `asked` is one of the machine, about the path below the
   -- Kyuafile's directory.
   abbrev pub IsLook : HostWorld M O → Asked → HostWorld M O → Type 0
@@ -88,12 +88,12 @@ module _ {M O : Type 0} where
   asked_kept old new h = ap (λ (w : HostWorld M O). w.driver.running) h
 
   -- `look_kept answers old new asked`: no call of the tree changes which children run.
-  pub look_kept : (answers : M → MachineAnswer → M → Type 0) (old new : HostWorld M O) (asked : Asked) → IsLook answers old asked new → new.driver.running ≡ old.driver.running
+  pub look_kept : (answers : M → HostResponse → M → Type 0) (old new : HostWorld M O) (asked : Asked) → IsLook answers old asked new → new.driver.running ≡ old.driver.running
   look_kept answers old new (Read path answer) h = asked_kept old new h.0.0
   look_kept answers old new (Exists path answer) h = asked_kept old new h.0
 
   -- `running_kept answers leads old new answer`: no call of the world changes which children run.
-  pub running_kept : (answers : M → MachineAnswer → M → Type 0) (leads : O → Call → O → Type 0) (old new : HostWorld M O) (answer : Reply) → IsHostAnswer answers leads old answer new
+  pub running_kept : (answers : M → HostResponse → M → Type 0) (leads : O → Call → O → Type 0) (old new : HostWorld M O) (answer : Reply) → IsHostAnswer answers leads old answer new
       → new.driver.running ≡ old.driver.running
   running_kept answers leads old new (ReadConfig path answer) h = asked_kept old new h.0.0
   running_kept answers leads old new (Lists program variables answer) h = h.0.1

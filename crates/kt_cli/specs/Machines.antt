@@ -13,12 +13,12 @@ abbrev pub longest_path : ℕ
 longest_path = 4095
 
 -- A call of a machine with its result. Paths are bytes.
-pub data MachineAnswer : Type 0 where
-  FrontOf : (path : List ℕ) (answer : Result (List ℕ) ReadFault) → MachineAnswer
-  IsFile : (path : List ℕ) (answer : Bool) → MachineAnswer
-  IsThere : (path : List ℕ) (answer : Bool) → MachineAnswer
-  IsProgram : (path : List ℕ) (answer : Bool) → MachineAnswer
-  HasMoment : (moment : ℕ) → MachineAnswer
+pub data HostResponse : Type 0 where
+  FrontOf : (path : List ℕ) (answer : Result (List ℕ) ReadFault) → HostResponse
+  IsFile : (path : List ℕ) (answer : Bool) → HostResponse
+  IsThere : (path : List ℕ) (answer : Bool) → HostResponse
+  IsProgram : (path : List ℕ) (answer : Bool) → HostResponse
+  HasMoment : (moment : ℕ) → HostResponse
 
 -- `directories path`: the directories in `path`, a value of `PATH`. Colons separate them.
 abbrev pub directories : List ℕ → List (List ℕ)
@@ -30,10 +30,10 @@ abbrev pub path_in : List ℕ → List ℕ → List ℕ
 path_in [] name = name
 path_in (b ∷ bs) name = (b ∷ bs) ++ codes "/" ++ name
 
-module _ {M : Type 0} (answers : M → MachineAnswer → M → Type 0) where
+module _ {M : Type 0} (answers : M → HostResponse → M → Type 0) where
   -- `AtPath path asked Unasked old new`: the call `asked` about the joined `path` is made. If the
   -- path is too long, no call is made, and `Unasked` holds.
-  pub data AtPath (path : List ℕ) (asked : MachineAnswer) (Unasked : Type 0) (old new : M) : Type 0 where
+  pub data AtPath (path : List ℕ) (asked : HostResponse) (Unasked : Type 0) (old new : M) : Type 0 where
     taken : length path ≤ longest_path → answers old asked new → AtPath path asked Unasked old new
     too_long : longest_path < length path → Unasked → new ≡ old → AtPath path asked Unasked old new
 

@@ -2,10 +2,10 @@
 use Rattle.std.specs.Prelude.{ℕ, Bool, true, false, List, [], ◌∷◌, ◌++◌, ◌≡◌, ◌⊎◌, Some, Ok, Err, take, flat_map, if◌then◌else◌}
 use Rattle.kt_cli.specs.Types.{Candidate, CaseOptions, Chain, Command, Entry, Job, Kind, Leads, NoEvent, Now, Picked, Question, Stop, StoreCall, Reply, Trace, cases_of, leads_by, needs_case, utf8}
 use Rattle.kt_metadata.specs.declared.host.Host.{Host}
-use Rattle.kt_store.specs.declared.result_store.Keeping as keeping
+use Rattle.kt_store.specs.declared.result_store.StoreSpec as keeping
 use Rattle.kt_plan.specs.declared.cases.Chosen.{Chosen}
-use Rattle.kt_words.specs.declared.command.Command.TheVariants as command
-use Rattle.kt_words.specs.declared.options.ReportOptions.{ReportOptions}
+use Rattle.kt_args.specs.declared.command.Command.TheVariants as command
+use Rattle.kt_args.specs.declared.options.ReportOptions.{ReportOptions}
 use Rattle.kt_cli.specs.Debugging.{all_debug_bytes, debug_exit}
 use Rattle.kt_cli.specs.FaultLines.{memory_line}
 use Rattle.kt_cli.specs.CaseLines.{case_line}
@@ -115,10 +115,10 @@ pub data CutShort (seen : Seen) (failed : Bool) : Command → List ℕ → ℕ �
       → CutShort seen failed (command.ReportJunit options) bytes exit
 
 module _ {W R : Type 0} (w : World W) (r : keeping.Ghosts R) where
-  -- `Did w r c old new exit`: `execute` ran `c`, with the calls `seen`, which include those of the
+  -- `CommandResult w r c old new exit`: `execute` ran `c`, with the calls `seen`, which include those of the
   -- store. The output is what `c` means, or `c` ended early. A failed writer has a proper prefix of
   -- the output. `stored` states the effect on the runs, and nothing else depends on the store.
-  pub record Did (c : Command) (old new : Scene W R) (exit : ℕ) : Type 0 where
+  pub record CommandResult (c : Command) (old new : Scene W R) (exit : ℕ) : Type 0 where
     pub seen : Seen
     pub course : Course w seen old.world new.world
     pub stored : Stored r seen.calls old.store new.store

@@ -1,7 +1,7 @@
 -- Relations of a store of runs in memory.
 use Rattle.std.specs.Prelude.{⊤, List, ◌≡◌}
 use Rattle.kt_cli.specs.Types.{AreNumbered, Run, StoreCall}
-use Rattle.kt_store.specs.declared.result_store.Keeping as keeping
+use Rattle.kt_store.specs.declared.result_store.StoreSpec as keeping
 use Rattle.kt_store.specs.Runs.{AreOrdered}
 
 -- `AnswersInMemory m call n`: holds for all calls, because each call has its own contract.

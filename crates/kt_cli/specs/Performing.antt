@@ -2,8 +2,8 @@
 -- rejects the arguments.
 use Rattle.std.specs.Prelude.{ℕ, Bool, false, List, ◌≡◌, Option, None, Ok, Err, [], Some, Result, if◌then◌else◌}
 use Rattle.std.specs.Io.KnownBytes.{Keeps}
-use Rattle.kt_cli.specs.Types.{Access, Call, CaseOptions, Chain, Command, CommandFault, DriverFault, HostWorld, NoWorkDirectory, Run, StoreFault, Surroundings, cases_of, is_absolute, utf8}
-use Rattle.kt_child.specs.Driving.Board.{board_of}
+use Rattle.kt_cli.specs.Types.{Access, Call, CaseOptions, Chain, Command, CommandFault, DriverFault, HostWorld, NoWorkDirectory, Run, StoreFault, ProcessEnv, cases_of, is_absolute, utf8}
+use Rattle.kt_child.specs.Driving.DriverState.{driver_state_of}
 use Rattle.kt_child.specs.Driving.ChildrenState.{idle_state}
 use Rattle.kt_child.specs.Driving.Roots.{FindsRoot}
 use Rattle.kt_child.specs.Driving.Runs.{RunsFrom}
@@ -12,18 +12,18 @@ use Rattle.kt_child.specs.declared.driving.driver.Driver.{Driver}
 use Rattle.kt_child.specs.declared.system.os.Os as system
 use Rattle.kt_suite.specs.Paths.{directory_of}
 use Rattle.kt_store.specs.declared.access.Access.TheVariants.{Record, Read}
-use Rattle.kt_store.specs.declared.result_store.Keeping as keeping
-use Rattle.kt_words.specs.Commands.{results_of}
-use Rattle.kt_words.specs.declared.command.Command.TheVariants.{Test}
-use Rattle.kt_words.specs.declared.command_fault.CommandFault.TheVariants as command
-use Rattle.kt_cli.specs.declared.host.machine.Machine as machine
-use Rattle.kt_cli.specs.declared.host.outside.Outside.{Outside}
-use Rattle.kt_cli.specs.declared.host.platform.Platform as platform
-use Rattle.kt_cli.specs.Closings.{Concluded}
+use Rattle.kt_store.specs.declared.result_store.StoreSpec as keeping
+use Rattle.kt_args.specs.Commands.{results_of}
+use Rattle.kt_args.specs.declared.command.Command.TheVariants.{Test}
+use Rattle.kt_args.specs.declared.command_fault.CommandFault.TheVariants as command
+use Rattle.kt_cli.specs.declared.host.host_files.HostFiles as machine
+use Rattle.kt_cli.specs.declared.host.host_handles.HostHandles.{HostHandles}
+use Rattle.kt_cli.specs.declared.host.results_host.ResultsHost as platform
+use Rattle.kt_cli.specs.Closings.{ClosesResults}
 use Rattle.kt_cli.specs.FaultLines.{memory_line, refusal_line}
 use Rattle.kt_cli.specs.HostAnswers.{host_world}
 use Rattle.kt_cli.specs.LineOutputs.{HandedOn, LineState}
-use Rattle.kt_cli.specs.Meaning.{Did}
+use Rattle.kt_cli.specs.Meaning.{CommandResult}
 use Rattle.kt_cli.specs.MemoryRuns.{memory_runs}
 use Rattle.kt_cli.specs.Pages.{Printed}
 use Rattle.kt_cli.specs.Places.{source_directory}
@@ -47,10 +47,10 @@ module _ {M O P S : Type 0} where
 -- The state before or after a command: the platform, and the handles to the host.
 pub record State (M O P : Type 0) : Type 0 where
   pub platform : P
-  pub outside : Outside M O
+  pub outside : HostHandles M O
 
 -- `state platform outside`: a state of these parts.
-abbrev pub state : {M O P : Type 0} → P → Outside M O → State M O P
+abbrev pub state : {M O P : Type 0} → P → HostHandles M O → State M O P
 state platform outside = record { platform = platform; outside = outside }
 
 module _ {O : Type 0} (o : system.Ghosts O) (os : O) where
@@ -70,26 +70,26 @@ module _ {O : Type 0} (o : system.Ghosts O) (os : O) where
     not_absolute : is_absolute base ≡ false → NoRoot base NoWorkDirectory os
     none_made : (fault : DriverFault) (calls : List Call) (left : O) → Chain o.leads os calls left → FindsRoot base calls (Err fault) → NoRoot base fault left
 
-module _ {M O : Type 0} (o : system.Ghosts O) (before : Outside M O) where
+module _ {M O : Type 0} (o : system.Ghosts O) (before : HostHandles M O) where
   -- `NoDriver base fault after`: no driver was created, and the machine was not called.
-  abbrev pub NoDriver : List ℕ → DriverFault → Outside M O → Type 0
+  abbrev pub NoDriver : List ℕ → DriverFault → HostHandles M O → Type 0
   NoDriver base fault after = NoRoot o before.os base fault after.os × (after.machine ≡ before.machine)
 
-module _ {M O R : Type 0} (m : machine.Ghosts M) (o : system.Ghosts O) (r : keeping.Ghosts R) (before after : Scene (Outside M O) R) where
+module _ {M O R : Type 0} (m : machine.Ghosts M) (o : system.Ghosts O) (r : keeping.Ghosts R) (before after : Scene (HostHandles M O) R) where
   -- `OnDriver around options c exit`: `c` was executed over the files below its Kyuafile's
   -- directory and over a new driver, whose root directory was removed afterwards. Nothing else was
   -- called. The calls of the driver are those for the events of the trace, from a state without
   -- running children. Each poll and kill belongs to one child, and each outcome is that of the
   -- table for the child's results.
-  pub record OnDriver (around : Surroundings) (options : CaseOptions) (c : Command) (exit : ℕ) : Type 0 where
+  pub record OnDriver (around : ProcessEnv) (options : CaseOptions) (c : Command) (exit : ℕ) : Type 0 where
     pub old : HostWorld M O
     pub new : HostWorld M O
     pub machine : old.machine ≡ before.world.machine
     pub made : IsMade o before.world.os around.here options.work options.kyuafile old.driver
     pub directory : old.directory ≡ directory_of options.kyuafile
     pub around_it : old.around ≡ around
-    pub did : Did (host_world m o) r c (with_world old before) (with_world new after) exit
-    pub by_trace : RunsFrom o.leads did.seen.plan did.seen.trace (board_of idle_state did.course.begun.driver.next) did.course.begun.driver new.driver
+    pub did : CommandResult (host_world m o) r c (with_world old before) (with_world new after) exit
+    pub by_trace : RunsFrom o.leads did.seen.plan did.seen.trace (driver_state_of idle_state did.course.begun.driver.next) did.course.begun.driver new.driver
     pub left : after.world.machine ≡ new.machine
     pub closed : (done : Bool) × o.leads new.driver.os (RemoveTree new.driver.root done) after.world.os
 
@@ -98,19 +98,19 @@ abbrev pub no_world : World (Unit {0})
 no_world = record { running = λ w k role. None; pending = λ w k. false; starts = λ w job role answer v. ⊥; waits = λ w ended v. ⊥; asks = λ w asked v. ⊥; replies = λ w answer v. ⊥ }
 
 module _ {M O P S R : Type 0} (p : Program M O P S) (r : keeping.Ghosts R) where
-  -- `DoneOver c old new exit`: `c` was executed over a store. A report needs only the store. A
+  -- `OverProcesses c old new exit`: `c` was executed over a store. A report needs only the store. A
   -- command over test cases also gets the surroundings of the process and a new driver. Without
   -- these, an error line is printed and the store is unchanged. Nothing else of the machine and the
   -- system is called.
-  pub data DoneOver (c : Command) (old new : Scene (State M O P) R) (exit : ℕ) : Type 0 where
-    needs_nothing : cases_of c ≡ None → new.world ≡ old.world → Did no_world r c (with_world tt old) (with_world tt new) exit → DoneOver c old new exit
-    done : (options : CaseOptions) (around : Surroundings) → cases_of c ≡ Some options → p.platform.provides old.world.platform (Found (Ok around)) new.world.platform
-        → OnDriver p.machine p.system r (with_world old.world.outside old) (with_world new.world.outside new) around options c exit → DoneOver c old new exit
+  pub data OverProcesses (c : Command) (old new : Scene (State M O P) R) (exit : ℕ) : Type 0 where
+    needs_nothing : cases_of c ≡ None → new.world ≡ old.world → CommandResult no_world r c (with_world tt old) (with_world tt new) exit → OverProcesses c old new exit
+    done : (options : CaseOptions) (around : ProcessEnv) → cases_of c ≡ Some options → p.platform.provides old.world.platform (Found (Ok around)) new.world.platform
+        → OnDriver p.machine p.system r (with_world old.world.outside old) (with_world new.world.outside new) around options c exit → OverProcesses c old new exit
     no_surroundings : (options : CaseOptions) (fault : DriverFault) → cases_of c ≡ Some options → p.platform.provides old.world.platform (Found (Err fault)) new.world.platform
-        → new.world.outside ≡ old.world.outside → new.store ≡ old.store → Printed old.held new.held exit (utf8 (driver_line fault)) failure_exit → DoneOver c old new exit
-    no_driver : (options : CaseOptions) (around : Surroundings) (fault : DriverFault) → cases_of c ≡ Some options → p.platform.provides old.world.platform (Found (Ok around)) new.world.platform
+        → new.world.outside ≡ old.world.outside → new.store ≡ old.store → Printed old.held new.held exit (utf8 (driver_line fault)) failure_exit → OverProcesses c old new exit
+    no_driver : (options : CaseOptions) (around : ProcessEnv) (fault : DriverFault) → cases_of c ≡ Some options → p.platform.provides old.world.platform (Found (Ok around)) new.world.platform
         → NoDriver p.system old.world.outside options.work fault new.world.outside → new.store ≡ old.store → Printed old.held new.held exit (utf8 (driver_line fault)) failure_exit
-        → DoneOver c old new exit
+        → OverProcesses c old new exit
 
 -- `Flushed held now due exit`: all bytes for standard output were written, and `exit` is `due`. If
 -- some bytes are unwritten, or the flush failed, `exit` is 2.
@@ -145,28 +145,28 @@ access_of (Test options file) = Record
 access_of _ = Read
 
 module _ {M O P S : Type 0} (p : Program M O P S) where
-  -- `DoneIn c file old new exit`: the results in `file` were opened, `c` was executed, and the
+  -- `WithResults c file old new exit`: the results in `file` were opened, `c` was executed, and the
   -- results were closed once. If the open failed, an error line is printed, and nothing else is
   -- done.
-  pub data DoneIn (c : Command) (file : List ℕ) (old new : Scene (State M O P) (Unit {0})) (exit : ℕ) : Type 0 where
+  pub data WithResults (c : Command) (file : List ℕ) (old new : Scene (State M O P) (Unit {0})) (exit : ℕ) : Type 0 where
     not_opened : (fault : StoreFault) → p.platform.provides old.world.platform (Opened file (access_of c) (Err fault)) new.world.platform → new.world.outside ≡ old.world.outside
-        → Printed old.held new.held exit (utf8 (refusal_line fault)) failure_exit → DoneIn c file old new exit
+        → Printed old.held new.held exit (utf8 (refusal_line fault)) failure_exit → WithResults c file old new exit
     closed : (store after : S) (begun done : P) (held : Option (List ℕ)) (due : ℕ) (answer : Result (Unit {0}) StoreFault)
         → p.platform.provides old.world.platform (Opened file (access_of c) (Ok store)) begun
-        → DoneOver p p.results c (scene (state begun old.world.outside) store old.held) (scene (state done new.world.outside) after held) due
-        → p.platform.provides done (Closed after answer) new.world.platform → Concluded answer held new.held due exit → DoneIn c file old new exit
+        → OverProcesses p p.results c (scene (state begun old.world.outside) store old.held) (scene (state done new.world.outside) after held) due
+        → p.platform.provides done (Closed after answer) new.world.platform → ClosesResults answer held new.held due exit → WithResults c file old new exit
 
-  -- `DoneBy c file old new exit`: `c` was executed over the results in `file`, or, without a file,
+  -- `RunsCommand c file old new exit`: `c` was executed over the results in `file`, or, without a file,
   -- over an empty store in memory.
-  abbrev pub DoneBy : Command → Option (List ℕ) → Scene (State M O P) (Unit {0}) → Scene (State M O P) (Unit {0}) → ℕ → Type 0
-  DoneBy c (Some file) old new exit = DoneIn c file old new exit
-  DoneBy c None old new exit = (after : List Run) × DoneOver p memory_runs c (with_store [] old) (with_store after new) exit
+  abbrev pub RunsCommand : Command → Option (List ℕ) → Scene (State M O P) (Unit {0}) → Scene (State M O P) (Unit {0}) → ℕ → Type 0
+  RunsCommand c (Some file) old new exit = WithResults c file old new exit
+  RunsCommand c None old new exit = (after : List Run) × OverProcesses p memory_runs c (with_store [] old) (with_store after new) exit
 
   -- `Performed c old new was now exit`: `c` was executed, and then all its output was written.
   pub record Performed (c : Command) (old new : State M O P) (was : Option (List ℕ)) (now : LineState) (exit : ℕ) : Type 0 where
     pub held : Option (List ℕ)
     pub due : ℕ
-    pub done : DoneBy c (results_of c) (scene old tt was) (scene new tt held) due
+    pub done : RunsCommand c (results_of c) (scene old tt was) (scene new tt held) due
     pub flushed : Flushed held now due exit
 
   -- `CarriedOut command old new was now exit`: the `command` in the arguments was executed, or its

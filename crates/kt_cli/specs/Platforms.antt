@@ -3,7 +3,7 @@ use Rattle.std.specs.Prelude.{ℕ, ◌⊎◌, ◌≡◌, List, Result, Ok, Err}
 use Rattle.sqlite_disk.specs.declared.Disk as disk
 use Rattle.sqlite_store.specs.declared.store.FileStore.{FileStore}
 use Rattle.sqlite_wal.specs.Recovery.{Image}
-use Rattle.kt_cli.specs.Types.{Access, DriverFault, IsStoreFault, StoreFault, Surroundings}
+use Rattle.kt_cli.specs.Types.{Access, DriverFault, IsStoreFault, StoreFault, ProcessEnv}
 use Rattle.kt_store.specs.Files.{Ends, Finds}
 use Rattle.kt_store.specs.declared.store_fault.StoreFault.TheVariants.{UnknownSchema}
 use Rattle.kt_cli.specs.Around.{IsFound}
@@ -13,7 +13,7 @@ use Rattle.kt_cli.specs.Around.{IsFound}
 pub data Provided (S : Type 0) : Type 0 where
   Opened : (file : List ℕ) (access : Access) (answer : Result S StoreFault) → Provided S
   Closed : (results : S) (answer : Result (Unit {0}) StoreFault) → Provided S
-  Found : (answer : Result Surroundings DriverFault) → Provided S
+  Found : (answer : Result ProcessEnv DriverFault) → Provided S
 
 -- `InFiles path image call`: the results of a platform that stores runs in files, of which the file
 -- at `path` has the content `image`. An opened store has the runs of that file. After a close only

@@ -2,8 +2,8 @@
 use Rattle.std.specs.Prelude.{ℕ, Bool, List, ◌≡◌, Option}
 use Rattle.kt_cli.specs.Types.{CommandFault, DriverFault, Shows}
 use Rattle.kt_child.specs.Driving.Roots.{driver_words}
-use Rattle.kt_words.specs.declared.command_fault.CommandFault.TheVariants as command
-use Rattle.kt_words.specs.FaultWords.{command_words}
+use Rattle.kt_args.specs.declared.command_fault.CommandFault.TheVariants as command
+use Rattle.kt_args.specs.FaultWords.{command_words}
 use Rattle.kt_cli.specs.FaultLines.{fault_line}
 
 -- `driver_line fault`: the error line of a driver that could not be created.

@@ -1,9 +1,9 @@
 -- Commands that are executed one after the other.
 use Rattle.std.specs.Prelude.{List, [], ◌∷◌}
-use Rattle.kt_store.specs.declared.result_store.Keeping as keeping
+use Rattle.kt_store.specs.declared.result_store.StoreSpec as keeping
 use Rattle.kt_cli.specs.Types.{Command}
 use Rattle.kt_cli.specs.declared.output.exit.Exit.{Exit}
-use Rattle.kt_cli.specs.Meaning.{Did}
+use Rattle.kt_cli.specs.Meaning.{CommandResult}
 use Rattle.kt_cli.specs.Scenes.{Scene, World}
 
 module _ {W R : Type 0} (w : World W) (r : keeping.Ghosts R) where
@@ -11,5 +11,5 @@ module _ {W R : Type 0} (w : World W) (r : keeping.Ghosts R) where
   -- it left.
   pub data DidAll : List Command → Scene W R → Scene W R → List Exit → Type 0 where
     none_left : (here : Scene W R) → DidAll [] here here []
-    one_and : (c : Command) (more : List Command) (old mid new : Scene W R) (exit : Exit) (exits : List Exit) → Did w r c old mid exit.status → DidAll more mid new exits
+    one_and : (c : Command) (more : List Command) (old mid new : Scene W R) (exit : Exit) (exits : List Exit) → CommandResult w r c old mid exit.status → DidAll more mid new exits
         → DidAll (c ∷ more) old new (exit ∷ exits)

@@ -2,9 +2,9 @@
 use Rattle.std.specs.Prelude.{ℕ, suc, Bool, true, List, [], ◌∷◌, ◌++◌, ◌≡◌, ◌⊎◌, Option, Some, None, IfSome, Ok, Err, length}
 use Rattle.std.specs.List.{AllByRecursion}
 use Rattle.kt_cli.specs.Types.{Began, Command, Entry, Finished, Heads, IsStoreFault, Outline, Outputs, Pairs, Put, Run, StoreCall, StoreFault}
-use Rattle.kt_store.specs.declared.result_store.Keeping as keeping
+use Rattle.kt_store.specs.declared.result_store.StoreSpec as keeping
 use Rattle.kt_store.specs.declared.store_fault.StoreFault.TheVariants.{StoreFull}
-use Rattle.kt_cli.specs.Meaning.{Did}
+use Rattle.kt_cli.specs.Meaning.{CommandResult}
 use Rattle.kt_cli.specs.Scenes.{Scene, World}
 use Rattle.kt_cli.specs.Stores.{by_position, changed}
 
@@ -41,8 +41,8 @@ pub data Adds (runs : List Run) (calls : List StoreCall) : Type 0 where
   one_run : (moment total : ℕ) (finished : Bool) → changed calls runs ≡ with_new runs moment total finished (entries_put calls)
       → (finished ≡ true → length (entries_put calls) ≡ total) → Adds runs calls
 
-module _ {W R : Type 0} {w : World W} {r : keeping.Ghosts R} {c : Command} {old new : Scene W R} {exit : ℕ} (did : Did w r c old new exit) (runs : List Run) where
-  -- `Left did runs`: a command was executed over a sound store of `runs`. `Did.stored` states for
+module _ {W R : Type 0} {w : World W} {r : keeping.Ghosts R} {c : Command} {old new : Scene W R} {exit : ℕ} (did : CommandResult w r c old new exit) (runs : List Run) where
+  -- `Left did runs`: a command was executed over a sound store of `runs`. `CommandResult.stored` states for
   -- any store how results agree with the runs, and which runs a crash leaves.
   pub record Left : Type 0 where
     pub only_fails : AllByRecursion OnlyFails did.seen.calls

@@ -2,7 +2,7 @@
 use Rattle.std.specs.Prelude.{ℕ, List, [], ◌∷◌, ◌++◌, ⊤, Ok, Err}
 use Rattle.kt_cli.specs.Types.{Agrees, Began, Chain, Entry, Finished, Heads, Outline, Outputs, Pairs, Put, Run, StoreCall, changed_by, with_entry}
 use Rattle.kt_store.specs.Runs.{new_run, insert_at, finish}
-use Rattle.kt_store.specs.declared.result_store.Keeping as keeping
+use Rattle.kt_store.specs.declared.result_store.StoreSpec as keeping
 
 -- `put_among there entries`: `there` with each of `entries` inserted at its position.
 abbrev pub put_among : List Entry → List Entry → List Entry

@@ -37,11 +37,11 @@ pub use Rattle.kt_store.specs.declared.result_store.RunHead.{RunHead}
 pub use Rattle.kt_store.specs.declared.store_fault.StoreFault.{StoreFault}
 pub use Rattle.kt_suite.specs.Answers.{Asked}
 pub use Rattle.kt_suite.specs.declared.tree.ReadFault.{ReadFault}
-pub use Rattle.kt_words.specs.Commands.{cases_of, needs_case}
-pub use Rattle.kt_words.specs.declared.command.Command.{Command}
-pub use Rattle.kt_words.specs.declared.command_fault.CommandFault.{CommandFault}
-pub use Rattle.kt_words.specs.declared.options.CaseOptions.{CaseOptions}
+pub use Rattle.kt_args.specs.Commands.{cases_of, needs_case}
+pub use Rattle.kt_args.specs.declared.command.Command.{Command}
+pub use Rattle.kt_args.specs.declared.command_fault.CommandFault.{CommandFault}
+pub use Rattle.kt_args.specs.declared.options.CaseOptions.{CaseOptions}
 pub use Rattle.std.specs.Fmt.{decimal}
 pub use Rattle.std.specs.declared.io.Error.{Error}
 pub use Rattle.kt_cli.specs.declared.host.host_world.HostWorld.{HostWorld}
-pub use Rattle.kt_cli.specs.declared.host.surroundings.Surroundings.{Surroundings}
+pub use Rattle.kt_cli.specs.declared.host.process_env.ProcessEnv.{ProcessEnv}

@@ -1,16 +1,16 @@
 //! The error messages and warnings of commands.
 
 ghost use Rattle.std.specs.Prelude.{◌≡◌, chars, is_err, slice_get};
-ghost use Rattle.kt_cli.specs.Common.{Shows, utf8, Concluded, fault_line, memory_line, refusal_line, run_line, Says, Printed, driver_line, command_text, command_exit, failure_exit, Refused, stop_exit, stop_line, warning_at, warnings};
+ghost use Rattle.kt_cli.specs.Common.{Shows, utf8, ClosesResults, fault_line, memory_line, refusal_line, run_line, Says, Printed, driver_line, command_text, command_exit, failure_exit, Refused, stop_exit, stop_line, warning_at, warnings};
 
 use crate::Exit;
 use crate::output::exit::{FAILED, ended};
+use kt_args::{CaseOptions, CommandFault};
 use kt_base::{NoMemory, OUT_OF_MEMORY, OutputFault, Text, emit, emit_all};
 use kt_child::DriverFault;
 use kt_plan::{Chosen, Stop};
 use kt_sched::RunFault;
 use kt_store::StoreFault;
-use kt_words::{CaseOptions, CommandFault};
 use std::io::Write;
 
 /// The exit status of wrong arguments.
@@ -104,7 +104,7 @@ pub fn print_store_fault<O: Write>(fault: StoreFault, out: &mut O) -> Exit
 /// If the close failed, this prints why and returns 2. The entries are then safe in the log next to
 /// the file. If the status is 2 already, nothing more is printed.
 pub fn with_closed<O: Write>(exit: Exit, closed: Result<(), StoreFault>, out: &mut O) -> Exit
-    ensures { Concluded closed (O.contents out.old) (O.contents out.new) exit.status result.status }
+    ensures { ClosesResults closed (O.contents out.old) (O.contents out.new) exit.status result.status }
 {
     match closed {
         Err(fault) if exit.status != FAILED => print_store_fault(fault, out),

@@ -27,7 +27,7 @@ impl Model for Width {
 }
 
 /// Returns `true` if `bytes` contains a byte that is not a decimal digit.
-fn has_no_digit(bytes: &[u8]) -> bool
+fn has_non_digit(bytes: &[u8]) -> bool
     ensures { result ≡ list_any is_no_digit bytes.now }
 {
     bytes.iter().any(|c| !is_digit(*c))
@@ -47,7 +47,7 @@ fn in_range(number: u64) -> Option<u32>
 fn width_in(bytes: &[u8]) -> Option<u32>
     ensures { result ≡ width_in bytes.now }
 {
-    if has_no_digit(bytes) {
+    if has_non_digit(bytes) {
         return None;
     }
     in_range(decimal_up_to(GREATEST, bytes)?)

@@ -1,6 +1,6 @@
 -- Keys and the names of the properties that they represent.
 use Rattle.std.proofs.Common.{◌≡◌, ℕ, zero, suc, Bool, true, false, List, [], ◌∷◌, ◌++◌, refl, sym, ap, ◌∙◌, subst, Option, Some, None, bytes_eq, ◌&&◌, codes, IfSome, IsSome, is_some, option_and_then, slice_get}
-use Rattle.kt_metadata.proofs.Common.{find, list_all, option_map, option_or, same, Row, table, form_named, own_part, after_front, filled, has_key, name_of_key, StandsFor}
+use Rattle.kt_metadata.proofs.Common.{find, list_all, option_map, option_or, same, PropertyRow, table, form_named, own_part, after_front, filled, has_key, name_of_key, StandsFor}
 use Rattle.kt_metadata.specs.ListKeys as key
 use Rattle.kt_metadata.proofs.Fronts.{append-after_front}
 use Rattle.std.proofs.lemmas.Option.{same_Some}
@@ -9,21 +9,21 @@ and-parts : (a b : Bool) → (a && b) ≡ true → (a ≡ true) × (b ≡ true)
 and-parts true b e = (refl, e)
 and-parts false b e = absurd (cc)
 
-module _ (passes : Row → Bool) where
+module _ (passes : PropertyRow → Bool) where
   -- A row that is found has an index and passes the test.
-  found-next : (q : Row) (qs : List Row) (r : Row) → (find passes qs ≡ Some r → (place : ℕ) × (slice_get qs place ≡ Some r) × (passes r ≡ true))
+  found-next : (q : PropertyRow) (qs : List PropertyRow) (r : PropertyRow) → (find passes qs ≡ Some r → (place : ℕ) × (slice_get qs place ≡ Some r) × (passes r ≡ true))
       → (b : Bool) → passes q ≡ b → find passes (q ∷ qs) ≡ Some r → (place : ℕ) × (slice_get (q ∷ qs) place ≡ Some r) × (passes r ≡ true)
-  found-next q qs r h true t e = let here : Some q ≡ Some r = rw t at e in (zero, here, subst (λ (x : Row). passes x ≡ true) (same_Some q r here) t)
+  found-next q qs r h true t e = let here : Some q ≡ Some r = rw t at e in (zero, here, subst (λ (x : PropertyRow). passes x ≡ true) (same_Some q r here) t)
   found-next q qs r h false t e = let later = h (rw t at e) in (suc later.0, later.1, later.2)
 
-  found-row : (rows : List Row) (r : Row) → find passes rows ≡ Some r → (place : ℕ) × (slice_get rows place ≡ Some r) × (passes r ≡ true)
+  found-row : (rows : List PropertyRow) (r : PropertyRow) → find passes rows ≡ Some r → (place : ℕ) × (slice_get rows place ≡ Some r) × (passes r ≡ true)
   found-row [] r e = absurd (cc)
   found-row (q ∷ qs) r e = found-next q qs r (found-row qs r) (passes q) refl e
 
   -- A row passes the test if all rows do.
-  row-passes : (rows : List Row) (place : ℕ) (r : Row) → list_all passes rows ≡ true → slice_get rows place ≡ Some r → passes r ≡ true
+  row-passes : (rows : List PropertyRow) (place : ℕ) (r : PropertyRow) → list_all passes rows ≡ true → slice_get rows place ≡ Some r → passes r ≡ true
   row-passes [] place r all e = absurd (cc)
-  row-passes (q ∷ qs) zero r all e = subst (λ (x : Row). passes x ≡ true) (same_Some q r e) (and-parts (passes q) (list_all passes qs) all).0
+  row-passes (q ∷ qs) zero r all e = subst (λ (x : PropertyRow). passes x ≡ true) (same_Some q r e) (and-parts (passes q) (list_all passes qs) all).0
   row-passes (q ∷ qs) (suc place) r all e = row-passes qs place r (and-parts (passes q) (list_all passes qs) all).1 e
 
 -- `is_it name found`: the name that was found is `name`.
@@ -70,7 +70,7 @@ custom-stands text name (Some part) e f =
     (subst (λ (n : List ℕ). StandsFor (codes "X-" ++ (parts.0 ∷ parts.1)) n) (ap (λ (p : List ℕ). codes "custom." ++ p) (sym parts.3) ∙ named)
     (key.custom parts.0 parts.1))
 
-stands-next : (text name : List ℕ) (found : Option Row) → find (has_key text) table ≡ found
+stands-next : (text name : List ℕ) (found : Option PropertyRow) → find (has_key text) table ≡ found
     → option_or (option_map (λ r. r.name) found) (option_map (λ p. codes "custom." ++ p) (own_part (codes "X-") text)) ≡ Some name → StandsFor text name
 stands-next text name None e f = custom-stands text name (own_part (codes "X-") text) refl f
 stands-next text name (Some r) e f =

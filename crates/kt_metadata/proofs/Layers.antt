@@ -72,8 +72,8 @@ layered name under own all e = ap (value_of name) (sym e) ∙ value_is name (und
 pub given-over : (name : List ℕ) (under own all : List Variable) (text : List ℕ) → last_values (under ++ own) ≡ all → Some text ≡ value_of name own → value_of name own ≡ value_of name all
 given-over name under own all text e f = sym f ∙ sym (layered name under own all e ∙ ap (λ (o : Option (List ℕ)). option_or o (value_of name under)) (sym f))
 
-pub given-beneath : (name : List ℕ) (under own all : List Variable) → last_values (under ++ own) ≡ all → None ≡ value_of name own → value_of name under ≡ value_of name all
-given-beneath name under own all e f = sym (layered name under own all e ∙ ap (λ (o : Option (List ℕ)). option_or o (value_of name under)) (sym f))
+pub given-program_layer : (name : List ℕ) (under own all : List Variable) → last_values (under ++ own) ≡ all → None ≡ value_of name own → value_of name under ≡ value_of name all
+given-program_layer name under own all e f = sym (layered name under own all e ∙ ap (λ (o : Option (List ℕ)). option_or o (value_of name under)) (sym f))
 
 -- Setting the first of the remaining entries leaves the final values unchanged.
 pub next-entry : {Z : Type 0} (old new : List Variable) (bytes : List ℕ) (copy : Given) (key : String Z) (it : Given) (rest after : List (String Z × Given)) {all : List Variable}
@@ -105,11 +105,11 @@ laid-over old program own mid new all view m n =
     ∙ ap (λ (vs : List Variable). last_values (old ++ vs)) view
 
 -- A case's properties over the upper layer of its program are over all properties of the program.
-pub case-over : (beneath own first second program case : List Variable) → last_values (beneath ++ own) ≡ program → first ≡ last_values own → second ≡ last_values (first ++ case)
-    → last_values (beneath ++ second) ≡ last_values (program ++ case)
-case-over beneath own first second program case view f s =
-    ap (λ (vs : List Variable). last_values (beneath ++ vs)) s ∙ overlaid-over beneath (first ++ case) ∙ ap last_values (sym (append_assoc beneath first case)) ∙ sym (overlaid-under (beneath ++ first) case)
-    ∙ ap (λ (ps : List Variable). last_values (ps ++ case)) (ap (λ (vs : List Variable). last_values (beneath ++ vs)) f ∙ overlaid-over beneath own ∙ view)
+pub case-over : (program_layer own first second program case : List Variable) → last_values (program_layer ++ own) ≡ program → first ≡ last_values own → second ≡ last_values (first ++ case)
+    → last_values (program_layer ++ second) ≡ last_values (program ++ case)
+case-over program_layer own first second program case view f s =
+    ap (λ (vs : List Variable). last_values (program_layer ++ vs)) s ∙ overlaid-over program_layer (first ++ case) ∙ ap last_values (sym (append_assoc program_layer first case)) ∙ sym (overlaid-under (program_layer ++ first) case)
+    ∙ ap (λ (ps : List Variable). last_values (ps ++ case)) (ap (λ (vs : List Variable). last_values (program_layer ++ vs)) f ∙ overlaid-over program_layer own ∙ view)
 
 -- Properties over properties are the last values of both lists of definitions.
 pub definitions-over : (program case under over : List Variable) → program ≡ last_values under → case ≡ last_values over → last_values (program ++ case) ≡ last_values (under ++ over)

@@ -2,7 +2,7 @@
 use Rattle.std.proofs.Common.{◌≡◌, ◌∙◌, ◌++◌, ap, append-nil, sym, List, [], ℕ, Option, Some}
 use Rattle.std.specs.Rc.{rc_value}
 use Rattle.std.specs.declared.rc.Rc.{Rc}
-use Rattle.kt_metadata.proofs.Common.{fun_ext, Variable, last_values, twice, value_is, texts_of, custom_pairs, shown_pairs, table, beneath}
+use Rattle.kt_metadata.proofs.Common.{fun_ext, Variable, last_values, twice, value_is, texts_of, custom_pairs, shown_pairs, table, program_layer}
 use Rattle.kt_metadata.specs.Listing.{listing}
 
 -- The listing depends only on the last values.
@@ -13,7 +13,7 @@ listing-settled definitions =
 
 -- If a case sets no property, its listing is the listing of its program.
 pub listing-alone : {Z : Type 0} (program : Option (Rc (List Variable) Z)) (layer : Rc (List Variable) Z) (own all : List Variable)
-    → last_values (beneath program ++ own) ≡ all → program ≡ Some layer → own ≡ [] → listing (rc_value layer) ≡ listing all
+    → last_values (program_layer program ++ own) ≡ all → program ≡ Some layer → own ≡ [] → listing (rc_value layer) ≡ listing all
 listing-alone program layer own all v e n =
-    sym (ap listing (sym v ∙ ap (λ (pairs : List Variable). last_values (beneath program ++ pairs)) n
-    ∙ ap (λ p. last_values (beneath p ++ [])) e ∙ ap last_values (append-nil (rc_value layer))) ∙ listing-settled (rc_value layer))
+    sym (ap listing (sym v ∙ ap (λ (pairs : List Variable). last_values (program_layer program ++ pairs)) n
+    ∙ ap (λ p. last_values (program_layer p ++ [])) e ∙ ap last_values (append-nil (rc_value layer))) ∙ listing-settled (rc_value layer))

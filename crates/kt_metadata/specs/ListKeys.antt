@@ -2,16 +2,16 @@
 use Rattle.std.specs.Prelude.{◌≡◌, ℕ, Bool, bytes_eq, codes, List, ◌∷◌, ◌++◌, Option, Some, slice_get}
 use Rattle.std.specs.List.{find}
 use Rattle.std.specs.Option.{option_map, option_or}
-use Rattle.kt_metadata.specs.Properties.{Row, table, own_part}
+use Rattle.kt_metadata.specs.Properties.{PropertyRow, table, own_part}
 
 -- `StandsFor key name`: `key` represents the property `name`, by the table or as `X-NAME` for
 -- `custom.NAME`.
 pub data StandsFor : List ℕ → List ℕ → Type 0 where
-  listed : (place : ℕ) (r : Row) → slice_get table place ≡ Some r → StandsFor r.key r.name
+  listed : (place : ℕ) (r : PropertyRow) → slice_get table place ≡ Some r → StandsFor r.key r.name
   custom : (c : ℕ) (cs : List ℕ) → StandsFor (codes "X-" ++ (c ∷ cs)) (codes "custom." ++ (c ∷ cs))
 
 -- `has_key key r`: the row `r` has the key `key`.
-abbrev pub has_key : List ℕ → Row → Bool
+abbrev pub has_key : List ℕ → PropertyRow → Bool
 has_key key r = bytes_eq key r.key
 
 -- `name_of_key key`: the name of the property that `key` represents, if there is one.

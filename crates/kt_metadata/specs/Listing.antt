@@ -11,7 +11,7 @@ use Rattle.kt_metadata.specs.declared.value.User.{User}
 use Rattle.kt_metadata.specs.declared.value.User.TheVariants.{Any, Root, Unprivileged}
 use Rattle.kt_metadata.specs.declared.value.Value.{Value}
 use Rattle.kt_metadata.specs.declared.value.Value.TheVariants as value
-use Rattle.kt_metadata.specs.Properties.{Row, table, is_custom}
+use Rattle.kt_metadata.specs.Properties.{PropertyRow, table, is_custom}
 use Rattle.kt_metadata.specs.Effective.{texts_of, given, default_timeout}
 
 -- `spaced words`: the elements `words`, each after a space.
@@ -57,11 +57,11 @@ default_value form.Timeout = value.Timeout default_timeout
 
 -- `shown_text texts r`: the text of the property of row `r` in a listing: its value in `texts`, or
 -- else its default.
-abbrev pub shown_text : (List ℕ → Option (List ℕ)) → Row → List ℕ
+abbrev pub shown_text : (List ℕ → Option (List ℕ)) → PropertyRow → List ℕ
 shown_text texts r = shown (unwrap_or (given texts r.name) (default_value r.form)) (unwrap_or (texts r.name) [])
 
 -- `shown_pair texts r`: the property of row `r` with its text in a listing.
-abbrev pub shown_pair : (List ℕ → Option (List ℕ)) → Row → Variable
+abbrev pub shown_pair : (List ℕ → Option (List ℕ)) → PropertyRow → Variable
 shown_pair texts r = record { name = r.name; value = shown_text texts r }
 
 -- `is_valued pair`: the value of `pair` isn't empty.
@@ -74,7 +74,7 @@ is_custom_pair pair = is_custom pair.name
 
 -- `shown_pairs texts rows`: the properties of `rows` with their texts in order, without empty
 -- texts.
-abbrev pub shown_pairs : (List ℕ → Option (List ℕ)) → List Row → List Variable
+abbrev pub shown_pairs : (List ℕ → Option (List ℕ)) → List PropertyRow → List Variable
 shown_pairs texts rows = filter is_valued (map (shown_pair texts) rows)
 
 -- `custom_pairs pairs`: the custom properties among `pairs` in order, without empty texts.

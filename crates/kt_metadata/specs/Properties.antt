@@ -9,21 +9,21 @@ use Rattle.kt_metadata.specs.declared.value.Value.TheVariants as value
 use Rattle.kt_metadata.specs.declared.fault.PropFault.{PropFault}
 use Rattle.kt_metadata.specs.declared.fault.PropFault.TheVariants.{NoMemory, UnknownProperty, BadValue}
 use Rattle.kt_metadata.specs.Words.{words}
-use Rattle.kt_metadata.specs.Values.{truth_of, user_of, size_of, timeout_of, is_no_file, is_no_program}
+use Rattle.kt_metadata.specs.Values.{truth_of, user_of, size_of, timeout_of, is_not_absolute, is_no_program}
 
--- `Row`: a property with a fixed name: the name, the key in lists of ATF cases, and the form of the
+-- `PropertyRow`: a property with a fixed name: the name, the key in lists of ATF cases, and the form of the
 -- values.
-pub record Row : Type 0 where
+pub record PropertyRow : Type 0 where
   pub name : List ℕ
   pub key : List ℕ
   pub form : Form
 
 -- `row name key f`: the row of these three values.
-abbrev row : List ℕ → List ℕ → Form → Row
+abbrev row : List ℕ → List ℕ → Form → PropertyRow
 row name key f = record { name = name; key = key; form = f }
 
 -- `table`: the properties with fixed names, in the order of a listing.
-abbrev pub table : List Row
+abbrev pub table : List PropertyRow
 table =
     row (codes "allowed_architectures") (codes "require.arch") form.Words
     ∷ row (codes "allowed_platforms") (codes "require.machine") form.Words
@@ -60,7 +60,7 @@ abbrev pub is_custom : List ℕ → Bool
 is_custom name = is_some (own_part (codes "custom.") name)
 
 -- `has_name name r`: the row `r` has the name `name`.
-abbrev pub has_name : List ℕ → Row → Bool
+abbrev pub has_name : List ℕ → PropertyRow → Bool
 has_name name r = bytes_eq name r.name
 
 -- `form_named name`: the form of the values of the property `name`: any text for a custom property,
@@ -80,7 +80,7 @@ words_but is_wrong found = if list_any is_wrong found then None else Some (value
 -- `value_in form text`: the value of `form` that `text` represents, if there is one.
 abbrev pub value_in : Form → List ℕ → Option Value
 value_in form.Words text = Some (value.Words (words text))
-value_in form.Files text = words_but is_no_file (words text)
+value_in form.Files text = words_but is_not_absolute (words text)
 value_in form.Programs text = words_but is_no_program (words text)
 value_in form.Text text = Some value.Text
 value_in form.Truth text = option_map (λ b. value.Truth b) (truth_of text)

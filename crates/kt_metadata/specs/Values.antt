@@ -80,9 +80,9 @@ timeout_in bytes = limited (number_of (digits_of bytes)) (after_digits bytes)
 abbrev pub timeout_of : List ℕ → Option ℕ
 timeout_of text = timeout_in (utf8 text)
 
--- `is_no_file word`: `word` isn't absolute, so it can't name a required file.
-abbrev pub is_no_file : List ℕ → Bool
-is_no_file word = not (is_absolute word)
+-- `is_not_absolute word`: `word` isn't absolute, so it can't name a required file.
+abbrev pub is_not_absolute : List ℕ → Bool
+is_not_absolute word = not (is_absolute word)
 
 -- `is_no_program word`: `word` is a relative path with a slash, so it can't name a required
 -- program.

@@ -1,10 +1,10 @@
 ghost use Rattle.std.specs.Prelude.{◌≡◌, [], ◌∷◌, ◌++◌, chars, List, None, Some, IfOk, OnOk, OnErr, map};
-ghost use Rattle.kt_metadata.specs.Common.{option_copied, option_map, Variable, last_values, value_of, texts_of, given, beneath, a_pair, definition_fault, IfFault, row_in, custom_pairs, shown_pairs, shown_text, listing};
+ghost use Rattle.kt_metadata.specs.Common.{option_copied, option_map, Variable, last_values, value_of, texts_of, given, program_layer, a_pair, definition_fault, IfFault, row_in, custom_pairs, shown_pairs, shown_text, listing};
 
 use crate::PropFault;
 use crate::layer::{Layer, add};
 use crate::shared_layer::SharedLayer;
-use crate::table::{Row, TABLE, read_definition};
+use crate::table::{PropertyRow, TABLE, read_definition};
 use crate::value::{Given, Value};
 use kt_base::{NoMemory, Text, Variables};
 use std::alloc::Global;
@@ -35,16 +35,16 @@ impl Model for Props {
     ghost use Rattle.std.specs.Prelude.{List, ◌++◌};
     ghost use Rattle.kt_base.specs.declared.variable.Variable.{Variable};
     ghost use Rattle.kt_base.specs.LastValues.{last_values};
-    ghost use Rattle.kt_metadata.specs.Inner.Layers.{beneath};
+    ghost use Rattle.kt_metadata.specs.Inner.Layers.{program_layer};
 
     ghost Value = { List Variable };
 
-    ghost view = { λ p. last_values (beneath p.program ++ p.own) };
+    ghost view = { λ p. last_values (program_layer p.program ++ p.own) };
 }
 
 /// Returns another reference to the layer of `program`, if `program` has a layer.
-fn beneath(program: &Option<Rc<SharedLayer>>) -> Result<Option<Rc<SharedLayer>>, NoMemory>
-    ensures { IfOk result (λ layer. beneath layer ≡ beneath program.now) }
+fn program_layer(program: &Option<Rc<SharedLayer>>) -> Result<Option<Rc<SharedLayer>>, NoMemory>
+    ensures { IfOk result (λ layer. program_layer layer ≡ program_layer program.now) }
 {
     match program {
         None => Ok(None),
@@ -216,7 +216,7 @@ impl Props {
         own.put_all(&program.own)?;
         case.lay_over(&mut own)?;
         Ok(Props {
-            program: beneath(&program.program)?,
+            program: program_layer(&program.program)?,
             own,
         })
     }
@@ -224,7 +224,7 @@ impl Props {
 
 impl Props {
     /// Returns the text of the property of `row` in a listing: its value, or else its default.
-    fn shown(&self, row: &Row) -> Result<Text, NoMemory>
+    fn shown(&self, row: &PropertyRow) -> Result<Text, NoMemory>
         ensures { IfOk result (λ text. text ≡ shown_text (texts_of self.now) (row_in row.now)) }
     {
         let alloc = self.allocator();
@@ -235,7 +235,7 @@ impl Props {
     }
 
     /// Appends the properties of `rows` with their texts to `pairs`, without empty texts.
-    fn add_shown(&self, pairs: &mut Variables, rows: &[Row]) -> Result<(), NoMemory>
+    fn add_shown(&self, pairs: &mut Variables, rows: &[PropertyRow]) -> Result<(), NoMemory>
         ensures { OnOk result (pairs.new
             ≡ pairs.old ++ shown_pairs (texts_of self.now) (map row_in rows.now)) }
     {

@@ -8,13 +8,13 @@ use kt_base::Text;
 use std::alloc::Global;
 
 /// A row of [`TABLE`]: the name, the key and the form of the values of a property.
-pub type Row = (&'static str, &'static str, Form);
+pub type PropertyRow = (&'static str, &'static str, Form);
 
 /// The properties with fixed names, in the order of a listing.
 ///
 /// A row has the name (kyuafile(5); `has_cleanup`: atf-test-case(4)), the key in a list of ATF
 /// cases (this profile), and the form of the values.
-pub const TABLE: [Row; 12] = [
+pub const TABLE: [PropertyRow; 12] = [
     ("allowed_architectures", "require.arch", Form::Words),
     ("allowed_platforms", "require.machine", Form::Words),
     ("description", "descr", Form::Text),
@@ -37,7 +37,7 @@ pub fn is_custom(name: &str) -> bool
 }
 
 /// Returns the first row whose property name is `name`.
-fn row_named<'a>(name: &Text, rows: &'a [Row]) -> Option<&'a Row>
+fn row_named<'a>(name: &Text, rows: &'a [PropertyRow]) -> Option<&'a PropertyRow>
     ensures { option_map row_in (option_copied result)
         ≡ find (has_name name.now) (map row_in rows.now) }
 {
@@ -50,7 +50,7 @@ fn row_named<'a>(name: &Text, rows: &'a [Row]) -> Option<&'a Row>
 }
 
 /// Returns the first row whose key in a list of ATF cases is `key`.
-pub fn row_keyed<'a>(key: &Text, rows: &'a [Row]) -> Option<&'a Row>
+pub fn row_keyed<'a>(key: &Text, rows: &'a [PropertyRow]) -> Option<&'a PropertyRow>
     ensures { option_map row_in (option_copied result)
         ≡ find (has_key key.now) (map row_in rows.now) }
 {

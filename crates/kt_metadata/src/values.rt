@@ -1,5 +1,5 @@
 ghost use Rattle.std.specs.Prelude.{◌≡◌, ◌∷◌, [], ◌++◌, List, ℕ, IfOk, OnOk};
-ghost use Rattle.kt_metadata.specs.Common.{list_any, truth_of, user_of, number_of, unit_of, factor_of, scaled, limited, is_no_file, is_no_program, is_space, ended, words, words_from, AreWords};
+ghost use Rattle.kt_metadata.specs.Common.{list_any, truth_of, user_of, number_of, unit_of, factor_of, scaled, limited, is_not_absolute, is_no_program, is_space, ended, words, words_from, AreWords};
 ghost use Rattle.kt_metadata.specs.Values.{size_in, timeout_in};
 
 use crate::User;
@@ -177,8 +177,8 @@ pub fn timeout(text: &[u8]) -> Option<u32>
 }
 
 /// Returns `true` if `word` isn't an absolute path.
-fn is_no_file(word: &Text) -> bool
-    ensures { result ≡ is_no_file word.now }
+fn is_not_absolute(word: &Text) -> bool
+    ensures { result ≡ is_not_absolute word.now }
 {
     !is_absolute(word.as_str())
 }
@@ -192,9 +192,9 @@ fn is_no_program(word: &Text) -> bool
 
 /// Returns `true` if an element isn't an absolute path, so that it can't name a required file.
 pub fn has_no_file(words: &[Text]) -> bool
-    ensures { result ≡ list_any is_no_file words.now }
+    ensures { result ≡ list_any is_not_absolute words.now }
 {
-    words.iter().any(|word| is_no_file(word))
+    words.iter().any(|word| is_not_absolute(word))
 }
 
 /// Returns `true` if an element is a relative path with a slash, which can't name a required

@@ -17,7 +17,7 @@ pub use Rattle.kt_suite.specs.declared.selecting.Item.{Item}
 pub use Rattle.kt_suite.specs.declared.tree.ReadFault.{ReadFault}
 pub use Rattle.kt_suite.specs.declared.tree.ReadFault.TheVariants.{Failed, Memory, Missing}
 pub use Rattle.kt_sched.specs.declared.job.Job.{Job}
-pub use Rattle.kt_words.specs.declared.options.CaseOptions.{CaseOptions}
+pub use Rattle.kt_args.specs.declared.options.CaseOptions.{CaseOptions}
 pub use Rattle.kt_plan.specs.declared.cases.Candidate.{Candidate}
 pub use Rattle.kt_plan.specs.declared.cases.Chosen.{Chosen}
 pub use Rattle.kt_plan.specs.declared.cases.Picked.{Picked}

@@ -19,4 +19,4 @@ pub use pairs::text_entry;
 pub use report_fault::ReportFault;
 pub use sections::{is_chosen, same_kind, text_order, text_title};
 pub use summary::text_summary;
-pub use text_report::{law_of_outlines, text};
+pub use text_report::{text, theorem_of_outlines};

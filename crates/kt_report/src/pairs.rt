@@ -24,7 +24,7 @@ fn write_value<W: Write>(value: &[u8], out: &mut W) -> Result<(), OutputFault>
 }
 
 /// Writes a name and its value on one line.
-fn write_pair<W: Write>(pair: &Variable, out: &mut W) -> Result<(), OutputFault>
+fn write_property<W: Write>(pair: &Variable, out: &mut W) -> Result<(), OutputFault>
     ensures { Shows (W.contents out.old) (W.contents out.new) (is_err result)
         (pair_bytes pair.now) }
 {
@@ -39,7 +39,7 @@ fn write_pairs<W: Write>(pairs: &[Variable], out: &mut W) -> Result<(), OutputFa
         (flat_map pair_bytes pairs.now) }
 {
     for pair in pairs {
-        write_pair(pair, out)?;
+        write_property(pair, out)?;
     }
     Ok(())
 }

@@ -38,7 +38,7 @@ pub fn text<W: Write>(
 /// JUnit report, and the text report without `verbose`, don't depend on the properties that cases
 /// declare. The sections of the text report are the entries of the chosen kinds in order. Each
 /// entry has its title, unless the entry before it has the same title.
-pub fn law_of_outlines()
+pub fn theorem_of_outlines()
     ensures text { (change : Entry → Entry) (date : Date) (kinds : List Kind) (verbose : Bool)
         (run : Run) → ChangesUnshown verbose change
         → text_bytes date kinds verbose (with_entries change run)

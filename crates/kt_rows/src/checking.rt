@@ -1,5 +1,5 @@
 use crate::answer;
-use kt_answers::{Result, Row, RowFault, asked, both, read_rows};
+use kt_examples::{Example, ExampleFault, Result, asked, both, read_rows};
 use std::alloc::Global;
 use std::fs::File;
 use std::io::Eprint;
@@ -32,7 +32,7 @@ fn part(alloc: Global, answer: &[u8], from: usize, shown: usize) -> Result<Strin
 
 /// Executes an example, and returns `None` if its output is as expected. Otherwise returns a
 /// message with the file, the line and both outputs from the first line that differs.
-fn mismatch(alloc: Global, file: &str, row: &Row<'_>, shown: usize) -> Result<Option<String>> {
+fn mismatch(alloc: Global, file: &str, row: &Example<'_>, shown: usize) -> Result<Option<String>> {
     let subject = file.strip_suffix(".rows").unwrap_or(file);
     let (wanted, found) = both(row.wanted(alloc), answer(alloc, subject, row))?;
     let (wanted, found) = (wanted.as_slice(), found.as_bytes());
@@ -52,7 +52,7 @@ fn mismatch(alloc: Global, file: &str, row: &Row<'_>, shown: usize) -> Result<Op
 }
 
 /// Prints the error of an example that has no output, with its file and line.
-fn print_fault<R: Eprint>(rt: &R, file: &str, line: u64, fault: RowFault) -> io::Result<()> {
+fn print_fault<R: Eprint>(rt: &R, file: &str, line: u64, fault: ExampleFault) -> io::Result<()> {
     let text = fault.text();
     eprintln!(rt; "{file}:{line}: {text}")
 }
@@ -62,7 +62,7 @@ fn print_fault<R: Eprint>(rt: &R, file: &str, line: u64, fault: RowFault) -> io:
 fn check_rows<R: Runtime + AllocGlobal>(
     rt: &R,
     file: &str,
-    rows: &[Row<'_>],
+    rows: &[Example<'_>],
     shown: usize,
 ) -> io::Result<bool> {
     let mut is_good = true;

@@ -4,12 +4,14 @@ use crate::disk_tests;
 use crate::played::Played;
 use crate::printing::push_pieces;
 use crate::refusing_store::RefusingStore;
-use crate::scripted_platform::ScriptedPlatform;
-use kt_answers::{Answer, Line, Result, Row, RowFault, content_at, halves, lossy_of, number};
+use crate::scripted_results_host::ScriptedResultsHost;
 use kt_base::Text;
 use kt_child::DriverFault;
 use kt_cli::source_of;
-use kt_play::{InParts, Scene, failure, push_call, push_calls, push_runs, scene_of, shortage};
+use kt_doubles::{InParts, Scene, failure, push_call, push_calls, push_runs, scene_of, shortage};
+use kt_examples::{
+    Example, ExampleFault, ExampleLine, ExampleOutput, Result, content_at, halves, lossy_of, number,
+};
 use kt_store::StoreFault;
 use std::alloc::Global;
 
@@ -22,7 +24,7 @@ fn store_fault(alloc: Global, fault: &str) -> Result<StoreFault> {
         "no-memory" => Ok(StoreFault::from(shortage(alloc)?)),
         "failed" => Ok(StoreFault::Store(failure(alloc)?)),
         "unknown-schema" => Ok(StoreFault::UnknownSchema),
-        _ => Err(RowFault::Misspelled("there is no such fault of a store")),
+        _ => Err(ExampleFault::Misspelled("there is no such fault of a store")),
     }
 }
 
@@ -31,15 +33,15 @@ fn driver_fault(alloc: Global, fault: &str) -> Result<DriverFault> {
     match fault {
         "no-memory" => Ok(DriverFault::NoMemory(shortage(alloc)?)),
         "no-work-directory" => Ok(DriverFault::NoWorkDirectory),
-        _ => Err(RowFault::Misspelled("there is no such fault of a driver")),
+        _ => Err(ExampleFault::Misspelled("there is no such fault of a driver")),
     }
 }
 
 /// Creates the results store of an example, in memory, and executes the lines `begin`, `put` and
 /// `finish`.
-fn results_of(alloc: Global, row: &Row<'_>) -> Result<RefusingStore> {
+fn results_of(alloc: Global, row: &Example<'_>) -> Result<RefusingStore> {
     let mut results = RefusingStore::of(alloc, row)?;
-    let mut unread = Answer::new(alloc);
+    let mut unread = ExampleOutput::new(alloc);
     let lines = row.entries.as_slice();
     for (place, line) in lines.iter().enumerate() {
         if matches!(line.word, "begin" | "put" | "finish") {
@@ -55,7 +57,7 @@ fn results_of(alloc: Global, row: &Row<'_>) -> Result<RefusingStore> {
 }
 
 /// Sets an error or a variable of a platform as a line requires. Other lines are ignored.
-fn take(platform: &mut ScriptedPlatform<RefusingStore>, line: &Line<'_>) -> Result<()> {
+fn take(platform: &mut ScriptedResultsHost<RefusingStore>, line: &ExampleLine<'_>) -> Result<()> {
     let alloc = platform.calls.alloc;
     match line.word {
         "open" => platform.not_opened = Some(store_fault(alloc, line.text)?),
@@ -69,8 +71,8 @@ fn take(platform: &mut ScriptedPlatform<RefusingStore>, line: &Line<'_>) -> Resu
 }
 
 /// Creates the platform of an example.
-fn platform_of(alloc: Global, row: &Row<'_>) -> Result<ScriptedPlatform<RefusingStore>> {
-    let mut platform = ScriptedPlatform::new(alloc, results_of(alloc, row)?);
+fn platform_of(alloc: Global, row: &Example<'_>) -> Result<ScriptedResultsHost<RefusingStore>> {
+    let mut platform = ScriptedResultsHost::new(alloc, results_of(alloc, row)?);
     for line in row.entries.as_slice() {
         take(&mut platform, line)?;
     }
@@ -81,7 +83,7 @@ fn platform_of(alloc: Global, row: &Row<'_>) -> Result<ScriptedPlatform<Refusing
 /// output fail from number `failing` on, and its flushes fail for the line `flush fails`. Writes to
 /// standard error fail from number N on for the line `error N`. The line `takes BYTES` limits the
 /// bytes of a write to standard output.
-fn played_by(row: &Row<'_>, scene: &Scene, failing: u64) -> Result<Played<RefusingStore>> {
+fn played_by(row: &Example<'_>, scene: &Scene, failing: u64) -> Result<Played<RefusingStore>> {
     let alloc = scene.alloc;
     let mut played = Played::new(alloc, platform_of(alloc, row)?);
     played.page.at_most = row.number("takes", 4096)? as usize;
@@ -93,7 +95,7 @@ fn played_by(row: &Row<'_>, scene: &Scene, failing: u64) -> Result<Played<Refusi
 }
 
 /// Appends the runs of the results store, or `open` if the store isn't closed.
-fn push_closed(out: &mut Answer, played: &mut Played<RefusingStore>) {
+fn push_closed(out: &mut ExampleOutput, played: &mut Played<RefusingStore>) {
     match &mut played.platform.results {
         Some(store) => {
             let alloc = out.alloc;
@@ -105,7 +107,11 @@ fn push_closed(out: &mut Answer, played: &mut Played<RefusingStore>) {
 
 /// Appends the outputs, the exit statuses, and what `show WORDS` selects: `runs` of the store, or
 /// the calls on the `system`.
-fn push_played(out: &mut Answer, row: &Row<'_>, played: &mut Played<RefusingStore>) -> Result<()> {
+fn push_played(
+    out: &mut ExampleOutput,
+    row: &Example<'_>,
+    played: &mut Played<RefusingStore>,
+) -> Result<()> {
     played.push_ended(out)?;
     for word in row.text("show").unwrap_or("").split_whitespace() {
         out.separate("\n");
@@ -131,7 +137,7 @@ fn wrong(
     if cut.exits.last().copied() != Some(2) {
         return Ok(Some("the exit is another one"));
     }
-    let (mut due, mut told) = (Answer::new(alloc), Answer::new(alloc));
+    let (mut due, mut told) = (ExampleOutput::new(alloc), ExampleOutput::new(alloc));
     push_closed(&mut due, whole);
     push_closed(&mut told, cut);
     if due.so_far()? != told.so_far()? {
@@ -142,7 +148,7 @@ fn wrong(
 
 /// Executes command lines without a failure, and then with each write failing in turn. Appends the
 /// output without a failure, and the output of the first execution in which something is wrong.
-fn push_each_failing(out: &mut Answer, row: &Row<'_>, scene: &Scene) -> Result<()> {
+fn push_each_failing(out: &mut ExampleOutput, row: &Example<'_>, scene: &Scene) -> Result<()> {
     let mut whole = played_by(row, scene, 0)?;
     push_played(out, row, &mut whole)?;
     for failing in 1..LIMIT {
@@ -162,7 +168,7 @@ fn push_each_failing(out: &mut Answer, row: &Row<'_>, scene: &Scene) -> Result<(
 /// Executes the command lines of an example, and appends the outputs and exit statuses. If
 /// `is_asked` is set, the calls on the platform precede them. With `writes each`, each write fails
 /// in turn, and the calls aren't appended.
-fn done(out: &mut Answer, row: &Row<'_>, is_asked: bool) -> Result<()> {
+fn done(out: &mut ExampleOutput, row: &Example<'_>, is_asked: bool) -> Result<()> {
     let scene = scene_of(out.alloc, row)?;
     let writes = row.text("writes").unwrap_or("0");
     if writes == "each" {
@@ -179,7 +185,7 @@ fn done(out: &mut Answer, row: &Row<'_>, is_asked: bool) -> Result<()> {
 
 /// Parses `HERE KYUAFILE`, and appends the Kyuafile's absolute directory for the working directory
 /// HERE.
-fn push_source(out: &mut Answer, text: &str) -> Result<()> {
+fn push_source(out: &mut ExampleOutput, text: &str) -> Result<()> {
     let (here, kyuafile) = halves(text, " ", "a directory and a Kyuafile are due")?;
     let kyuafile = Text::from_str(out.alloc, kyuafile)?;
     out.text(source_of(out.alloc, here, &kyuafile));
@@ -188,7 +194,7 @@ fn push_source(out: &mut Answer, text: &str) -> Result<()> {
 
 /// Executes the command lines of an example, and appends the outputs and exit statuses. Examples
 /// with `disk`, `piece TEXT` or `source HERE KYUAFILE` try a disk, a line buffer or a path.
-pub fn answer(out: &mut Answer, row: &Row<'_>) -> Result<()> {
+pub fn answer(out: &mut ExampleOutput, row: &Example<'_>) -> Result<()> {
     if let Some(disk) = row.text("disk") {
         return disk_tests::answer(out, row, disk);
     }
@@ -201,6 +207,6 @@ pub fn answer(out: &mut Answer, row: &Row<'_>) -> Result<()> {
 }
 
 /// Executes the command lines of an example, and appends the calls on the platform and the outputs.
-pub fn opening(out: &mut Answer, row: &Row<'_>) -> Result<()> {
+pub fn opening(out: &mut ExampleOutput, row: &Example<'_>) -> Result<()> {
     done(out, row, true)
 }

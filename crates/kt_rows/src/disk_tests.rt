@@ -2,9 +2,9 @@
 
 use crate::disks::{Work, empty_files, fused, is_cut, left_by, old_files, work_over};
 use crate::played::Played;
-use crate::scripted_platform::ScriptedPlatform;
-use kt_answers::{Answer, Result, Row, RowFault, due};
-use kt_play::{Scene, scene_of};
+use crate::scripted_results_host::ScriptedResultsHost;
+use kt_doubles::{Scene, scene_of};
+use kt_examples::{Example, ExampleFault, ExampleOutput, Result, due};
 use kt_store::{ResultStore, Results, RunsFile, StoreFault};
 use sqlite::{Alter, Connection};
 use sqlite_disk::{Files, Fuse, Memory};
@@ -102,7 +102,7 @@ impl Whole {
     /// Appends the store call that stopped a command, as ` attach 1`, ` begin`, ` put 1` or
     /// ` finish`. The runs that are left must be those before or after the call. A text that begins
     /// with a comma ends the trial.
-    fn push_stop(&self, out: &mut Answer, cut: &Attempt) {
+    fn push_stop(&self, out: &mut ExampleOutput, cut: &Attempt) {
         let stop = match &cut.tested {
             None => Ok(0),
             Some(tested) => self.stop_by(tested),
@@ -122,7 +122,7 @@ impl Whole {
 }
 
 /// Appends `word`, the output of a command, and the runs that a crash left, each on a new line.
-fn push_tested(out: &mut Answer, word: &str, tested: Option<&Tested>, left: &[String]) {
+fn push_tested(out: &mut ExampleOutput, word: &str, tested: Option<&Tested>, left: &[String]) {
     out.line(word);
     if let Some(tested) = tested {
         out.line(tested.page.as_str());
@@ -136,7 +136,7 @@ fn push_tested(out: &mut Answer, word: &str, tested: Option<&Tested>, left: &[St
 #[derive(Clone, Copy)]
 struct Trial<'a> {
     /// The example.
-    row: &'a Row<'a>,
+    row: &'a Example<'a>,
     /// The script of the machine and the systems.
     scene: &'a Scene,
     /// `true` if the log fails, `false` if the database file fails.
@@ -153,7 +153,7 @@ impl Trial<'_> {
     fn done_over<R: ResultStore + Drop>(self, results: R) -> Result<(Tested, R)> {
         let mut played = Played::new(
             self.scene.alloc,
-            ScriptedPlatform::new(self.scene.alloc, results),
+            ScriptedResultsHost::new(self.scene.alloc, results),
         );
         played.play(self.row.entries.as_slice(), self.scene)?;
         let status = *due(played.exits.last(), "there is no command")?;
@@ -205,14 +205,14 @@ impl Trial<'_> {
     /// calls that stopped them, each only once. The trial ends if no call stopped a command, or if
     /// something is wrong. If the output or the runs are wrong, appends them without and with the
     /// failure.
-    fn push_stops(self, out: &mut Answer, whole: &Whole) -> Result<()> {
+    fn push_stops(self, out: &mut ExampleOutput, whole: &Whole) -> Result<()> {
         out.push("stopped in");
         let mut last = String::new(self.scene.alloc);
         for calls in 0..LIMIT {
             let Some(cut) = self.tried(self.files(calls)?)? else {
                 continue;
             };
-            let mut stop = Answer::new(self.scene.alloc);
+            let mut stop = ExampleOutput::new(self.scene.alloc);
             whole.push_stop(&mut stop, &cut);
             let stop = stop.end()?;
             if stop.as_str() != last.as_str() {
@@ -232,7 +232,7 @@ impl Trial<'_> {
 
     /// Appends the output on a disk that doesn't fail if `is_sound` is set. Otherwise appends the
     /// store calls at which a failing disk stops the command.
-    fn push(self, out: &mut Answer, is_sound: bool) -> Result<()> {
+    fn push(self, out: &mut ExampleOutput, is_sound: bool) -> Result<()> {
         let whole = self.whole()?;
         if !is_sound {
             return self.push_stops(out, &whole);
@@ -253,7 +253,7 @@ impl Work for Trial<'_> {
 
     fn over<S: Alter + Drop>(self, conn: Connection<S>) -> Result<(Option<Tested>, S)> {
         if !conn.is_autocommit() {
-            return Err(RowFault::Misspelled("a transaction is open"));
+            return Err(ExampleFault::Misspelled("a transaction is open"));
         }
         match Results::attach(self.scene.alloc, conn) {
             Ok(results) => match RunsFile::of(results) {
@@ -261,12 +261,12 @@ impl Work for Trial<'_> {
                     let (tested, file) = self.done_over(file)?;
                     Ok((Some(tested), file.into_store()))
                 }
-                Err(StoreFault::NoMemory(_)) => Err(RowFault::Misspelled("out of memory")),
-                Err(_) => Err(RowFault::Misspelled("its trees can't be read")),
+                Err(StoreFault::NoMemory(_)) => Err(ExampleFault::Misspelled("out of memory")),
+                Err(_) => Err(ExampleFault::Misspelled("its trees can't be read")),
             },
             Err((StoreFault::Store(_), conn)) => Ok((None, conn.into_store())),
-            Err((StoreFault::NoMemory(_), _conn)) => Err(RowFault::Misspelled("out of memory")),
-            Err(_) => Err(RowFault::Misspelled("it was refused for another reason")),
+            Err((StoreFault::NoMemory(_), _conn)) => Err(ExampleFault::Misspelled("out of memory")),
+            Err(_) => Err(ExampleFault::Misspelled("it was refused for another reason")),
         }
     }
 }
@@ -274,7 +274,7 @@ impl Work for Trial<'_> {
 /// Executes command lines, the last of them `test`, on a disk that fails at each of its calls in
 /// turn. Appends the store calls at which the disk stopped `test`. For a `sound` disk, appends the
 /// output, the exit status and the runs that a crash leaves.
-pub fn answer(out: &mut Answer, row: &Row<'_>, disk: &str) -> Result<()> {
+pub fn answer(out: &mut ExampleOutput, row: &Example<'_>, disk: &str) -> Result<()> {
     let scene = scene_of(out.alloc, row)?;
     let trial = Trial {
         row,

@@ -1,8 +1,8 @@
 //! Database files in memory that fail after some calls, and operations on a database in such files.
 
-use kt_answers::{Answer, Result, RowFault, asked, both, due, push_entries, push_made};
 use kt_base::Entry;
-use kt_play::state_text;
+use kt_doubles::state_text;
+use kt_examples::{ExampleFault, ExampleOutput, Result, asked, both, due, push_entries, push_made};
 use kt_store::{Results, RunHead};
 use sqlite::{Alter, Connection, Options};
 use sqlite_disk::{Crash, Disk, Files, Fuse, Memory};
@@ -60,7 +60,7 @@ impl Work for OldStore {
     fn over<S: Alter + Drop>(self, mut conn: Connection<S>) -> Result<((), S)> {
         match conn.execute_batch(SCHEMA_1) {
             Ok(_) => Ok(((), conn.into_store())),
-            Err(_) => Err(RowFault::Misspelled("the old store is not made")),
+            Err(_) => Err(ExampleFault::Misspelled("the old store is not made")),
         }
     }
 }
@@ -69,7 +69,7 @@ impl Work for OldStore {
 fn file_of(alloc: Global, bytes: &[u8]) -> Result<Memory> {
     let mut file = Memory::new(alloc);
     if file.write_at(0, bytes).is_err() || file.sync().is_err() {
-        return Err(RowFault::Misspelled("the old store is not made"));
+        return Err(ExampleFault::Misspelled("the old store is not made"));
     }
     Ok(file)
 }
@@ -102,7 +102,7 @@ pub fn fused(files: Files<Memory>, in_log: bool, calls: u64) -> Files<Fuse<Memor
 
 /// Returns the line, the outputs and the properties of the only entry in the list `entry`.
 fn whole_text(alloc: Global, entry: &[Entry]) -> Result<String> {
-    let mut out = Answer::new(alloc);
+    let mut out = ExampleOutput::new(alloc);
     for word in ["cases", "outputs", "pairs"] {
         out.line("");
         push_entries(&mut out, word, entry);
@@ -118,7 +118,7 @@ fn push_told<S: Alter>(
     head: &RunHead,
 ) -> Result<()> {
     let Ok(found) = results.entries(head.number) else {
-        return Err(RowFault::Misspelled("its entries can not be told"));
+        return Err(ExampleFault::Misspelled("its entries can not be told"));
     };
     let text = format!(in alloc;
         "run {} at {}, {} cases",
@@ -134,7 +134,7 @@ fn push_told<S: Alter>(
 /// Returns the head, the entries and the state of each run of a store.
 fn told<S: Alter>(alloc: Global, results: &mut Results<S>) -> Result<Vec<String>> {
     let Ok(heads) = results.runs() else {
-        return Err(RowFault::Misspelled("its runs can not be told"));
+        return Err(ExampleFault::Misspelled("its runs can not be told"));
     };
     let mut told = Vec::new(alloc);
     for head in heads.as_slice() {
@@ -162,7 +162,7 @@ impl Work for Telling {
     fn over<S: Alter + Drop>(self, mut conn: Connection<S>) -> Result<(Self::Made, S)> {
         let schema = asked_schema(&mut conn).or_else(|| asked_schema(&mut conn));
         if !conn.is_autocommit() {
-            return Err(RowFault::Misspelled("a transaction is open"));
+            return Err(ExampleFault::Misspelled("a transaction is open"));
         }
         match Results::attach(self.alloc, conn) {
             Ok(mut results) => {
@@ -170,7 +170,7 @@ impl Work for Telling {
                 let store = results.detach().into_store();
                 Ok(((schema.unwrap_or(0), told), store))
             }
-            Err(_) => Err(RowFault::Misspelled("it can not be attached again")),
+            Err(_) => Err(ExampleFault::Misspelled("it can not be attached again")),
         }
     }
 }

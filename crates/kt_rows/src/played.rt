@@ -1,21 +1,21 @@
 //! Executes each command line as a process over a scripted platform, machine and system.
 
 use crate::printing::push_page;
-use crate::scripted_machine::ScriptedMachine;
-use crate::scripted_platform::ScriptedPlatform;
+use crate::scripted_files::ScriptedFiles;
+use crate::scripted_results_host::ScriptedResultsHost;
 use crate::words::read_line;
-use kt_answers::{Answer, Line, Result, ScriptedWriter, due};
-use kt_cli::{LineOutput, Outside, carry_out};
-use kt_play::{Scene, ScriptedSystem, shortage};
+use kt_args::{Command, CommandFault};
+use kt_cli::{HostHandles, LineOutput, run_command};
+use kt_doubles::{Scene, ScriptedSystem, shortage};
+use kt_examples::{ExampleLine, ExampleOutput, Result, ScriptedWriter, due};
 use kt_store::ResultStore;
-use kt_words::{Command, CommandFault};
 use std::alloc::Global;
 use std::io::Write;
 
 /// The state after command lines: the platform, both outputs and the exit statuses.
 pub struct Played<R: ResultStore + Drop> {
     /// The platform, which has the results store.
-    pub platform: ScriptedPlatform<R>,
+    pub platform: ScriptedResultsHost<R>,
     /// Standard output.
     pub page: ScriptedWriter,
     /// Standard error.
@@ -23,7 +23,7 @@ pub struct Played<R: ResultStore + Drop> {
     /// The exit statuses of the command lines, in order.
     pub exits: Vec<u8>,
     /// The calls of the command lines on their systems, one per line.
-    pub log: Answer,
+    pub log: ExampleOutput,
 }
 
 impl<R: ResultStore + Drop> Drop for Played<R> {
@@ -41,26 +41,26 @@ impl<R: ResultStore + Drop> Drop for Played<R> {
 /// Executes a command over a new system, and returns its exit status and the machine. The calls on
 /// the system are appended to `log`.
 fn carried<'a, R: ResultStore + Drop, W: Write, E: Write>(
-    log: &mut Answer,
+    log: &mut ExampleOutput,
     scene: &'a Scene,
-    machine: ScriptedMachine<'a>,
-    platform: &mut ScriptedPlatform<R>,
+    machine: ScriptedFiles<'a>,
+    platform: &mut ScriptedResultsHost<R>,
     command: Result<Command, CommandFault>,
     out: &mut W,
     errors: &mut E,
-) -> Result<(u8, ScriptedMachine<'a>)> {
+) -> Result<(u8, ScriptedFiles<'a>)> {
     let alloc = log.alloc;
     let os = ScriptedSystem::new(scene);
-    let outside = Outside { alloc, machine, os };
+    let outside = HostHandles { alloc, machine, os };
     let mut lines = LineOutput::new(out, true);
-    let (exit, outside) = carry_out(outside, platform, command, &mut lines, errors);
+    let (exit, outside) = run_command(outside, platform, command, &mut lines, errors);
     log.push(outside.os.log.so_far()?);
     Ok((exit.status, outside.machine))
 }
 
 /// Appends `error: ` and the text on standard error, or only `error: usage` for a usage message.
-fn push_errors(out: &mut Answer, errors: &ScriptedWriter) -> Result<()> {
-    let mut page = Answer::new(out.alloc);
+fn push_errors(out: &mut ExampleOutput, errors: &ScriptedWriter) -> Result<()> {
+    let mut page = ExampleOutput::new(out.alloc);
     push_page(&mut page, errors)?;
     let text = page.so_far()?;
     if text.contains("Usage:") {
@@ -73,13 +73,13 @@ fn push_errors(out: &mut Answer, errors: &ScriptedWriter) -> Result<()> {
 
 impl<R: ResultStore + Drop> Played<R> {
     /// Creates the state in which no command line was executed yet.
-    pub fn new(alloc: Global, platform: ScriptedPlatform<R>) -> Played<R> {
+    pub fn new(alloc: Global, platform: ScriptedResultsHost<R>) -> Played<R> {
         Played {
             platform,
             page: ScriptedWriter::new(alloc),
             errors: ScriptedWriter::new(alloc),
             exits: Vec::new(alloc),
-            log: Answer::new(alloc),
+            log: ExampleOutput::new(alloc),
         }
     }
 
@@ -90,9 +90,9 @@ impl<R: ResultStore + Drop> Played<R> {
     ///
     /// - `Misspelled`: an argument has an invalid escape.
     /// - `NoMemory`: an allocation outside the command failed.
-    pub fn play(&mut self, lines: &[Line<'_>], scene: &Scene) -> Result<()> {
+    pub fn play(&mut self, lines: &[ExampleLine<'_>], scene: &Scene) -> Result<()> {
         let alloc = self.log.alloc;
-        let mut machine = ScriptedMachine { scene, told: 0 };
+        let mut machine = ScriptedFiles { scene, told: 0 };
         for line in lines {
             let command = match line.word {
                 "do" | "line" => read_line(alloc, line.text)?,
@@ -113,7 +113,7 @@ impl<R: ResultStore + Drop> Played<R> {
     /// # Errors
     ///
     /// - `NoMemory`: an allocation failed.
-    pub fn push_ended(&self, out: &mut Answer) -> Result<()> {
+    pub fn push_ended(&self, out: &mut ExampleOutput) -> Result<()> {
         push_page(out, &self.page)?;
         push_errors(out, &self.errors)?;
         out.push("exit");

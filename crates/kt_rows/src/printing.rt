@@ -1,6 +1,8 @@
-use kt_answers::{Answer, Result, Row, ScriptedWriter, WriteFault, asked, push_made, unescaped};
 use kt_base::{NoMemory, emit};
 use kt_cli::LineOutput;
+use kt_examples::{
+    Example, ExampleOutput, Result, ScriptedWriter, WriteFault, asked, push_made, unescaped,
+};
 use std::alloc::Global;
 use std::io::Write;
 
@@ -54,7 +56,7 @@ fn wrong(whole: &[u8], cut: &ScriptedWriter, well: bool) -> Result<Option<&'stat
 /// Without a failure, a writer must get the text `whole`. If one of the first 100 writes fails, it
 /// must get a proper prefix.
 fn push_wrong(
-    out: &mut Answer,
+    out: &mut ExampleOutput,
     pieces: &[Vec<u8>],
     to_lines: bool,
     whole: &[u8],
@@ -84,7 +86,7 @@ fn push_wrong(
 /// Prints pieces into several writers, and appends the text after a line for each error. The
 /// writers accept all bytes, 7 bytes or 1 byte per write, and may fail at one of the first writes.
 /// If `to_lines` is set, a line buffer precedes each writer.
-pub fn push_printed(out: &mut Answer, pieces: &[Vec<u8>], to_lines: bool) -> Result<()> {
+pub fn push_printed(out: &mut ExampleOutput, pieces: &[Vec<u8>], to_lines: bool) -> Result<()> {
     let mut page = ScriptedWriter::new(out.alloc);
     print_whole(pieces, to_lines, &mut page);
     let whole = page.kept()?;
@@ -98,7 +100,7 @@ pub fn push_printed(out: &mut Answer, pieces: &[Vec<u8>], to_lines: bool) -> Res
 /// Prints the pieces of an example, `piece TEXT` each, to a line buffer, and appends the written
 /// text. With `unflushed` the buffer isn't flushed, and with `held` it doesn't write complete lines
 /// either.
-pub fn push_pieces(out: &mut Answer, row: &Row<'_>) -> Result<()> {
+pub fn push_pieces(out: &mut ExampleOutput, row: &Example<'_>) -> Result<()> {
     let mut pieces = Vec::new(out.alloc);
     for line in row.entries.as_slice() {
         if line.word == "piece" {
@@ -116,7 +118,7 @@ pub fn push_pieces(out: &mut Answer, row: &Row<'_>) -> Result<()> {
 }
 
 /// Appends the text that was written to `page`, and `(cut)` if its last line is incomplete.
-pub fn push_page(out: &mut Answer, page: &ScriptedWriter) -> Result<()> {
+pub fn push_page(out: &mut ExampleOutput, page: &ScriptedWriter) -> Result<()> {
     let bytes = page.kept()?;
     out.bytes(bytes);
     if !bytes.is_empty() && !bytes.ends_with(b"\n") {

@@ -1,13 +1,13 @@
 use crate::printing::{push_printed, writer};
-use kt_answers::{
-    Answer, Line, Result, Row, RowFault, ScriptedWriter, WriteFault, kind_of, push_reason,
-    unescaped,
-};
 use kt_base::{Bytes, NoMemory, Reason, Text, Verdict, emit_number, emit_wide_number, lossy, send};
+use kt_examples::{
+    Example, ExampleFault, ExampleLine, ExampleOutput, Result, ScriptedWriter, WriteFault, kind_of,
+    push_reason, unescaped,
+};
 use std::alloc::Global;
 
 /// Appends a verdict's kind, and `good` or `bad`.
-fn push_kind(out: &mut Answer, word: &str) -> Result<()> {
+fn push_kind(out: &mut ExampleOutput, word: &str) -> Result<()> {
     let kind = kind_of(word)?;
     let quality = if kind.good() { "good" } else { "bad" };
     write!(out, "{}, {quality}", kind.word());
@@ -24,14 +24,14 @@ fn text_of_bytes(alloc: Global, bytes: &[u8]) -> Result<Text, NoMemory> {
 }
 
 /// Appends a number of at most 128 bits, as kt_base prints it.
-fn push_number(out: &mut Answer, text: &str) -> Result<()> {
+fn push_number(out: &mut ExampleOutput, text: &str) -> Result<()> {
     let mut page = ScriptedWriter::new(out.alloc);
     if let Ok(n) = text.parse::<u64>() {
         let _ = emit_number(n, &mut page);
     } else if let Ok(n) = text.parse::<u128>() {
         let _ = emit_wide_number(n, &mut page);
     } else {
-        return Err(RowFault::Misspelled("no number"));
+        return Err(ExampleFault::Misspelled("no number"));
     }
     out.bytes(page.kept()?);
     Ok(())
@@ -39,7 +39,7 @@ fn push_number(out: &mut Answer, text: &str) -> Result<()> {
 
 /// Sends bytes to a writer, and appends the numbers of sent bytes and of writes. The writer accepts
 /// `taking N` bytes per write, and fails from write number `failing WRITE` on.
-fn push_sent(out: &mut Answer, row: &Row<'_>, bytes: &[u8]) -> Result<()> {
+fn push_sent(out: &mut ExampleOutput, row: &Example<'_>, bytes: &[u8]) -> Result<()> {
     let at_most = row.number("taking", 1)? as usize;
     let failing = row.number("failing", 0)?;
     let mut page = writer(out.alloc, at_most, failing, WriteFault::Broken);
@@ -51,7 +51,7 @@ fn push_sent(out: &mut Answer, row: &Row<'_>, bytes: &[u8]) -> Result<()> {
 }
 
 /// Executes the example of the keyword `word` with decoded bytes, and appends its output.
-fn push_told(out: &mut Answer, row: &Row<'_>, word: &str, bytes: Vec<u8>) -> Result<()> {
+fn push_told(out: &mut ExampleOutput, row: &Example<'_>, word: &str, bytes: Vec<u8>) -> Result<()> {
     match word {
         "words" => {
             let reason = Reason::Owned(lossy(out.alloc, &bytes)?);
@@ -63,15 +63,15 @@ fn push_told(out: &mut Answer, row: &Row<'_>, word: &str, bytes: Vec<u8>) -> Res
         }
         "send" => push_sent(out, row, &bytes),
         "emit" => push_printed(out, &[bytes], false),
-        _ => Err(RowFault::Misspelled("nothing like that is asked of a reason")),
+        _ => Err(ExampleFault::Misspelled("nothing like that is asked of a reason")),
     }
 }
 
 /// Executes an example of a kind, a number, a reason or bytes, and appends the text. It has one of
 /// the lines `kind WORD`, `number N`, `words TEXT`, `nothing`, `bytes TEXT`, `send TEXT` and
 /// `emit TEXT`.
-pub fn answer(out: &mut Answer, row: &Row<'_>) -> Result<()> {
-    let Line { word, text } = row.first()?;
+pub fn answer(out: &mut ExampleOutput, row: &Example<'_>) -> Result<()> {
+    let ExampleLine { word, text } = row.first()?;
     match word {
         "kind" => push_kind(out, text),
         "number" => push_number(out, text),

@@ -1,8 +1,8 @@
-use kt_answers::Row;
 use kt_base::{Entry, Variables};
 use kt_cli::MemRuns;
-use kt_play::Refusals;
-use kt_store::{CaseOutputs, Keeping, ResultStore, RunHead, StoreFault};
+use kt_doubles::Refusals;
+use kt_examples::Example;
+use kt_store::{CaseOutputs, ResultStore, RunHead, StoreFault, StoreSpec};
 use std::alloc::Global;
 
 /// A `ResultStore` in memory, some of whose calls fail.
@@ -21,7 +21,7 @@ impl RefusingStore {
     /// - `Misspelled`: CALLS isn't one or two numbers, or the real error for the calls can't be
     ///   provoked.
     /// - `NoMemory`: an allocation failed.
-    pub fn of(alloc: Global, row: &Row<'_>) -> kt_answers::Result<RefusingStore> {
+    pub fn of(alloc: Global, row: &Example<'_>) -> kt_examples::Result<RefusingStore> {
         Ok(RefusingStore {
             runs: MemRuns::new(alloc),
             refusals: Refusals::of(alloc, row)?,
@@ -29,7 +29,7 @@ impl RefusingStore {
     }
 }
 
-impl Keeping for RefusingStore {
+impl StoreSpec for RefusingStore {
     ghost use Rattle.std.specs.Prelude.{⊤};
     ghost use Rattle.kt_cli.specs.MemoryRuns.{StandsInMemory};
 

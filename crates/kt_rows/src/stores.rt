@@ -1,8 +1,10 @@
 use crate::played::Played;
 use crate::refusing_store::RefusingStore;
-use crate::scripted_platform::ScriptedPlatform;
-use kt_answers::{Answer, Line, Result, Row, RowFault, asked, content_at, is_content};
-use kt_play::{InParts, Scene, push_call};
+use crate::scripted_results_host::ScriptedResultsHost;
+use kt_doubles::{InParts, Scene, push_call};
+use kt_examples::{
+    Example, ExampleFault, ExampleLine, ExampleOutput, Result, asked, content_at, is_content,
+};
 use kt_store::{ResultStore, Results, RunsFile};
 use sqlite::{Alter, Connection};
 use std::alloc::Global;
@@ -24,7 +26,7 @@ fn detached<S: Alter + Drop>(store: Store<S>) -> Result<Connection<S>> {
     match store {
         Store::Open(connection) => Ok(connection),
         Store::Attached(results) => Ok(results.detach()),
-        Store::ByTrees(_file) => Err(RowFault::Misspelled("the tables are taken twice")),
+        Store::ByTrees(_file) => Err(ExampleFault::Misspelled("the tables are taken twice")),
     }
 }
 
@@ -32,18 +34,18 @@ fn detached<S: Alter + Drop>(store: Store<S>) -> Result<Connection<S>> {
 fn by_trees<S: Alter + Drop>(results: Results<S>) -> Result<RunsFile<S>> {
     match RunsFile::of(results) {
         Ok(file) => Ok(file),
-        Err(_) => Err(RowFault::Misspelled("its trees can't be read")),
+        Err(_) => Err(ExampleFault::Misspelled("its trees can't be read")),
     }
 }
 
 /// Attaches the results tables of a database, and appends `attached` or the error.
 fn attach<S: Alter + Drop>(
-    out: &mut Answer,
+    out: &mut ExampleOutput,
     connection: Connection<S>,
     is_by_trees: bool,
 ) -> Result<Store<S>> {
     if !connection.is_autocommit() {
-        return Err(RowFault::Misspelled("a transaction is open"));
+        return Err(ExampleFault::Misspelled("a transaction is open"));
     }
     match Results::attach(out.alloc, connection) {
         Ok(results) => {
@@ -63,17 +65,17 @@ fn attach<S: Alter + Drop>(
 /// Executes a store call, or a command line over the store, and appends its output. Returns the
 /// store.
 fn ask<R: ResultStore + Drop>(
-    out: &mut Answer,
+    out: &mut ExampleOutput,
     mut results: R,
-    line: &Line<'_>,
-    content: &[Line<'_>],
+    line: &ExampleLine<'_>,
+    content: &[ExampleLine<'_>],
 ) -> Result<R> {
     if line.word != "do" {
         let (store, alloc) = (&mut results, out.alloc);
         push_call(out, &mut InParts { store, alloc }, line, content)?;
         return Ok(results);
     }
-    let mut played = Played::new(out.alloc, ScriptedPlatform::new(out.alloc, results));
+    let mut played = Played::new(out.alloc, ScriptedResultsHost::new(out.alloc, results));
     played.play(&[*line], &Scene::new(out.alloc))?;
     played.push_ended(out)?;
     played.into_results()
@@ -82,10 +84,10 @@ fn ask<R: ResultStore + Drop>(
 /// Executes a store call by SQL, and appends its output. A command line uses the store through its
 /// trees, and so do the lines after it.
 fn ask_by_sql<S: Alter + Drop>(
-    out: &mut Answer,
+    out: &mut ExampleOutput,
     mut results: Results<S>,
-    line: &Line<'_>,
-    content: &[Line<'_>],
+    line: &ExampleLine<'_>,
+    content: &[ExampleLine<'_>],
 ) -> Result<Store<S>> {
     if line.word == "do" {
         let file = by_trees(results)?;
@@ -97,11 +99,11 @@ fn ask_by_sql<S: Alter + Drop>(
 
 /// Executes a line of an example over a database, and appends its output.
 fn step<S: Alter + Drop>(
-    out: &mut Answer,
+    out: &mut ExampleOutput,
     store: Store<S>,
     is_by_trees: bool,
-    line: &Line<'_>,
-    content: &[Line<'_>],
+    line: &ExampleLine<'_>,
+    content: &[ExampleLine<'_>],
 ) -> Result<Store<S>> {
     out.separate("\n");
     match line.word {
@@ -109,13 +111,13 @@ fn step<S: Alter + Drop>(
         "sql" => {
             let mut connection = detached(store)?;
             if connection.execute(line.text, &[]).is_err() {
-                return Err(RowFault::Misspelled("the statement fails"));
+                return Err(ExampleFault::Misspelled("the statement fails"));
             }
             out.push("done");
             Ok(Store::Open(connection))
         }
         _ => match store {
-            Store::Open(_) => Err(RowFault::Misspelled("no tables were taken")),
+            Store::Open(_) => Err(ExampleFault::Misspelled("no tables were taken")),
             Store::Attached(results) => ask_by_sql(out, results, line, content),
             Store::ByTrees(file) => Ok(Store::ByTrees(ask(out, file, line, content)?)),
         },
@@ -123,8 +125,8 @@ fn step<S: Alter + Drop>(
 }
 
 /// Returns the outputs of lines over a new database in memory, used by SQL or through its trees.
-fn over(alloc: Global, lines: &[Line<'_>], is_by_trees: bool) -> Result<String> {
-    let mut out = Answer::new(alloc);
+fn over(alloc: Global, lines: &[ExampleLine<'_>], is_by_trees: bool) -> Result<String> {
+    let mut out = ExampleOutput::new(alloc);
     let mut store = Store::Open(Connection::open_in_memory(alloc)?);
     for (place, line) in lines.iter().enumerate() {
         if !is_content(line) {
@@ -136,7 +138,7 @@ fn over(alloc: Global, lines: &[Line<'_>], is_by_trees: bool) -> Result<String> 
 
 /// Returns `true` if lines use the connection after the first `attach`. A store that is used
 /// through its trees can't return it.
-fn are_taken_again(lines: &[Line<'_>]) -> bool {
+fn are_taken_again(lines: &[ExampleLine<'_>]) -> bool {
     let mut later = lines.iter().skip_while(|line| line.word != "attach");
     later.next();
     later.any(|line| line.word == "attach" || line.word == "sql")
@@ -149,7 +151,7 @@ fn is_short(answer: &str) -> bool {
 
 /// Appends the common output of both ways, or both outputs if they differ. If one output reports a
 /// failed allocation, only that output is appended, because the other one must differ.
-fn push_both(out: &mut Answer, by_sql: &str, by_trees: &str) {
+fn push_both(out: &mut ExampleOutput, by_sql: &str, by_trees: &str) {
     if by_sql == by_trees || is_short(by_sql) {
         out.push(by_sql);
     } else if is_short(by_trees) {
@@ -162,7 +164,11 @@ fn push_both(out: &mut Answer, by_sql: &str, by_trees: &str) {
 }
 
 /// Executes the lines of an example over a store in memory, and appends their outputs.
-fn over_memory(out: &mut Answer, lines: &[Line<'_>], mut runs: RefusingStore) -> Result<()> {
+fn over_memory(
+    out: &mut ExampleOutput,
+    lines: &[ExampleLine<'_>],
+    mut runs: RefusingStore,
+) -> Result<()> {
     for (place, line) in lines.iter().enumerate() {
         if !is_content(line) {
             out.separate("\n");
@@ -174,7 +180,7 @@ fn over_memory(out: &mut Answer, lines: &[Line<'_>], mut runs: RefusingStore) ->
 
 /// Executes store calls over a database in memory, by SQL and through its trees, and appends the
 /// common output. After the line `memory`, the calls are executed over a store in memory alone.
-pub fn answer(out: &mut Answer, row: &Row<'_>) -> Result<()> {
+pub fn answer(out: &mut ExampleOutput, row: &Example<'_>) -> Result<()> {
     let lines = row.entries.as_slice();
     if let Some((first, calls)) = lines.split_first() {
         if first.word == "memory" {

@@ -1,6 +1,6 @@
-use kt_answers::{Answer, Result, Row, asked, due, halves, number, push_made, text_of};
+use kt_args::{CaseOptions, Command, CommandFault, ReportOptions, read_command};
 use kt_base::Text;
-use kt_words::{CaseOptions, Command, CommandFault, ReportOptions, read_command};
+use kt_examples::{Example, ExampleOutput, Result, asked, due, halves, number, push_made, text_of};
 use std::alloc::Global;
 use std::slice;
 
@@ -20,7 +20,7 @@ pub fn read_line(alloc: Global, line: &str) -> Result<Result<Command, CommandFau
 }
 
 /// Appends each value of an option after `name`.
-fn push_values(out: &mut Answer, name: &str, values: &[Text]) {
+fn push_values(out: &mut ExampleOutput, name: &str, values: &[Text]) {
     for value in values {
         write!(out, "{name}{}", value.as_str());
     }
@@ -28,7 +28,7 @@ fn push_values(out: &mut Answer, name: &str, values: &[Text]) {
 
 /// Appends a command over test cases: Kyuafile, work directory, results file, configuration,
 /// variables and filters.
-fn push_cases(out: &mut Answer, name: &str, options: &CaseOptions, results: &[Text]) {
+fn push_cases(out: &mut ExampleOutput, name: &str, options: &CaseOptions, results: &[Text]) {
     let (kyuafile, work) = (options.kyuafile.as_str(), options.work.as_str());
     write!(out, "{name} {kyuafile}, work {work}");
     push_values(out, ", results ", results);
@@ -38,7 +38,7 @@ fn push_cases(out: &mut Answer, name: &str, options: &CaseOptions, results: &[Te
 }
 
 /// Appends a report: its run, results file, configuration and variables.
-fn push_report(out: &mut Answer, name: &str, options: &ReportOptions) {
+fn push_report(out: &mut ExampleOutput, name: &str, options: &ReportOptions) {
     match options.run {
         Some(run) => write!(out, "{name} {run}"),
         None => write!(out, "{name} last"),
@@ -49,7 +49,7 @@ fn push_report(out: &mut Answer, name: &str, options: &ReportOptions) {
 }
 
 /// Appends a command and the values of its options.
-fn push_command(out: &mut Answer, command: &Command) {
+fn push_command(out: &mut ExampleOutput, command: &Command) {
     match command {
         Command::List(options) => push_cases(out, "list", options, &[]),
         Command::Test { options, results } => {
@@ -73,7 +73,7 @@ fn push_command(out: &mut Answer, command: &Command) {
 }
 
 /// Appends the error of arguments that are rejected. A usage message is reduced to `usage`.
-fn push_fault(out: &mut Answer, fault: &CommandFault) {
+fn push_fault(out: &mut ExampleOutput, fault: &CommandFault) {
     match fault {
         CommandFault::Usage(text) if text.as_str().is_empty() => out.push("usage without a text"),
         CommandFault::Usage(_) => out.push("usage"),
@@ -82,7 +82,7 @@ fn push_fault(out: &mut Answer, fault: &CommandFault) {
 }
 
 /// Returns the arguments of the line `line WORDS`, and then N times the argument of `times N WORD`.
-fn all_words(alloc: Global, row: &Row<'_>) -> Result<Vec<String>> {
+fn all_words(alloc: Global, row: &Example<'_>) -> Result<Vec<String>> {
     let line = due(row.text("line"), "the row has no command line")?;
     let mut words = words_of(alloc, line)?;
     let times = row.text("times").unwrap_or("0 ");
@@ -95,7 +95,7 @@ fn all_words(alloc: Global, row: &Row<'_>) -> Result<Vec<String>> {
 
 /// Parses the command line of an example, and appends the command or the error. The example has
 /// `line WORDS`, and may have `times N WORD` for N more arguments.
-pub fn answer(out: &mut Answer, row: &Row<'_>) -> Result<()> {
+pub fn answer(out: &mut ExampleOutput, row: &Example<'_>) -> Result<()> {
     match read_command(out.alloc, all_words(out.alloc, row)?.as_slice()) {
         Ok(command) => push_command(out, &command),
         Err(fault) => push_fault(out, &fault),

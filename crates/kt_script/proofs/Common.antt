@@ -26,10 +26,10 @@ pub use Rattle.kt_script.specs.Inner.Words.{begins_with_letter, name_at, number,
 pub use Rattle.kt_script.specs.Letters.{escape_of, is_letter, is_plain, is_word}
 pub use Rattle.kt_script.specs.Spelling.{Answers, IsAnswer, IsDue, Refuses, Spells, limit}
 pub use Rattle.kt_script.specs.TokenRules.{Blank, Closes, Each, HasFlaw, Inside, IsStrange, IsTokens, NeverCloses, NoEscape, StopsAt, Word, a_mark, a_name, a_number, a_string, bad_escape, blank_and, endless_comment, endless_string, escape, in_line, is_quote, itself, large_number, lettered_number, leveled_comment, line_after, line_comment, line_past, lone_dash, long_comment, mark_of, no_word, not_yet, nothing, opens_level, opens_long, space, strange, the_end, word, word_and}
-pub use Rattle.kt_script.specs.Types.{Action, Assign, Bad, Broken, Call, CloseBrace, CloseBracket, CloseParen, Comma, Dot, Endless, Equals, Flaw, Kind, Leveled, Literal, Name, NoMemory, NotUtf8, Number, OpenBrace, OpenBracket, OpenParen, Pair, Piece, Place, Quoted, ScriptFault, Semicolon, Start, Stmt, Token, TooLong, Truth, Whole, Within}
+pub use Rattle.kt_script.specs.Types.{Action, Assign, Bad, Broken, Call, CloseBrace, CloseBracket, CloseParen, Comma, Dot, Endless, Equals, Flaw, TokenKind, Leveled, Literal, Name, NoMemory, NotUtf8, Number, OpenBrace, OpenBracket, OpenParen, Pair, Lexeme, ScriptState, Quoted, ScriptFault, Semicolon, Start, Stmt, Token, TooLong, Truth, Whole, Within}
 pub use Rattle.kt_script.specs.declared.parser.Parser.{Parser}
-pub use Rattle.kt_script.specs.declared.token.Stop.{Stop}
-pub use Rattle.kt_script.specs.declared.token.Stop.TheVariants.{Escape, Flawed, Quote}
+pub use Rattle.kt_script.specs.declared.token.StringStop.{StringStop}
+pub use Rattle.kt_script.specs.declared.token.StringStop.TheVariants.{Escape, Flawed, Quote}
 pub use Rattle.kt_script.specs.declared.state.State.{State}
 pub use Rattle.kt_script.specs.declared.state.State.TheVariants.{Closing, Dotted, KeyEquals, KeyOpened, KeyQuoted, Keyed, Named, Opened, Paired, Pairs, Path, PathEquals, PathOpened, PathQuoted}
 pub use Rattle.kt_script.specs.declared.state.Step.{Step}

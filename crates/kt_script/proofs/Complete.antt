@@ -1,13 +1,13 @@
 -- The parser accepts each script and returns its statements.
 use Rattle.std.proofs.Common.{arith, ◌≡◌, ℕ, true, false, List, [], ◌∷◌, ◌++◌, Option, Some, None, refl, ap, sym, ◌∙◌, append_assoc, option_map, option_and_then}
-use Rattle.kt_script.proofs.Common.{append-nil, Token, Kind, Name, Quoted, OpenParen, CloseParen, OpenBrace, CloseBrace, Equals, Semicolon, Place, Start, Whole, Within, Pair, Stmt, Literal, Action, Call, Assign, Table, Named, Pairs, Paired, Path, Step, To, Ends, token_of, pair, Key, by_name, by_text, Separator, comma, semicolon, no_pairs, last_pair, pair_and, Parts, no_parts, named_part, quoted_part, Statement, call, call_table, call_text, bare_table, assign, kinds, placed, Script, no_stmts, stmt_and, ended_and, value_of, closed, with_pair, step, next, landed, option_to_list, run, IsResting}
+use Rattle.kt_script.proofs.Common.{append-nil, Token, TokenKind, Name, Quoted, OpenParen, CloseParen, OpenBrace, CloseBrace, Equals, Semicolon, ScriptState, Start, Whole, Within, Pair, Stmt, Literal, Action, Call, Assign, Table, Named, Pairs, Paired, Path, Step, To, Ends, token_of, pair, Key, by_name, by_text, Separator, comma, semicolon, no_pairs, last_pair, pair_and, Parts, no_parts, named_part, quoted_part, Statement, call, call_table, call_text, bare_table, assign, kinds, placed, Script, no_stmts, stmt_and, ended_and, value_of, closed, with_pair, step, next, landed, option_to_list, run, IsResting}
 use Rattle.kt_script.specs.declared.syntax.Literal.TheVariants as literal
 use Rattle.kt_script.specs.declared.syntax.Arg.TheVariants as arg
 use Rattle.kt_script.specs.Grammar as grammar
 use Rattle.std.proofs.lemmas.Option.{same_Some}
 
 -- `walk s ks`: the step after the tokens `ks` of a statement, from the step `s`
-abbrev pub walk : Step → List Kind → Option Step
+abbrev pub walk : Step → List TokenKind → Option Step
 walk s [] = Some s
 walk (To q) (k ∷ ks) = option_and_then (λ s. walk s ks) (step q k)
 walk (Ends a) (k ∷ ks) = None
@@ -21,16 +21,16 @@ value_of-token_of v = refl
 abbrev with_pairs : Table → List Pair → Table
 with_pairs t pairs = record t { pairs = t.pairs ++ pairs }
 
-pair_walks : (words : List Kind) (key : List ℕ) → Key words key → (t : Table) (v : Literal) (rest : List Kind)
+pair_walks : (words : List TokenKind) (key : List ℕ) → Key words key → (t : Table) (v : Literal) (rest : List TokenKind)
     → walk (To (Pairs t)) ((words ++ Equals ∷ token_of v ∷ []) ++ rest) ≡ walk (To (Paired (with_pair t key v))) rest
 pair_walks words key (by_name n) t v rest = rw value_of-token_of refl
 pair_walks words key (by_text n) t v rest = rw value_of-token_of refl
 
-separator_walks : (s : Kind) → Separator s → (t : Table) (rest : List Kind) → walk (To (Paired t)) (s ∷ rest) ≡ walk (To (Pairs t)) rest
+separator_walks : (s : TokenKind) → Separator s → (t : Table) (rest : List TokenKind) → walk (To (Paired t)) (s ∷ rest) ≡ walk (To (Pairs t)) rest
 separator_walks s comma t rest = refl
 separator_walks s semicolon t rest = refl
 
-pairs_walk : (words : List Kind) (pairs : List Pair) → grammar.Pairs words pairs → (t : Table) (rest : List Kind)
+pairs_walk : (words : List TokenKind) (pairs : List Pair) → grammar.Pairs words pairs → (t : Table) (rest : List TokenKind)
     → walk (To (Pairs t)) (words ++ CloseBrace ∷ rest) ≡ walk (closed (with_pairs t pairs)) rest
 pairs_walk words pairs no_pairs t rest = ap (λ (ps : List Pair). walk (closed (record t { pairs = ps })) rest) (sym (append-nil t.pairs))
 pairs_walk words pairs (last_pair {words = w} {key = key} is v) t rest = pair_walks w key is t v (CloseBrace ∷ rest)
@@ -44,14 +44,14 @@ pairs_walk words pairs (pair_and {words = w} {rest = others} {key = key} {s = s}
 
 -- ---- paths
 
-parts_walk : (words : List Kind) (parts : List (List ℕ)) → Parts words parts → (path : List (List ℕ)) (v : Literal)
+parts_walk : (words : List TokenKind) (parts : List (List ℕ)) → Parts words parts → (path : List (List ℕ)) (v : Literal)
     → walk (To (Path path)) (words ++ Equals ∷ token_of v ∷ []) ≡ Some (Ends (Assign (path ++ parts) v))
 parts_walk words parts no_parts path v = rw value_of-token_of (ap (λ (all : List (List ℕ)). Some (Ends (Assign all v))) (sym (append-nil path)))
 parts_walk words parts (named_part {words = w} {parts = ps} n more) path v = parts_walk w ps more (path ++ n ∷ []) v ∙ ap (λ (all : List (List ℕ)). Some (Ends (Assign all v))) (append_assoc path (n ∷ []) ps)
 parts_walk words parts (quoted_part {words = w} {parts = ps} t more) path v = parts_walk w ps more (path ++ t ∷ []) v ∙ ap (λ (all : List (List ℕ)). Some (Ends (Assign all v))) (append_assoc path (t ∷ []) ps)
 
 -- the tokens after a path's first name have the same result from a name and from a path
-first_part_walks : (words : List Kind) (parts : List (List ℕ)) → Parts words parts → (n : List ℕ) (v : Literal)
+first_part_walks : (words : List TokenKind) (parts : List (List ℕ)) → Parts words parts → (n : List ℕ) (v : Literal)
     → walk (To (Named n)) (words ++ Equals ∷ token_of v ∷ []) ≡ walk (To (Path (n ∷ []))) (words ++ Equals ∷ token_of v ∷ [])
 first_part_walks words parts no_parts n v = refl
 first_part_walks words parts are n v = refl
@@ -59,9 +59,9 @@ first_part_walks words parts are n v = refl
 -- ---- statements
 
 -- `Walks words a`: `words` are a name and tokens that complete the statement with the action `a`
-pub record Walks (words : List Kind) (a : Action) : Type 0 where
+pub record Walks (words : List TokenKind) (a : Action) : Type 0 where
   pub name : List ℕ
-  pub rest : List Kind
+  pub rest : List TokenKind
   pub parts : words ≡ Name name ∷ rest
   pub ends : walk (To (Named name)) rest ≡ Some (Ends a)
 
@@ -69,7 +69,7 @@ call_walks : (n : List ℕ) (v : Literal) → walk (To (Named n)) (OpenParen ∷
 call_walks n (literal.Text t) = refl
 call_walks n v = refl
 
-pub statement_walks : (words : List Kind) (a : Action) → Statement words a → Walks words a
+pub statement_walks : (words : List TokenKind) (a : Action) → Statement words a → Walks words a
 statement_walks words a (call n v) = record { name = n; rest = OpenParen ∷ token_of v ∷ CloseParen ∷ []; parts = refl; ends = call_walks n v }
 statement_walks words a (call_table {words = w} {pairs = ps} n table) =
     record { name = n; rest = OpenParen ∷ OpenBrace ∷ w ++ CloseBrace ∷ CloseParen ∷ []; parts = refl; ends = pairs_walk w ps table (record { name = n; in_parens = true; pairs = [] }) (CloseParen ∷ []) }
@@ -81,7 +81,7 @@ statement_walks words a (assign {words = w} {parts = ps} n more v) =
 
 -- ---- tokens
 
-abbrev pub joined : List Stmt → Place × List Stmt → Place × List Stmt
+abbrev pub joined : List Stmt → ScriptState × List Stmt → ScriptState × List Stmt
 joined front end = (end.0, front ++ end.1)
 
 pub bind_some : {A B : Type 0} (o : Option A) (f : A → Option B) (y : B) → option_and_then f o ≡ Some y → (x : A) × (o ≡ Some x) × (f x ≡ Some y)
@@ -92,15 +92,15 @@ pub map_some : {A B : Type 0} (o : Option A) (f : A → B) (y : B) → option_ma
 map_some None f y e = absurd cc
 map_some (Some x) f y e = (x, refl, cc)
 
-joined_twice : (xs ys : List Stmt) (o : Option (Place × List Stmt)) → option_map (joined xs) (option_map (joined ys) o) ≡ option_map (joined (xs ++ ys)) o
+joined_twice : (xs ys : List Stmt) (o : Option (ScriptState × List Stmt)) → option_map (joined xs) (option_map (joined ys) o) ≡ option_map (joined (xs ++ ys)) o
 joined_twice xs ys o = grind (arith, append_assoc {A = Stmt})
 
-joined_none : (o : Option (Place × List Stmt)) → option_map (joined []) o ≡ o
+joined_none : (o : Option (ScriptState × List Stmt)) → option_map (joined []) o ≡ o
 joined_none None = refl
 joined_none (Some end) = refl
 
 -- `reached line s`: the position after the step `s`, and the statements that it completes
-abbrev pub reached : ℕ → Step → Place × List Stmt
+abbrev pub reached : ℕ → Step → ScriptState × List Stmt
 reached line s = ((landed line s).0, option_to_list (landed line s).1)
 
 -- `run` over the tokens of a statement's rest reaches the step of `walk`
@@ -113,31 +113,31 @@ steps_run (t ∷ ts) line (To q) r e =
     joined_none (run (Within line q) (t ∷ ts)) ∙ rw b.1 (steps_run ts line b.0 r b.2)
 steps_run (t ∷ ts) line (Ends a) r e = absurd cc
 
-pub run-append : (xs : List Token) (p q : Place) (ys : List Token) (ss : List Stmt) → run p xs ≡ Some (q, ss) → run p (xs ++ ys) ≡ option_map (joined ss) (run q ys)
+pub run-append : (xs : List Token) (p q : ScriptState) (ys : List Token) (ss : List Stmt) → run p xs ≡ Some (q, ss) → run p (xs ++ ys) ≡ option_map (joined ss) (run q ys)
 run-append [] p q ys ss e =
     let same = same_Some (p, []) (q, ss) e in
-    sym (joined_none (run p ys)) ∙ ap (λ (x : Place × List Stmt). option_map (joined x.1) (run x.0 ys)) same
+    sym (joined_none (run p ys)) ∙ ap (λ (x : ScriptState × List Stmt). option_map (joined x.1) (run x.0 ys)) same
 run-append (t ∷ xs) p q ys ss e =
     let b = bind_some (next p t) (λ to. option_map (joined (option_to_list to.1)) (run to.0 xs)) (q, ss) e in
     let m = map_some (run b.0.0 xs) (joined (option_to_list b.0.1)) (q, ss) b.2 in
     let later = run-append xs b.0.0 m.0.0 ys m.0.1 m.1 in
     rw b.1 (ap (option_map (joined (option_to_list b.0.1))) later ∙ joined_twice (option_to_list b.0.1) m.0.1 (run m.0.0 ys)
-    ∙ ap (λ (x : Place × List Stmt). option_map (joined x.1) (run x.0 ys)) m.2)
+    ∙ ap (λ (x : ScriptState × List Stmt). option_map (joined x.1) (run x.0 ys)) m.2)
 
 -- ---- scripts
 
-name_from_resting : (p : Place) (t : Token) (n : List ℕ) → IsResting p → t.kind ≡ Name n → next p t ≡ Some (Within t.line (Named n), None)
+name_from_resting : (p : ScriptState) (t : Token) (n : List ℕ) → IsResting p → t.kind ≡ Name n → next p t ≡ Some (Within t.line (Named n), None)
 name_from_resting Start t n r e = rw e refl
 name_from_resting Whole t n r e = rw e refl
 name_from_resting (Within line q) t n r e = elim r [ ]
 
 -- `run` over a statement's name and the tokens after it reaches the step of `walk`
-pub named_runs : (t : Token) (ts : List Token) (p : Place) (n : List ℕ) (s : Step) → IsResting p → t.kind ≡ Name n
+pub named_runs : (t : Token) (ts : List Token) (p : ScriptState) (n : List ℕ) (s : Step) → IsResting p → t.kind ≡ Name n
     → walk (To (Named n)) (kinds ts) ≡ Some s
     → run p (t ∷ ts) ≡ Some (reached t.line s)
 named_runs t ts p n s r first leads = rw (name_from_resting p t n r first) (steps_run ts t.line (To (Named n)) s leads)
 
-phrase_runs : (phrase : List Token) (p : Place) (a : Action) → IsResting p → Statement (kinds phrase) a → run p phrase ≡ Some (Whole, placed phrase a ∷ [])
+phrase_runs : (phrase : List Token) (p : ScriptState) (a : Action) → IsResting p → Statement (kinds phrase) a → run p phrase ≡ Some (Whole, placed phrase a ∷ [])
 phrase_runs [] p a r st = let w = statement_walks [] a st in let e = w.parts in absurd cc
 phrase_runs (t ∷ ts) p a r st =
     let w = statement_walks (kinds (t ∷ ts)) a st in
@@ -146,15 +146,15 @@ phrase_runs (t ∷ ts) p a r st =
     named_runs t ts p w.name (Ends a) r (cc) (ap (walk (To (Named w.name))) others ∙ w.ends)
 
 -- `Rests p ts stmts`: the script `ts` leads from `p` to a position between statements, with `stmts`
-pub record Rests (p : Place) (ts : List Token) (stmts : List Stmt) : Type 0 where
-  pub place : Place
+pub record Rests (p : ScriptState) (ts : List Token) (stmts : List Stmt) : Type 0 where
+  pub place : ScriptState
   pub rests : IsResting place
   pub runs : run p ts ≡ Some (place, stmts)
 
 semicolon_after : (t : Token) → t.kind ≡ Semicolon → next Whole t ≡ Some (Start, None)
 semicolon_after t e = rw e refl
 
-pub script_runs : (ts : List Token) (stmts : List Stmt) → Script ts stmts → (p : Place) → IsResting p → Rests p ts stmts
+pub script_runs : (ts : List Token) (stmts : List Stmt) → Script ts stmts → (p : ScriptState) → IsResting p → Rests p ts stmts
 script_runs ts stmts no_stmts p r = record { place = p; rests = r; runs = refl }
 script_runs ts stmts (stmt_and phrase {rest = rest} {a = a} {stmts = others} st more) p r =
     let later = script_runs rest others more Whole tt in

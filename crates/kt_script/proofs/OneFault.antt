@@ -1,6 +1,6 @@
 -- Tokens that are not a script have exactly one fault.
 use Rattle.std.proofs.Common.{◌≡◌, ℕ, List, [], ◌∷◌, ◌++◌, Option, Some, refl, ap, sym, ◌∙◌, subst, append_assoc, ◌⊎◌, inl, inr, option_map}
-use Rattle.kt_script.proofs.Common.{append-nil, ScriptFault, Token, Kind, Place, Start, Within, Stmt, Action, State, Named, Step, To, Ends, Statement, kinds, first_line, placed, Script, Begins, fault_of, last, open_lines, end_fault, Misfit, Unfinished, IsFaultOf, step, run, IsResting}
+use Rattle.kt_script.proofs.Common.{append-nil, ScriptFault, Token, TokenKind, ScriptState, Start, Within, Stmt, Action, State, Named, Step, To, Ends, Statement, kinds, first_line, placed, Script, Begins, fault_of, last, open_lines, end_fault, Misfit, Unfinished, IsFaultOf, step, run, IsResting}
 use Rattle.kt_script.proofs.Complete.{walk, bind_some, joined, run-append, named_runs, statement_walks, script_runs}
 use Rattle.kt_script.proofs.Standing.{Script-append, one_stmt, begins_from, kinds-append}
 
@@ -43,11 +43,11 @@ misfit_unfinished ts f g m u = no_further ts f m m.rest (subst Begins m.parts (b
 
 -- ---- the end within a statement
 
-stepped : (q : State) (k : Kind) (ks : List Kind) (s to : Step) → step q k ≡ Some s → walk s ks ≡ Some to → walk (To q) (k ∷ ks) ≡ Some to
+stepped : (q : State) (k : TokenKind) (ks : List TokenKind) (s to : Step) → step q k ≡ Some s → walk s ks ≡ Some to → walk (To q) (k ∷ ks) ≡ Some to
 stepped q k ks s to is rest = rw is rest
 
 -- tokens that can be followed by another token lead to a state within the statement
-walk_front : (xs : List Kind) (k : Kind) (ys : List Kind) (s r : Step) → walk s (xs ++ k ∷ ys) ≡ Some r → (q : State) × (walk s xs ≡ Some (To q))
+walk_front : (xs : List TokenKind) (k : TokenKind) (ys : List TokenKind) (s r : Step) → walk s (xs ++ k ∷ ys) ≡ Some r → (q : State) × (walk s xs ≡ Some (To q))
 walk_front [] k ys (To q) r e = (q, refl)
 walk_front (x ∷ xs) k ys (To q) r e =
     let b = bind_some (step q x) (λ s. walk s (xs ++ k ∷ ys)) r e in
@@ -63,7 +63,7 @@ pub record Leads (ts : List Token) (line : ℕ) : Type 0 where
   pub runs : run Start ts ≡ Some (Within line state, done)
 
 -- the first tokens of a statement lead to a position within it
-phrase_leads : (t : Token) (b : List Token) (m : Token) (ms : List Token) (p : Place) (a : Action) → IsResting p → Statement (kinds ((t ∷ b) ++ m ∷ ms)) a
+phrase_leads : (t : Token) (b : List Token) (m : Token) (ms : List Token) (p : ScriptState) (a : Action) → IsResting p → Statement (kinds ((t ∷ b) ++ m ∷ ms)) a
     → (r : State) × (run p (t ∷ b) ≡ Some (Within t.line r, []))
 phrase_leads t b m ms p a rests st =
     let w = statement_walks (kinds ((t ∷ b) ++ m ∷ ms)) a st in
@@ -88,7 +88,7 @@ leads ts g u never (t ∷ b) (m ∷ ms) begun is =
     let whole : ts ≡ u.whole ++ t ∷ b = u.parts ∙ ap (λ (xs : List Token). u.whole ++ xs) begun in
     record { state = r.0; done = u.stmts ++ []; runs = ap (run Start) whole ∙ all }
 
-line_of : Option (Place × List Stmt) → ℕ
+line_of : Option (ScriptState × List Stmt) → ℕ
 line_of (Some (Within line q, done)) = line
 line_of _ = 0
 

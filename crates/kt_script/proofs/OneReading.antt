@@ -1,12 +1,12 @@
 -- The tokens of a text by the rules are the tokens that the lexer returns.
 use Rattle.std.proofs.Common.{◌≡◌, ℕ, suc, ◌+◌, ◌-◌, ◌<◌, Bool, true, false, cond, List, [], ◌∷◌, ◌++◌, length, drop, Option, Some, None, refl, ap, sym, subst, ◌∙◌, arith, length-append, IfSome}
-use Rattle.kt_script.proofs.Common.{prefix_len, take-append_seam, drop-append_seam, append-nil, Flaw, Kind, Token, is_space, token, broken, begins_with_letter, decimal_from, mark_of, line_after, line_past, Blank, space, line_comment, long_comment, HasFlaw, large_number, lettered_number, endless_string, bad_escape, endless_comment, leveled_comment, lone_dash, strange, Word, a_name, a_number, a_string, a_mark, no_word, IsTokens, the_end, blank_and, word_and, piece_at, tokens, tokens_in}
+use Rattle.kt_script.proofs.Common.{prefix_len, take-append_seam, drop-append_seam, append-nil, Flaw, TokenKind, Token, is_space, token, broken, begins_with_letter, decimal_from, mark_of, line_after, line_past, Blank, space, line_comment, long_comment, HasFlaw, large_number, lettered_number, endless_string, bad_escape, endless_comment, leveled_comment, lone_dash, strange, Word, a_name, a_number, a_string, a_mark, no_word, IsTokens, the_end, blank_and, word_and, piece_at, tokens, tokens_in}
 use Rattle.kt_script.proofs.PieceTokens.{tokens-end, tokens-piece}
 use Rattle.kt_script.proofs.ReadWords.{at_strange, every_mark, name_is, digits_are, number_is, large_is, lettered_is}
 use Rattle.kt_script.proofs.ReadStrings.{string_is, endless_is, bad_escape_is, long_is, endless_comment_is, leveled_is, line_is, dash_is}
 
 -- `IsRead bytes after kind`: `bytes`, followed by `after`, are read as one piece of `kind`
-pub record IsRead (bytes after : List ℕ) (kind : Option Kind) : Type 0 where
+pub record IsRead (bytes after : List ℕ) (kind : Option TokenKind) : Type 0 where
   pub piece : piece_at (bytes ++ after) ≡ record { length = length bytes; kind = kind }
   pub some : 0 < length bytes
 
@@ -25,19 +25,19 @@ mark_read : (c : ℕ) (after : List ℕ) → IfSome (mark_of c) (λ kind. piece_
 unfolding piece_at
 mark_read c after = every_mark (λ c kind. piece_at (c ∷ after) ≡ token 1 kind) refl refl refl refl refl refl refl refl refl refl c
 
-pub word_read : (bytes after : List ℕ) (kind : Kind) → Word bytes after kind → IsRead bytes after (Some kind)
+pub word_read : (bytes after : List ℕ) (kind : TokenKind) → Word bytes after kind → IsRead bytes after (Some kind)
 word_read bytes after kind (a_name {c = c} {cs = cs} {after = rest} letter each stop) = record { piece = name_is c cs rest letter each stop; some = omega arith }
 word_read bytes after kind (a_number {c = c} {cs = cs} {after = rest} each stop small) = record { piece = number_is c cs rest each stop small; some = omega arith }
 word_read bytes after kind (a_string {quote = q} {words = w} {bytes = b} {after = rest} quote inside) = record { piece = string_is q w b rest quote inside; some = omega arith }
 word_read bytes after kind (a_mark {c = c} {kind = k} {after = rest} is) =
-    record { piece = subst (λ (o : Option Kind). IfSome o (λ x. piece_at (c ∷ rest) ≡ token 1 x)) is (mark_read c rest); some = omega arith }
+    record { piece = subst (λ (o : Option TokenKind). IfSome o (λ x. piece_at (c ∷ rest) ≡ token 1 x)) is (mark_read c rest); some = omega arith }
 word_read bytes after kind (no_word {text = t} {flaw = f} flaw) =
     let r = flaw_read t f flaw in
     record { piece = ap piece_at (append-nil t) ∙ r.0; some = r.1 }
 
 -- ---- tokens
 
-read_step : (line : ℕ) (bytes after : List ℕ) (kind : Option Kind) → IsRead bytes after kind → tokens line 0 (bytes ++ after) ≡ tokens_in line kind ++ tokens (line_past line bytes) 0 after
+read_step : (line : ℕ) (bytes after : List ℕ) (kind : Option TokenKind) → IsRead bytes after kind → tokens line 0 (bytes ++ after) ≡ tokens_in line kind ++ tokens (line_past line bytes) 0 after
 read_step line bytes after kind r =
     tokens-piece line (bytes ++ after) (record { length = length bytes; kind = kind }) (sym r.piece) r.some (omega (arith, length-append bytes after))
     ∙ ap (λ (xs : List ℕ). tokens_in line kind ++ tokens (line_past line xs) 0 (drop (length bytes) (bytes ++ after))) (take-append_seam bytes after)

@@ -1,7 +1,7 @@
 -- A piece is not empty and ends at a character boundary: ASCII precedes or follows its end, or the
 -- text ends there.
 use Rattle.std.proofs.Common.{◌≡◌, ℕ, ◌+◌, ◌<◌, Bool, true, false, eqb, ◌||◌, List, [], ◌∷◌, ◌++◌, length, get_or, Option, Some, None, refl, ap, sym, subst, ◌∙◌, arith, append_assoc, length-append, inl, inr, IsUtf8}
-use Rattle.kt_script.proofs.Common.{nat_tests, append-nil, IsCharBoundary, prefix_len, eqb-true, not-false, IsCharBoundary-end, IsCharBoundary-after_ascii, IsCharBoundary-from_rest, Kind, Piece, is_space, is_word, is_digit, mark_of, piece_at, Each, StopsAt, in_line, Closes, not_yet, Blank, space, line_comment, long_comment, Word, a_name, a_number, a_string, a_mark, no_word}
+use Rattle.kt_script.proofs.Common.{nat_tests, append-nil, IsCharBoundary, prefix_len, eqb-true, not-false, IsCharBoundary-end, IsCharBoundary-after_ascii, IsCharBoundary-from_rest, TokenKind, Lexeme, is_space, is_word, is_digit, mark_of, piece_at, Each, StopsAt, in_line, Closes, not_yet, Blank, space, line_comment, long_comment, Word, a_name, a_number, a_string, a_mark, no_word}
 use Rattle.std.proofs.lemmas.List.{get_or_at}
 use Rattle.kt_script.specs.TokenRules.{closed}
 use Rattle.kt_script.proofs.Cuts.{passing_cut, stopping_cut, space_small, digit_small, word_small}
@@ -31,10 +31,10 @@ last_cut xs c after small u =
 
 -- ---- words
 
-mark_small : (c : ℕ) (kind : Kind) → mark_of c ≡ Some kind → c < 128
+mark_small : (c : ℕ) (kind : TokenKind) → mark_of c ≡ Some kind → c < 128
 mark_small c kind is = grind (arith, nat_tests, is)
 
-word_cut : (bytes after : List ℕ) (kind : Kind) → Word bytes after kind → IsUtf8 (bytes ++ after) → IsCharBoundary (bytes ++ after) (length bytes)
+word_cut : (bytes after : List ℕ) (kind : TokenKind) → Word bytes after kind → IsUtf8 (bytes ++ after) → IsCharBoundary (bytes ++ after) (length bytes)
 word_cut bytes after kind (a_name {c = c} {cs = cs} {after = rest} letter each stop) u =
     run_cut is_word word_small (c ∷ cs) rest (ap (λ (b : Bool). b || is_digit c) letter, each) stop u
 word_cut bytes after kind (a_number {c = c} {cs = cs} {after = rest} each stop small) u =
@@ -75,10 +75,10 @@ long_cut words after closes u =
 
 -- ---- pieces
 
-read_cut : (bytes after : List ℕ) (kind : Option Kind) → IsRead bytes after kind → IsCharBoundary (bytes ++ after) (length bytes)
+read_cut : (bytes after : List ℕ) (kind : Option TokenKind) → IsRead bytes after kind → IsCharBoundary (bytes ++ after) (length bytes)
     → IsCut (bytes ++ after) (piece_at (bytes ++ after)).length
 read_cut bytes after kind read boundary =
-    let e : length bytes ≡ (piece_at (bytes ++ after)).length = ap (λ (p : Piece). p.length) (sym read.piece) in
+    let e : length bytes ≡ (piece_at (bytes ++ after)).length = ap (λ (p : Lexeme). p.length) (sym read.piece) in
     record { some = subst (λ (n : ℕ). 0 < n) e read.some; boundary = subst (IsCharBoundary (bytes ++ after)) e boundary }
 
 -- the piece at a blank ends at a character boundary: consecutive spaces are one piece
@@ -102,5 +102,5 @@ some_cut (c ∷ cs) u some =
           subst (λ (xs : List ℕ). IsCut xs (piece_at xs).length) (sym w.parts) cut
     ]
 
-pub piece_cut : (piece : Piece) (text : List ℕ) → IsUtf8 text → 0 < length text → piece ≡ piece_at text → IsCut text piece.length
-piece_cut piece text u some is = subst (λ (p : Piece). IsCut text p.length) (sym is) (some_cut text u some)
+pub piece_cut : (piece : Lexeme) (text : List ℕ) → IsUtf8 text → 0 < length text → piece ≡ piece_at text → IsCut text piece.length
+piece_cut piece text u some is = subst (λ (p : Lexeme). IsCut text p.length) (sym is) (some_cut text u some)

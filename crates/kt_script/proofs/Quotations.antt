@@ -1,6 +1,6 @@
 -- The loop that reads a string: the bytes read so far and the rest.
 use Rattle.std.proofs.Common.{◌≡◌, ℕ, zero, suc, ◌+◌, ◌-◌, ◌<◌, ◌≤◌, false, List, [], ◌∷◌, ◌++◌, length, take, drop, get_or, Ok, Err, ap, sym, ◌∙◌, subst, arith, length-drop, IsUtf8}
-use Rattle.kt_script.proofs.Common.{nat_tests, chars, IsAscii, IsCharBoundary, prefix_len, append-nil, prefix_len-le-length, chars-nil, chars-append, chars-IsAscii, IsUtf8-nil, IsUtf8-append, IsUtf8-from_ascii, IsUtf8-take, IsUtf8-drop, IsCharBoundary-after_ascii, Flaw, Stop, Quote, Escape, Flawed, with_front, stop_at, string_at, decoded, is_plain}
+use Rattle.kt_script.proofs.Common.{nat_tests, chars, IsAscii, IsCharBoundary, prefix_len, append-nil, prefix_len-le-length, chars-nil, chars-append, chars-IsAscii, IsUtf8-nil, IsUtf8-append, IsUtf8-from_ascii, IsUtf8-take, IsUtf8-drop, IsCharBoundary-after_ascii, Flaw, StringStop, Quote, Escape, Flawed, with_front, stop_at, string_at, decoded, is_plain}
 use Rattle.kt_script.proofs.Cuts.{stopping_cut_at}
 use Rattle.kt_script.proofs.StringRuns.{with_front_twice, with_front_none, plain_run, no_more, after_stop, stops}
 
@@ -88,13 +88,13 @@ pub plain_cut : (quote n : ℕ) (rest bytes : List ℕ) → quote < 128 → n �
 plain_cut quote n rest bytes small n_is same = stopping_cut_at (is_plain quote) (plain_stops quote small) rest bytes n n_is same
 
 -- `Stops quote string after text stop`: `string` was read up to `after`, which begins with `stop`
-pub record Stops (quote : ℕ) (string after text : List ℕ) (stop : Stop) : Type 0 where
+pub record Stops (quote : ℕ) (string after text : List ℕ) (stop : StringStop) : Type 0 where
   pub reads : ReadsOn quote string after text
   pub none : prefix_len (is_plain quote) after ≡ 0
   pub utf8 : IsUtf8 after
   pub stands : stop_at quote after ≡ stop
 
-pub comes_to : (quote n : ℕ) (string rest text new plain after bytes front : List ℕ) (stop told : Stop) → quote < 128 → ReadsOn quote string rest text → IsUtf8 rest
+pub comes_to : (quote n : ℕ) (string rest text new plain after bytes front : List ℕ) (stop told : StringStop) → quote < 128 → ReadsOn quote string rest text → IsUtf8 rest
     → n ≡ prefix_len (is_plain quote) bytes → bytes ≡ rest → plain ≡ take n rest → after ≡ drop n rest → new ≡ string ++ chars plain
     → told ≡ stop_at quote front → front ≡ after → told ≡ stop → Stops quote new after text stop
 comes_to quote n string rest text new plain after bytes front stop told small h u n_is same plain_is after_is pushed told_is front_is is =

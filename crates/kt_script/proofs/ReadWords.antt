@@ -1,6 +1,6 @@
 -- `piece_at` returns the name or number at the beginning of a text.
 use Rattle.std.proofs.Common.{◌≡◌, ℕ, ◌+◌, ◌<◌, ◌≤◌, ◌^◌, Bool, true, false, cond, eqb, ◌||◌, List, [], ◌∷◌, ◌++◌, length, take, Option, Some, None, refl, ap, sym, subst, ◌∙◌, arith, IfSome}
-use Rattle.kt_script.proofs.Common.{nat_tests, or_parts, prefix_len, take-append_seam, drop-append_seam, eqb-true, Bad, Kind, Number, OpenParen, CloseParen, OpenBrace, CloseBrace, OpenBracket, CloseBracket, Equals, Comma, Semicolon, Dot, mark_of, is_space, is_letter, is_word, is_digit, decimal_from, fits, token, broken, word, Each, StopsAt, is_quote, IsStrange, name_at, number, number_at, begins_with_letter, quoted_at, comment_at, piece_at}
+use Rattle.kt_script.proofs.Common.{nat_tests, or_parts, prefix_len, take-append_seam, drop-append_seam, eqb-true, Bad, TokenKind, Number, OpenParen, CloseParen, OpenBrace, CloseBrace, OpenBracket, CloseBracket, Equals, Comma, Semicolon, Dot, mark_of, is_space, is_letter, is_word, is_digit, decimal_from, fits, token, broken, word, Each, StopsAt, is_quote, IsStrange, name_at, number, number_at, begins_with_letter, quoted_at, comment_at, piece_at}
 
 -- ---- classes
 
@@ -8,8 +8,8 @@ pub quote_range : (c : ℕ) → is_quote c ≡ true → (34 ≤ c) × (c ≤ 39)
 quote_range c e = (grind (arith, nat_tests, e), grind (arith, nat_tests, e))
 
 -- a property of each punctuation byte holds of a byte that is a punctuation token
-module _ (P : ℕ → Kind → Type 0) where
-  is_mark : (c n : ℕ) (kind : Kind) (b : Bool) (o : Option Kind) → eqb c n ≡ b → P n kind → IfSome o (P c) → IfSome (cond b (Some kind) o) (P c)
+module _ (P : ℕ → TokenKind → Type 0) where
+  is_mark : (c n : ℕ) (kind : TokenKind) (b : Bool) (o : Option TokenKind) → eqb c n ≡ b → P n kind → IfSome o (P c) → IfSome (cond b (Some kind) o) (P c)
   is_mark c n kind true o e here rest = subst (λ (x : ℕ). P x kind) (sym (eqb-true c n e)) here
   is_mark c n kind false o e here rest = rest
 

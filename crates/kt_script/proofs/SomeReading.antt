@@ -1,6 +1,6 @@
 -- Each text has tokens by the rules, and the lexer returns these tokens.
 use Rattle.std.proofs.Common.{◌≡◌, ℕ, zero, suc, ◌≤◌, Bool, true, false, eqb, ◌&&◌, List, [], ◌∷◌, ◌++◌, length, drop, Option, Some, None, refl, ap, sym, subst, ◌∙◌, arith, length-append, ◌⊎◌, inl, inr, nat_eq, codes}
-use Rattle.kt_script.proofs.Common.{starts_with, cases_Bool, eqb-true, Bad, Leveled, Endless, Kind, Token, is_space, is_letter, is_digit, mark_of, line_past, is_quote, in_line, Closes, not_yet, NeverCloses, opens_long, opens_level, space, line_comment, long_comment, endless_comment, leveled_comment, lone_dash, strange, a_mark, IsTokens, the_end, blank_and, word_and, tokens}
+use Rattle.kt_script.proofs.Common.{starts_with, cases_Bool, eqb-true, Bad, Leveled, Endless, TokenKind, Token, is_space, is_letter, is_digit, mark_of, line_past, is_quote, in_line, Closes, not_yet, NeverCloses, opens_long, opens_level, space, line_comment, long_comment, endless_comment, leveled_comment, lone_dash, strange, a_mark, IsTokens, the_end, blank_and, word_and, tokens}
 use Rattle.kt_script.specs.TokenRules.{closed}
 use Rattle.std.proofs.lemmas.Bool.Decides.{Decides-eqb}
 use Rattle.std.proofs.lemmas.Slice.Eq.{starts_is}
@@ -66,7 +66,7 @@ dash_first (c ∷ cs) = by_dash c cs (eqb 45 c) refl
 
 -- ---- any text
 
-mark_first : (c : ℕ) (cs : List ℕ) (o : Option Kind) → mark_of c ≡ o → is_space c ≡ false → is_letter c ≡ false → is_digit c ≡ false → is_quote c ≡ false → eqb c 45 ≡ false → WordFirst (c ∷ cs)
+mark_first : (c : ℕ) (cs : List ℕ) (o : Option TokenKind) → mark_of c ≡ o → is_space c ≡ false → is_letter c ≡ false → is_digit c ≡ false → is_quote c ≡ false → eqb c 45 ≡ false → WordFirst (c ∷ cs)
 mark_first c cs None m s l d q h = flawed (c ∷ cs) (c ∷ cs) Bad refl (omega arith) (strange (record { no_space = s; no_letter = l; no_digit = d; no_quote = q; no_dash = h; no_mark = m }))
 mark_first c cs (Some k) m s l d q h = record { front = c ∷ []; rest = cs; parts = refl; some = omega arith; kind = k; is = a_mark m }
 

@@ -1,28 +1,28 @@
 -- The parser is sound: accepted tokens are a script, and no script continues with a rejected token.
 use Rattle.std.proofs.Common.{◌≡◌, ℕ, List, [], ◌∷◌, ◌++◌, Option, Some, None, refl, ap, sym, ◌∙◌, subst, append_assoc, inl, inr, option_map}
-use Rattle.kt_script.proofs.Common.{append-nil, Token, Place, Start, Whole, Within, Stmt, State, Script, fault_of, last, open_lines, end_fault, IsFaultOf, step, next, option_to_list, run, IsResting}
+use Rattle.kt_script.proofs.Common.{append-nil, Token, ScriptState, Start, Whole, Within, Stmt, State, Script, fault_of, last, open_lines, end_fault, IsFaultOf, step, next, option_to_list, run, IsResting}
 use Rattle.kt_script.proofs.Complete.{joined, run-append, script_runs}
 use Rattle.kt_script.proofs.Standing.{Stands, whole_script, from_start, finished, stands_begins}
 use Rattle.std.proofs.lemmas.Option.{same_Some}
 
 -- ---- theorems
 
-resting_script : (p : Place) (ss : List Stmt) (ts : List Token) → IsResting p → Stands p ss ts → Script ts ss
+resting_script : (p : ScriptState) (ss : List Stmt) (ts : List Token) → IsResting p → Stands p ss ts → Script ts ss
 resting_script Start ss ts r h = h
 resting_script Whole ss ts r h = whole_script ss ts h
 resting_script (Within line q) ss ts r h = elim r [ ]
 
 -- tokens that lead to a position between statements are a script of the collected statements
-pub accepted : (ts : List Token) (p : Place) (ss : List Stmt) → run Start ts ≡ Some (p, ss) → IsResting p → Script ts ss
+pub accepted : (ts : List Token) (p : ScriptState) (ss : List Stmt) → run Start ts ≡ Some (p, ss) → IsResting p → Script ts ss
 accepted ts p ss e r = resting_script p ss ts r (from_start ts p ss e)
 
 -- the tokens of a script lead to a position between statements, with its statements
-pub only : (ts : List Token) (p : Place) (ss rs : List Stmt) → run Start ts ≡ Some (p, ss) → Script ts rs → IsResting p × (rs ≡ ss)
+pub only : (ts : List Token) (p : ScriptState) (ss rs : List Stmt) → run Start ts ≡ Some (p, ss) → Script ts rs → IsResting p × (rs ≡ ss)
 only ts p ss rs e script =
     let s = script_runs ts rs script Start tt in
     let same : (s.place, rs) ≡ (p, ss) = same_Some (s.place, rs) (p, ss) (sym s.runs ∙ e) in
-    let place : s.place ≡ p = ap (λ (x : Place × List Stmt). x.0) same in
-    (subst IsResting place s.rests, ap (λ (x : Place × List Stmt). x.1) same)
+    let place : s.place ≡ p = ap (λ (x : ScriptState × List Stmt). x.0) same in
+    (subst IsResting place s.rests, ap (λ (x : ScriptState × List Stmt). x.1) same)
 
 -- tokens are a script of at most one list of statements
 pub one_script : (ts : List Token) (ss rs : List Stmt) → Script ts ss → Script ts rs → ss ≡ rs
@@ -31,7 +31,7 @@ one_script ts ss rs first second =
     sym (only ts s.place ss rs s.runs second).1
 
 -- no script continues with a token that has no transition
-no_way_on : (front : List Token) (t : Token) (rest : List Token) (p : Place) (ss rs : List Stmt) → run Start front ≡ Some (p, ss) → next p t ≡ None
+no_way_on : (front : List Token) (t : Token) (rest : List Token) (p : ScriptState) (ss rs : List Stmt) → run Start front ≡ Some (p, ss) → next p t ≡ None
     → Script (front ++ t ∷ rest) rs → ⊥
 no_way_on front t rest p ss rs e stuck script =
     let s = script_runs (front ++ t ∷ rest) rs script Start tt in
@@ -42,7 +42,7 @@ no_way_on front t rest p ss rs e stuck script =
     cc
 
 -- the fault of the first token without a transition is the fault of the tokens
-pub misfit : (front : List Token) (t : Token) (rest : List Token) (p : Place) (ss : List Stmt) → run Start front ≡ Some (p, ss) → next p t ≡ None
+pub misfit : (front : List Token) (t : Token) (rest : List Token) (p : ScriptState) (ss : List Stmt) → run Start front ≡ Some (p, ss) → next p t ≡ None
     → IsFaultOf (front ++ t ∷ rest) (fault_of t)
 misfit front t rest p ss e stuck = record {
   no_script = λ rs script. no_way_on front t rest p ss rs e stuck script;
@@ -79,7 +79,7 @@ unfinished ts line q ss e =
     }
 
 -- `run` over an appended token is the transition of that token
-pub run-push : (front : List Token) (t : Token) (p : Place) (ss : List Stmt) (to : Place × Option Stmt) → run Start front ≡ Some (p, ss) → next p t ≡ Some to
+pub run-push : (front : List Token) (t : Token) (p : ScriptState) (ss : List Stmt) (to : ScriptState × Option Stmt) → run Start front ≡ Some (p, ss) → next p t ≡ Some to
     → run Start (front ++ t ∷ []) ≡ Some (to.0, ss ++ option_to_list to.1)
 run-push front t p ss to e step =
     run-append front Start p (t ∷ []) ss e ∙ rw (step, append-nil) refl

@@ -1,6 +1,6 @@
 -- The meaning of a parser's position: a script is complete, or a statement has begun.
 use Rattle.std.proofs.Common.{◌≡◌, ℕ, List, [], ◌∷◌, ◌++◌, Option, Some, None, refl, ap, sym, ◌∙◌, subst, append_assoc, ◌⊎◌, inl, inr, option_map}
-use Rattle.kt_script.proofs.Common.{append-nil, Token, Kind, Name, Semicolon, Place, Start, Whole, Within, Stmt, Action, State, Named, Step, To, Ends, Statement, kinds, placed, Script, no_stmts, stmt_and, ended_and, Begins, step, begin, go_on, next, landed, option_to_list, run}
+use Rattle.kt_script.proofs.Common.{append-nil, Token, TokenKind, Name, Semicolon, ScriptState, Start, Whole, Within, Stmt, Action, State, Named, Step, To, Ends, Statement, kinds, placed, Script, no_stmts, stmt_and, ended_and, Begins, step, begin, go_on, next, landed, option_to_list, run}
 use Rattle.kt_script.proofs.Complete.{walk, bind_some, map_some, joined}
 use Rattle.kt_script.proofs.Ending.{walk-append, statement_is, some_end}
 use Rattle.std.proofs.lemmas.List.{map-append}
@@ -41,7 +41,7 @@ pub record WholeAt (done : List Stmt) (ts : List Token) : Type 0 where
   pub begun : Begun (Ends action) earlier ts
   pub stmts : done ≡ earlier ++ placed (begun.first ∷ begun.others) action ∷ []
 
-abbrev pub Stands : Place → List Stmt → List Token → Type 0
+abbrev pub Stands : ScriptState → List Stmt → List Token → Type 0
 Stands Start done ts = Script ts done
 Stands Whole done ts = WholeAt done ts
 Stands (Within line q) done ts = (b : Begun (To q) done ts) × (b.first.line ≡ line)
@@ -66,11 +66,11 @@ enters : (done : List Stmt) (ts : List Token) (t : Token) (n : List ℕ) → Scr
 enters done ts t n script is =
     (record { before = ts; first = t; others = []; parts = refl; script = rw append-nil script; name = n; named = is; leads = refl }, refl)
 
-begin_is : (line : ℕ) (k : Kind) (to : Place × Option Stmt) → begin line k ≡ Some to → (n : List ℕ) × (k ≡ Name n) × (to ≡ (Within line (Named n), None))
+begin_is : (line : ℕ) (k : TokenKind) (to : ScriptState × Option Stmt) → begin line k ≡ Some to → (n : List ℕ) × (k ≡ Name n) × (to ≡ (Within line (Named n), None))
 begin_is line (Name n) to e = (n, refl, sym (same_Some (Within line (Named n), None) to e))
 begin_is line _ to e = absurd cc
 
-go_on_is : (line : ℕ) (k : Kind) (to : Place × Option Stmt) → go_on line k ≡ Some to
+go_on_is : (line : ℕ) (k : TokenKind) (to : ScriptState × Option Stmt) → go_on line k ≡ Some to
     → ((n : List ℕ) × (k ≡ Name n) × (to ≡ (Within line (Named n), None))) ⊎ ((k ≡ Semicolon) × (to ≡ (Start, None)))
 go_on_is line (Name n) to e = inl (n, refl, sym (same_Some (Within line (Named n), None) to e))
 go_on_is line Semicolon to e = inr (refl, sym (same_Some (Start, None) to e))
@@ -101,11 +101,11 @@ lands (Ends a) line q done ts t b e =
     let c = goes_on q (Ends a) done ts t b.0 e in
     record { action = a; earlier = done; begun = c.0; stmts = ap (λ (n : ℕ). done ++ record { line = n; action = a } ∷ []) (sym (c.1 ∙ b.1)) }
 
-at_place : (to : Place × Option Stmt) (done : List Stmt) (ts : List Token) (made : Place × Option Stmt) → to ≡ made
+at_place : (to : ScriptState × Option Stmt) (done : List Stmt) (ts : List Token) (made : ScriptState × Option Stmt) → to ≡ made
     → Stands made.0 (done ++ option_to_list made.1) ts → Stands to.0 (done ++ option_to_list to.1) ts
-at_place to done ts made e h = subst (λ (x : Place × Option Stmt). Stands x.0 (done ++ option_to_list x.1) ts) (sym e) h
+at_place to done ts made e h = subst (λ (x : ScriptState × Option Stmt). Stands x.0 (done ++ option_to_list x.1) ts) (sym e) h
 
-stands_next : (p : Place) (done : List Stmt) (ts : List Token) (t : Token) (to : Place × Option Stmt) → Stands p done ts → next p t ≡ Some to
+stands_next : (p : ScriptState) (done : List Stmt) (ts : List Token) (t : Token) (to : ScriptState × Option Stmt) → Stands p done ts → next p t ≡ Some to
     → Stands to.0 (done ++ option_to_list to.1) (ts ++ t ∷ [])
 stands_next Start done ts t to h e =
     let b = begin_is t.line t.kind to e in
@@ -119,28 +119,28 @@ stands_next (Within line q) done ts t to h e =
     let m = map_some (step q t.kind) (landed line) to e in
     at_place to done (ts ++ t ∷ []) (landed line m.0) (sym m.2) (lands m.0 line q done ts t h m.1)
 
-stands_run : (ts : List Token) (p q : Place) (done ss : List Stmt) (front : List Token) → Stands p done front → run p ts ≡ Some (q, ss) → Stands q (done ++ ss) (front ++ ts)
+stands_run : (ts : List Token) (p q : ScriptState) (done ss : List Stmt) (front : List Token) → Stands p done front → run p ts ≡ Some (q, ss) → Stands q (done ++ ss) (front ++ ts)
 stands_run [] p q done ss front h e =
     let same = same_Some (p, []) (q, ss) e in
     let here : Stands p (done ++ []) (front ++ []) = rw (append-nil, append-nil) h in
-    subst (λ (x : Place × List Stmt). Stands x.0 (done ++ x.1) (front ++ [])) same here
+    subst (λ (x : ScriptState × List Stmt). Stands x.0 (done ++ x.1) (front ++ [])) same here
 stands_run (t ∷ ts) p q done ss front h e =
     let b = bind_some (next p t) (λ to. option_map (joined (option_to_list to.1)) (run to.0 ts)) (q, ss) e in
     let m = map_some (run b.0.0 ts) (joined (option_to_list b.0.1)) (q, ss) b.2 in
     let here = stands_next p done front t b.0 h b.1 in
     let later : Stands m.0.0 ((done ++ option_to_list b.0.1) ++ m.0.1) ((front ++ t ∷ []) ++ ts) = stands_run ts b.0.0 m.0.0 (done ++ option_to_list b.0.1) m.0.1 (front ++ t ∷ []) here m.1 in
     let regrouped : Stands m.0.0 (done ++ (option_to_list b.0.1 ++ m.0.1)) (front ++ t ∷ ts) = rw (append_assoc, append_assoc) at later in
-    subst (λ (x : Place × List Stmt). Stands x.0 (done ++ x.1) (front ++ t ∷ ts)) m.2 regrouped
+    subst (λ (x : ScriptState × List Stmt). Stands x.0 (done ++ x.1) (front ++ t ∷ ts)) m.2 regrouped
 
-pub from_start : (ts : List Token) (q : Place) (ss : List Stmt) → run Start ts ≡ Some (q, ss) → Stands q ss ts
+pub from_start : (ts : List Token) (q : ScriptState) (ss : List Stmt) → run Start ts ≡ Some (q, ss) → Stands q ss ts
 from_start ts q ss e = stands_run ts Start q [] ss [] no_stmts e
 
 -- ---- each position has a script that continues from it
 
 -- tokens of the kinds `ks` exist
-tokens_with : (ks : List Kind) → (ts : List Token) × (kinds ts ≡ ks)
+tokens_with : (ks : List TokenKind) → (ts : List Token) × (kinds ts ≡ ks)
 tokens_with [] = ([], refl)
-tokens_with (k ∷ ks) = let r = tokens_with ks in (record { line = 0; kind = k } ∷ r.0, ap (λ (x : List Kind). k ∷ x) r.1)
+tokens_with (k ∷ ks) = let r = tokens_with ks in (record { line = 0; kind = k } ∷ r.0, ap (λ (x : List TokenKind). k ∷ x) r.1)
 
 -- a statement that has begun can be completed
 pub finished : (q : State) (done : List Stmt) (ts : List Token) (b : Begun (To q) done ts)
@@ -148,7 +148,7 @@ pub finished : (q : State) (done : List Stmt) (ts : List Token) (b : Begun (To q
 finished q done ts b =
     let end = some_end q in
     let more = tokens_with end.0 in
-    let same : kinds (b.others ++ more.0) ≡ kinds b.others ++ end.0 = kinds-append b.others more.0 ∙ ap (λ (ks : List Kind). kinds b.others ++ ks) more.1 in
+    let same : kinds (b.others ++ more.0) ≡ kinds b.others ++ end.0 = kinds-append b.others more.0 ∙ ap (λ (ks : List TokenKind). kinds b.others ++ ks) more.1 in
     let leads = ap (walk (To (Named b.name))) same ∙ walk-append (kinds b.others) end.0 (To (Named b.name)) (To q) b.leads ∙ end.2 in
     (more.0, end.1, rw b.named (statement_is b.name (kinds (b.others ++ more.0)) end.1 leads))
 
@@ -157,7 +157,7 @@ begins_from before begun ts more done a parts script st =
     let all : Script (before ++ (begun ++ more)) (done ++ placed (begun ++ more) a ∷ []) = Script-append before (begun ++ more) done (placed (begun ++ more) a ∷ []) script (one_stmt (begun ++ more) a st) in
     (more, done ++ placed (begun ++ more) a ∷ [], rw (parts, append_assoc) all)
 
-pub stands_begins : (p : Place) (done : List Stmt) (ts : List Token) → Stands p done ts → Begins ts
+pub stands_begins : (p : ScriptState) (done : List Stmt) (ts : List Token) → Stands p done ts → Begins ts
 stands_begins Start done ts h = ([], done, rw append-nil h)
 stands_begins Whole done ts h = ([], done, rw append-nil (whole_script done ts h))
 stands_begins (Within line q) done ts b =

@@ -1,6 +1,6 @@
 -- A string as runs of plain bytes with stops between them.
 use Rattle.std.proofs.Common.{◌≡◌, ℕ, suc, ◌+◌, Bool, true, false, eqb, List, [], ◌∷◌, ◌++◌, take, drop, Option, Some, None, Result, Ok, Err, refl, ap, sym, ◌∙◌, append_assoc, arith, inl, inr}
-use Rattle.kt_script.proofs.Common.{nat_tests, prefix_len, cases_Bool, Flaw, Stop, Quote, Escape, Flawed, with_front, escaped, escape_stop, escape_at, stop_at, string_at, escape_of, is_plain}
+use Rattle.kt_script.proofs.Common.{nat_tests, prefix_len, cases_Bool, Flaw, StringStop, Quote, Escape, Flawed, with_front, escaped, escape_stop, escape_at, stop_at, string_at, escape_of, is_plain}
 
 pub with_front_twice : (xs ys : List ℕ) (n m : ℕ) (r : Result (List ℕ × ℕ) Flaw) → with_front xs n (with_front ys m r) ≡ with_front (xs ++ ys) (n + m) r
 with_front_twice xs ys n m r = grind (arith, append_assoc {A = ℕ})
@@ -46,7 +46,7 @@ no_more p (c ∷ cs) =
 -- ---- the stop after plain bytes
 
 -- `after_stop quote text stop`: the string from `stop` on, at the beginning of `text`
-abbrev pub after_stop : ℕ → List ℕ → Stop → Result (List ℕ × ℕ) Flaw
+abbrev pub after_stop : ℕ → List ℕ → StringStop → Result (List ℕ × ℕ) Flaw
 after_stop quote text Quote = Ok ([], 1)
 after_stop quote text (Flawed flaw) = Err flaw
 after_stop quote text (Escape c) = with_front (c ∷ []) 2 (string_at quote false (drop 2 text))

@@ -1,6 +1,6 @@
 -- Texts that begin with a name, a number or a string.
 use Rattle.std.proofs.Common.{◌≡◌, ℕ, ◌<◌, ◌^◌, Bool, true, false, eqb, not, ◌||◌, List, [], ◌∷◌, ◌++◌, length, Option, Some, None, refl, ap, sym, subst, ◌∙◌, arith, append_assoc, inl, inr}
-use Rattle.kt_script.proofs.Common.{cases_Bool, cases_lt, eqb-true, append-nil, Flaw, Bad, Endless, Kind, Broken, is_letter, is_word, escape_of, is_plain, is_digit, decimal_from, Each, StopsAt, is_quote, in_line, Inside, nothing, itself, escape, NoEscape, Blank, HasFlaw, large_number, lettered_number, endless_string, bad_escape, Word, a_name, a_number, a_string, no_word}
+use Rattle.kt_script.proofs.Common.{cases_Bool, cases_lt, eqb-true, append-nil, Flaw, Bad, Endless, TokenKind, Broken, is_letter, is_word, escape_of, is_plain, is_digit, decimal_from, Each, StopsAt, is_quote, in_line, Inside, nothing, itself, escape, NoEscape, Blank, HasFlaw, large_number, lettered_number, endless_string, bad_escape, Word, a_name, a_number, a_string, no_word}
 
 -- ---- the first piece of a text
 
@@ -16,7 +16,7 @@ pub record WordFirst (text : List ℕ) : Type 0 where
   pub rest : List ℕ
   pub parts : text ≡ front ++ rest
   pub some : 0 < length front
-  pub kind : Kind
+  pub kind : TokenKind
   pub is : Word front rest kind
 
 -- `Run p text`: `text` is a run of bytes that satisfy `p`, followed by the rest

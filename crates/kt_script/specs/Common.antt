@@ -15,6 +15,6 @@ pub use Rattle.kt_script.specs.Letters.{escape_of, is_letter, is_plain, is_word}
 pub use Rattle.kt_script.specs.Spelling.{Answers, IsAnswer, IsDue, Refuses, Spells, limit}
 pub use Rattle.kt_script.specs.TokenRules.{IsTokens, is_level, line_past, mark_of, word}
 pub use Rattle.kt_script.specs.declared.fault.ScriptFault.{ScriptFault}
-pub use Rattle.kt_script.specs.declared.place.Place.TheVariants.{Start}
+pub use Rattle.kt_script.specs.declared.script_state.ScriptState.TheVariants.{Start}
 pub use Rattle.kt_script.specs.declared.syntax.Stmt.{Stmt}
 pub use Rattle.kt_script.specs.declared.token.Token.{Token}

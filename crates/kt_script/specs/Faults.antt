@@ -1,6 +1,6 @@
 -- The faults of tokens that are not a script.
 use Rattle.std.specs.Prelude.{◌≡◌, ℕ, ◌-◌, length, take, slice_get, List, [], ◌∷◌, ◌++◌, Option, Some, None, Result, Ok, Err, ◌⊎◌}
-use Rattle.kt_script.specs.Types.{Action, Bad, BadToken, Broken, CloseBrace, CloseBracket, CloseParen, Endless, Kind, NoMemory, NotLiteral, OpenBrace, OpenBracket, OpenParen, ScriptFault, Stmt, Token, Unclosed}
+use Rattle.kt_script.specs.Types.{Action, Bad, BadToken, Broken, CloseBrace, CloseBracket, CloseParen, Endless, TokenKind, NoMemory, NotLiteral, OpenBrace, OpenBracket, OpenParen, ScriptFault, Stmt, Token, Unclosed}
 use Rattle.kt_script.specs.Grammar.{Statement, Script, kinds, first_line}
 
 -- `IfFault result P`: if `result` is a fault other than a failed allocation, `P` holds of the
@@ -15,7 +15,7 @@ abbrev pub Begins : List Token → Type 0
 Begins ts = (more : List Token) × (stmts : List Stmt) × Script (ts ++ more) stmts
 
 -- `own_fault line kind`: the fault of a token of `kind` on `line` that no script allows.
-abbrev pub own_fault : ℕ → Kind → ScriptFault
+abbrev pub own_fault : ℕ → TokenKind → ScriptFault
 own_fault line (Broken Bad) = BadToken line
 own_fault line (Broken Endless) = Unclosed line
 own_fault line _ = NotLiteral line
@@ -45,7 +45,7 @@ without_last lines = take (length lines - 1) lines
 
 -- `after_bracket lines line kind`: the lines of the open brackets after a token of `kind` on
 -- `line`. They were `lines` before.
-abbrev pub after_bracket : List ℕ → ℕ → Kind → List ℕ
+abbrev pub after_bracket : List ℕ → ℕ → TokenKind → List ℕ
 after_bracket lines line OpenParen = lines ++ line ∷ []
 after_bracket lines line OpenBrace = lines ++ line ∷ []
 after_bracket lines line OpenBracket = lines ++ line ∷ []

@@ -1,19 +1,19 @@
 -- The grammar of scripts, by cases.
 use Rattle.std.specs.Prelude.{◌≡◌, ℕ, List, [], ◌∷◌, ◌++◌, map}
-use Rattle.kt_script.specs.Types.{Action, Assign, Call, CloseBrace, CloseBracket, CloseParen, Comma, Dot, Equals, Kind, Literal, Name, Number, OpenBrace, OpenBracket, OpenParen, Pair, Quoted, Semicolon, Stmt, Token, Truth}
+use Rattle.kt_script.specs.Types.{Action, Assign, Call, CloseBrace, CloseBracket, CloseParen, Comma, Dot, Equals, TokenKind, Literal, Name, Number, OpenBrace, OpenBracket, OpenParen, Pair, Quoted, Semicolon, Stmt, Token, Truth}
 use Rattle.kt_script.specs.declared.syntax.Literal.TheVariants as literal
 use Rattle.kt_script.specs.declared.syntax.Arg.TheVariants.{Value, Table}
 
 -- `token_of v`: the token of the value `v`.
 -- value = string | number | "true" | "false"
-abbrev pub token_of : Literal → Kind
+abbrev pub token_of : Literal → TokenKind
 token_of (literal.Text t) = Quoted t
 token_of (literal.Number n) = Number n
 token_of (literal.Truth b) = Truth b
 
 -- `Key words key`: the tokens `words` are a key of a table, whose text is `key`.
 -- key = name | "[" string "]"
-pub data Key : List Kind → List ℕ → Type 0 where
+pub data Key : List TokenKind → List ℕ → Type 0 where
   by_name : (n : List ℕ) → Key (Name n ∷ []) n
   by_text : (t : List ℕ) → Key (OpenBracket ∷ Quoted t ∷ CloseBracket ∷ []) t
 
@@ -23,39 +23,39 @@ pair key v = record { name = key; value = v }
 
 -- `Separator kind`: a token of `kind` separates the pairs of a table.
 -- separator = "," | ";"
-pub data Separator : Kind → Type 0 where
+pub data Separator : TokenKind → Type 0 where
   comma : Separator Comma
   semicolon : Separator Semicolon
 
 -- `Pairs words pairs`: the tokens `words` between the braces of a table are `pairs`.
 -- pairs = [ pair { ("," | ";") pair } [ "," | ";" ] ], pair = (name | "[" string "]") "=" value
-pub data Pairs : List Kind → List Pair → Type 0 where
+pub data Pairs : List TokenKind → List Pair → Type 0 where
   no_pairs : Pairs [] []
-  last_pair : {words : List Kind} {key : List ℕ} → Key words key → (v : Literal) → Pairs (words ++ Equals ∷ token_of v ∷ []) (pair key v ∷ [])
-  pair_and : {words rest : List Kind} {key : List ℕ} {s : Kind} {pairs : List Pair} → Key words key → (v : Literal) → Separator s → Pairs rest pairs
+  last_pair : {words : List TokenKind} {key : List ℕ} → Key words key → (v : Literal) → Pairs (words ++ Equals ∷ token_of v ∷ []) (pair key v ∷ [])
+  pair_and : {words rest : List TokenKind} {key : List ℕ} {s : TokenKind} {pairs : List Pair} → Key words key → (v : Literal) → Separator s → Pairs rest pairs
       → Pairs (words ++ Equals ∷ token_of v ∷ s ∷ rest) (pair key v ∷ pairs)
 
 -- `Parts words parts`: the tokens `words` after the first name of a path are its other `parts`.
 -- parts = { "." name | "[" string "]" }
-pub data Parts : List Kind → List (List ℕ) → Type 0 where
+pub data Parts : List TokenKind → List (List ℕ) → Type 0 where
   no_parts : Parts [] []
-  named_part : {words : List Kind} {parts : List (List ℕ)} (n : List ℕ) → Parts words parts → Parts (Dot ∷ Name n ∷ words) (n ∷ parts)
-  quoted_part : {words : List Kind} {parts : List (List ℕ)} (t : List ℕ) → Parts words parts → Parts (OpenBracket ∷ Quoted t ∷ CloseBracket ∷ words) (t ∷ parts)
+  named_part : {words : List TokenKind} {parts : List (List ℕ)} (n : List ℕ) → Parts words parts → Parts (Dot ∷ Name n ∷ words) (n ∷ parts)
+  quoted_part : {words : List TokenKind} {parts : List (List ℕ)} (t : List ℕ) → Parts words parts → Parts (OpenBracket ∷ Quoted t ∷ CloseBracket ∷ words) (t ∷ parts)
 
 -- `Statement words action`: the tokens `words` are a statement with this `action`.
 -- stmt = name "(" (value | table) ")" | name string | name table | path "=" value
-pub data Statement : List Kind → Action → Type 0 where
+pub data Statement : List TokenKind → Action → Type 0 where
   call : (n : List ℕ) (v : Literal) → Statement (Name n ∷ OpenParen ∷ token_of v ∷ CloseParen ∷ []) (Call n (Value v))
-  call_table : {words : List Kind} {pairs : List Pair} (n : List ℕ) → Pairs words pairs
+  call_table : {words : List TokenKind} {pairs : List Pair} (n : List ℕ) → Pairs words pairs
       → Statement (Name n ∷ OpenParen ∷ OpenBrace ∷ words ++ CloseBrace ∷ CloseParen ∷ []) (Call n (Table pairs))
   call_text : (n t : List ℕ) → Statement (Name n ∷ Quoted t ∷ []) (Call n (Value (literal.Text t)))
-  bare_table : {words : List Kind} {pairs : List Pair} (n : List ℕ) → Pairs words pairs
+  bare_table : {words : List TokenKind} {pairs : List Pair} (n : List ℕ) → Pairs words pairs
       → Statement (Name n ∷ OpenBrace ∷ words ++ CloseBrace ∷ []) (Call n (Table pairs))
-  assign : {words : List Kind} {parts : List (List ℕ)} (n : List ℕ) → Parts words parts → (v : Literal)
+  assign : {words : List TokenKind} {parts : List (List ℕ)} (n : List ℕ) → Parts words parts → (v : Literal)
       → Statement (Name n ∷ words ++ Equals ∷ token_of v ∷ []) (Assign (n ∷ parts) v)
 
 -- `kinds ts`: the kinds of the tokens `ts`.
-abbrev pub kinds : List Token → List Kind
+abbrev pub kinds : List Token → List TokenKind
 kinds ts = map (λ t. t.kind) ts
 
 -- `first_line ts`: the line of the first of the tokens `ts`, or 0 if there are no tokens.

@@ -1,13 +1,13 @@
 -- The rules for the tokens of a text. A text is a sequence of white space, comments and tokens.
 use Rattle.std.specs.Prelude.{◌≡◌, ℕ, ◌+◌, ◌<◌, ◌≤◌, ◌^◌, ◌==◌, ◌||◌, ◌&&◌, Bool, true, false, not, nat_eq, bytes_eq, codes, List, [], ◌∷◌, ◌++◌, drop, Option, Some, None, chars, if◌then◌else◌}
 use Rattle.std.specs.List.{starts_with, prefix_len}
-use Rattle.kt_script.specs.Types.{Bad, Broken, CloseBrace, CloseBracket, CloseParen, Comma, Dot, Endless, Equals, Flaw, Kind, Leveled, Name, Number, OpenBrace, OpenBracket, OpenParen, Quoted, Semicolon, Token, Truth}
+use Rattle.kt_script.specs.Types.{Bad, Broken, CloseBrace, CloseBracket, CloseParen, Comma, Dot, Endless, Equals, Flaw, TokenKind, Leveled, Name, Number, OpenBrace, OpenBracket, OpenParen, Quoted, Semicolon, Token, Truth}
 use Rattle.kt_base.specs.Characters.{is_space}
 use Rattle.kt_base.specs.Digits.{is_digit, decimal_from}
 use Rattle.kt_script.specs.Letters.{is_letter, is_word, is_plain, escape_of}
 
 -- `mark_of c`: the token of the byte `c`, if it is one of `( ) { } [ ] = , ; .`
-abbrev pub mark_of : ℕ → Option Kind
+abbrev pub mark_of : ℕ → Option TokenKind
 mark_of c =
     if c == 40 then Some OpenParen else if c == 41 then Some CloseParen
     else if c == 123 then Some OpenBrace else if c == 125 then Some CloseBrace
@@ -17,7 +17,7 @@ mark_of c =
     else None
 
 -- `word letters`: the token of `letters`: a truth value or a name.
-abbrev pub word : List ℕ → Kind
+abbrev pub word : List ℕ → TokenKind
 word letters = if bytes_eq letters (codes "true") then Truth true else if bytes_eq letters (codes "false") then Truth false else Name (chars letters)
 
 -- `is_level text`: `text` begins with one or more `=`, followed by `[`.
@@ -108,16 +108,16 @@ pub data HasFlaw : List ℕ → Flaw → Type 0 where
   strange : {c : ℕ} {cs : List ℕ} → IsStrange c → HasFlaw (c ∷ cs) Bad
 
 -- `Word bytes after kind`: `bytes`, which are followed by `after`, are a token of `kind`.
-pub data Word : List ℕ → List ℕ → Kind → Type 0 where
+pub data Word : List ℕ → List ℕ → TokenKind → Type 0 where
   a_name : {c : ℕ} {cs after : List ℕ} → is_letter c ≡ true → Each is_word cs → StopsAt is_word after → Word (c ∷ cs) after (word (c ∷ cs))
   a_number : {c : ℕ} {cs after : List ℕ} → Each is_digit (c ∷ cs) → StopsAt is_word after → decimal_from 0 (c ∷ cs) < 2 ^ 64 → Word (c ∷ cs) after (Number (decimal_from 0 (c ∷ cs)))
   a_string : {quote : ℕ} {words bytes after : List ℕ} → is_quote quote ≡ true → Inside quote words bytes → Word (quote ∷ words ++ quote ∷ []) after (Quoted (chars bytes))
-  a_mark : {c : ℕ} {kind : Kind} {after : List ℕ} → mark_of c ≡ Some kind → Word (c ∷ []) after kind
+  a_mark : {c : ℕ} {kind : TokenKind} {after : List ℕ} → mark_of c ≡ Some kind → Word (c ∷ []) after kind
   no_word : {text : List ℕ} {flaw : Flaw} → HasFlaw text flaw → Word text [] (Broken flaw)
 
 -- `IsTokens line text ts`: the text `text`, which begins on `line`, has the tokens `ts`.
 pub data IsTokens : ℕ → List ℕ → List Token → Type 0 where
   the_end : {line : ℕ} → IsTokens line [] []
   blank_and : {line : ℕ} {blank rest : List ℕ} {ts : List Token} → Blank blank rest → IsTokens (line_past line blank) rest ts → IsTokens line (blank ++ rest) ts
-  word_and : {line : ℕ} {bytes rest : List ℕ} {kind : Kind} {ts : List Token} → Word bytes rest kind → IsTokens (line_past line bytes) rest ts
+  word_and : {line : ℕ} {bytes rest : List ℕ} {kind : TokenKind} {ts : List Token} → Word bytes rest kind → IsTokens (line_past line bytes) rest ts
       → IsTokens line (bytes ++ rest) (record { line = line; kind = kind } ∷ ts)

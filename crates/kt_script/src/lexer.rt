@@ -4,7 +4,7 @@ ghost use Rattle.std.specs.Prelude.{◌≡◌, ℕ, ◌≤◌, length, IfOk, ◌
 ghost use Rattle.kt_script.specs.Common.{prefix_len, is_space, mark_of, piece_at, closes_at, comment_at, is_level, number_at};
 
 use crate::quotation::quoted;
-use crate::token::{Flaw, Kind, Piece};
+use crate::token::{Flaw, Lexeme, TokenKind};
 use crate::words::{is_letter, is_space, name};
 use kt_base::{NoMemory, decimal_up_to, digits_length, is_digit, line_length};
 use std::alloc::Global;
@@ -43,22 +43,22 @@ fn is_level(text: &[u8]) -> bool
 }
 
 /// Returns the comment at the beginning of `text`, or a broken token if it is not a comment.
-pub fn comment(text: &[u8]) -> Piece
+pub fn comment(text: &[u8]) -> Lexeme
     ensures { result ≡ comment_at text.now }
 {
     if text.starts_with(b"--[[") {
         return match closes(&text[4..]) {
-            None => Piece::broken(text, Flaw::Endless),
-            Some(end) => Piece::blank(end + 4),
+            None => Lexeme::broken(text, Flaw::Endless),
+            Some(end) => Lexeme::blank(end + 4),
         };
     }
     if text.starts_with(b"--[") && is_level(&text[3..]) {
-        return Piece::broken(text, Flaw::Leveled);
+        return Lexeme::broken(text, Flaw::Leveled);
     }
     if text.starts_with(b"--") {
-        return Piece::blank(2 + line_length(&text[2..]));
+        return Lexeme::blank(2 + line_length(&text[2..]));
     }
-    Piece::broken(text, Flaw::Bad)
+    Lexeme::broken(text, Flaw::Bad)
 }
 
 /// Returns the number of white space bytes at the beginning of `text`.
@@ -70,20 +70,20 @@ fn space_length(text: &[u8]) -> usize
 }
 
 /// Returns the punctuation token of the byte `c`, or `None` for another byte.
-fn mark(c: u8) -> Option<Kind>
+fn mark(c: u8) -> Option<TokenKind>
     ensures { result ≡ mark_of c }
 {
     match c {
-        b'(' => Some(Kind::OpenParen),
-        b')' => Some(Kind::CloseParen),
-        b'{' => Some(Kind::OpenBrace),
-        b'}' => Some(Kind::CloseBrace),
-        b'[' => Some(Kind::OpenBracket),
-        b']' => Some(Kind::CloseBracket),
-        b'=' => Some(Kind::Equals),
-        b',' => Some(Kind::Comma),
-        b';' => Some(Kind::Semicolon),
-        b'.' => Some(Kind::Dot),
+        b'(' => Some(TokenKind::OpenParen),
+        b')' => Some(TokenKind::CloseParen),
+        b'{' => Some(TokenKind::OpenBrace),
+        b'}' => Some(TokenKind::CloseBrace),
+        b'[' => Some(TokenKind::OpenBracket),
+        b']' => Some(TokenKind::CloseBracket),
+        b'=' => Some(TokenKind::Equals),
+        b',' => Some(TokenKind::Comma),
+        b';' => Some(TokenKind::Semicolon),
+        b'.' => Some(TokenKind::Dot),
         _ => None,
     }
 }
@@ -91,31 +91,31 @@ fn mark(c: u8) -> Option<Kind>
 /// Returns the decimal number at the beginning of `text`.
 ///
 /// A number above 2^64 - 1, or with a letter after it, is a broken token.
-fn number(text: &[u8]) -> Piece
+fn number(text: &[u8]) -> Lexeme
     ensures { result ≡ number_at text.now }
 {
     let length = digits_length(text);
     let (digits, after) = text.split_at(length);
     if after.first().is_some_and(|c| is_letter(*c)) {
-        return Piece::broken(text, Flaw::Bad);
+        return Lexeme::broken(text, Flaw::Bad);
     }
     match decimal_up_to(u64::MAX, digits) {
-        None => Piece::broken(text, Flaw::Bad),
-        Some(value) => Piece::token(length, Kind::Number(value)),
+        None => Lexeme::broken(text, Flaw::Bad),
+        Some(value) => Lexeme::token(length, TokenKind::Number(value)),
     }
 }
 
 /// Returns the piece at the beginning of `text`: white space, a comment or a token.
 #[tactic(auto, unfolding(crate::specs::Inner::Tokens::piece_at))]
-pub fn next_piece(alloc: Global, text: &str) -> Result<Piece, NoMemory>
+pub fn next_piece(alloc: Global, text: &str) -> Result<Lexeme, NoMemory>
     ensures { IfOk result (λ piece. piece ≡ piece_at text.now) }
 {
     let bytes = text.as_bytes();
     let Some((c, _)) = bytes.split_first() else {
-        return Ok(Piece::blank(0));
+        return Ok(Lexeme::blank(0));
     };
     if is_space(*c) {
-        return Ok(Piece::blank(space_length(bytes)));
+        return Ok(Lexeme::blank(space_length(bytes)));
     }
     if is_letter(*c) {
         return name(alloc, text);
@@ -130,7 +130,7 @@ pub fn next_piece(alloc: Global, text: &str) -> Result<Piece, NoMemory>
         return Ok(comment(bytes));
     }
     Ok(match mark(*c) {
-        None => Piece::broken(bytes, Flaw::Bad),
-        Some(kind) => Piece::token(1, kind),
+        None => Lexeme::broken(bytes, Flaw::Bad),
+        Some(kind) => Lexeme::token(1, kind),
     })
 }

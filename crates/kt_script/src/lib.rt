@@ -4,14 +4,14 @@
 mod fault;
 mod lexer;
 mod parser;
-mod place;
 mod quotation;
 mod script;
+mod script_state;
 mod state;
 mod syntax;
 mod token;
 mod words;
 
 pub use fault::ScriptFault;
-pub use script::{law_of_one_answer, law_of_tokens, parse};
+pub use script::{parse, theorem_of_one_answer, theorem_of_tokens};
 pub use syntax::{Action, Arg, Literal, Pair, Stmt};

@@ -4,19 +4,21 @@ ghost use Rattle.std.specs.Prelude.{◌≡◌, ℕ, List, [], ◌++◌, IfOk, On
 ghost use Rattle.kt_script.specs.Inner.Automaton.{IsResting};
 ghost use Rattle.kt_script.specs.Faults.{IfFault, last, after_bracket, end_fault};
 
-use crate::place::Place;
-use crate::token::{Kind, Token};
+use crate::script_state::ScriptState;
+use crate::token::{Token, TokenKind};
 use crate::{ScriptFault, Stmt};
 use kt_base::{Items, NoMemory};
 use std::alloc::Global;
 
 /// Updates the lines of the open brackets after a token. The innermost bracket is the last.
-fn follow(brackets: &mut Vec<u32>, line: u32, kind: &Kind) -> Result<(), NoMemory>
+fn follow(brackets: &mut Vec<u32>, line: u32, kind: &TokenKind) -> Result<(), NoMemory>
     ensures { OnOk result (brackets.new.items ≡ after_bracket brackets.old.items line kind.now) }
 {
     match kind {
-        Kind::OpenParen | Kind::OpenBrace | Kind::OpenBracket => brackets.push(line)?,
-        Kind::CloseParen | Kind::CloseBrace | Kind::CloseBracket => {
+        TokenKind::OpenParen | TokenKind::OpenBrace | TokenKind::OpenBracket => brackets.push(
+            line,
+        )?,
+        TokenKind::CloseParen | TokenKind::CloseBrace | TokenKind::CloseBracket => {
             let _ = brackets.pop();
         }
         _ => {}
@@ -24,7 +26,7 @@ fn follow(brackets: &mut Vec<u32>, line: u32, kind: &Kind) -> Result<(), NoMemor
     Ok(())
 }
 
-/// A parser of a script's tokens. Its caller stores the position, a [`Place`].
+/// A parser of a script's tokens. Its caller stores the position, a [`ScriptState`].
 #[derive(Drop)]
 pub struct Parser {
     /// The lines of the open brackets, the innermost bracket last.
@@ -53,10 +55,10 @@ impl Parser {
     pub fn feed(
         &mut self,
         alloc: Global,
-        place: Place,
+        place: ScriptState,
         line: u32,
-        kind: Option<Kind>,
-    ) -> Result<Place, ScriptFault>
+        kind: Option<TokenKind>,
+    ) -> Result<ScriptState, ScriptFault>
         ensures ok { IfOk result (λ after. (read : List Token) → HasRead place self.old read
             → HasRead after self.new (read ++ tokens_in line kind)) }
         ensures fault { IfFault result (λ fault. IsMisfit place line kind fault) }
@@ -74,15 +76,15 @@ impl Parser {
     }
 
     /// Returns the statements that were read. Fails if `place` is within a statement.
-    pub fn finish(self, place: &Place) -> Result<Items<Stmt>, ScriptFault>
+    pub fn finish(self, place: &ScriptState) -> Result<Items<Stmt>, ScriptFault>
         ensures ok { IfOk result (λ statements. IsResting place.now
             × (statements ≡ self.statements)) }
         ensures fault { IfErr result (λ fault. (line : ℕ) × IsWithin place.now line
             × (fault ≡ end_fault (last self.brackets.items) line)) }
     {
         match place {
-            Place::Start | Place::Whole => Ok(self.statements),
-            Place::Within(line, _) => Err(end_fault(self.brackets.last().copied(), *line)),
+            ScriptState::Start | ScriptState::Whole => Ok(self.statements),
+            ScriptState::Within(line, _) => Err(end_fault(self.brackets.last().copied(), *line)),
         }
     }
 }

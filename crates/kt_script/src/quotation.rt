@@ -3,7 +3,7 @@
 ghost use Rattle.std.specs.Prelude.{◌≡◌, ℕ, ◌+◌, ◌<◌, ◌≤◌, ◌∷◌, false, length, drop, IfOk};
 ghost use Rattle.kt_script.specs.Common.{IsCharBoundary, prefix_len, is_plain, escape_of, stop_at, escape_at, string_at, decoded, quoted_at};
 
-use crate::token::{Flaw, Kind, Piece, Stop};
+use crate::token::{Flaw, Lexeme, StringStop, TokenKind};
 use kt_base::{NoMemory, Text};
 use std::alloc::Global;
 
@@ -30,21 +30,21 @@ fn plain_length(quote: u8, text: &[u8]) -> usize
 }
 
 /// Returns the stop at the beginning of `text`, where the plain bytes of a string end.
-fn next_stop(quote: u8, text: &[u8]) -> Stop
+fn next_stop(quote: u8, text: &[u8]) -> StringStop
     ensures { result ≡ stop_at quote text.now }
 {
     let Some((c, after)) = text.split_first() else {
-        return Stop::Flawed(Flaw::Endless);
+        return StringStop::Flawed(Flaw::Endless);
     };
     if *c == quote {
-        return Stop::Quote;
+        return StringStop::Quote;
     }
     if *c != b'\\' {
-        return Stop::Flawed(Flaw::Endless);
+        return StringStop::Flawed(Flaw::Endless);
     }
     match after.first().and_then(|c| escape(*c)) {
-        None => Stop::Flawed(Flaw::Bad),
-        Some(c) => Stop::Escape(c),
+        None => StringStop::Flawed(Flaw::Bad),
+        Some(c) => StringStop::Escape(c),
     }
 }
 
@@ -62,9 +62,9 @@ fn string(alloc: Global, quote: u8, text: &str) -> Result<Result<(Text, usize), 
         let (plain, after) = rest.split_at(plain_length(quote, rest.as_bytes()));
         string.push_str(plain)?;
         match next_stop(quote, after.as_bytes()) {
-            Stop::Quote => return Ok(Ok((string, text.len() - after.len() + 1))),
-            Stop::Flawed(flaw) => return Ok(Err(flaw)),
-            Stop::Escape(c) => {
+            StringStop::Quote => return Ok(Ok((string, text.len() - after.len() + 1))),
+            StringStop::Flawed(flaw) => return Ok(Err(flaw)),
+            StringStop::Escape(c) => {
                 string.push(c)?;
                 rest = &after[2..];
             }
@@ -75,13 +75,13 @@ fn string(alloc: Global, quote: u8, text: &str) -> Result<Result<(Text, usize), 
 /// Returns the string at the beginning of `text`, whose first byte is `quote`.
 ///
 /// A string that is not closed, or has an unknown escape, is a broken token.
-pub fn quoted(alloc: Global, quote: u8, text: &str) -> Result<Piece, NoMemory>
+pub fn quoted(alloc: Global, quote: u8, text: &str) -> Result<Lexeme, NoMemory>
     requires first { text.now ≡ quote ∷ drop 1 text.now }
     requires small { quote < 128 }
     ensures { IfOk result (λ piece. piece ≡ quoted_at quote text.now) }
 {
     Ok(match string(alloc, quote, &text[1..])? {
-        Ok((string, length)) => Piece::token(length + 1, Kind::Quoted(string)),
-        Err(flaw) => Piece::broken(text.as_bytes(), flaw),
+        Ok((string, length)) => Lexeme::token(length + 1, TokenKind::Quoted(string)),
+        Err(flaw) => Lexeme::broken(text.as_bytes(), flaw),
     })
 }

@@ -5,7 +5,7 @@ ghost use Rattle.kt_script.specs.Common.{IfFault, IsFaultOf, Script, tokens, lin
 
 use crate::lexer::next_piece;
 use crate::parser::Parser;
-use crate::place::Place;
+use crate::script_state::ScriptState;
 use crate::{ScriptFault, Stmt};
 use kt_base::Items;
 use std::alloc::Global;
@@ -35,7 +35,7 @@ fn statements(alloc: Global, text: &str) -> Result<Items<Stmt>, ScriptFault>
     ensures fault { IfFault result (λ fault. IsFaultOf (tokens 1 0 text.now) fault) }
 {
     let mut parser = Parser::new(alloc);
-    let mut place = Place::Start;
+    let mut place = ScriptState::Start;
     let mut line = 1;
     let mut rest = text;
     while !rest.is_empty() {
@@ -81,7 +81,7 @@ pub fn parse(alloc: Global, text: &[u8]) -> Result<Items<Stmt>, ScriptFault>
 }
 
 /// Theorem: each text has exactly one result: its statements or its fault.
-pub fn law_of_one_answer(text: &[u8])
+pub fn theorem_of_one_answer(text: &[u8])
     ensures some { (answer : Result (List Stmt) ScriptFault) × IsAnswer text.now answer }
     ensures one { (a b : Result (List Stmt) ScriptFault) → IsAnswer text.now a → IsAnswer text.now b
         → a ≡ b }
@@ -90,7 +90,7 @@ pub fn law_of_one_answer(text: &[u8])
 }
 
 /// Theorem: each text has exactly one list of tokens.
-pub fn law_of_tokens(text: &[u8])
+pub fn theorem_of_tokens(text: &[u8])
     ensures some { (tokens : List Token) × IsTokens 1 text.now tokens }
     ensures one { (a b : List Token) → IsTokens 1 text.now a → IsTokens 1 text.now b → a ≡ b }
 {

@@ -3,7 +3,7 @@
 ghost use Rattle.std.specs.Prelude.{◌≡◌, [], ◌∷◌, ◌++◌, IfOk};
 ghost use Rattle.kt_script.specs.Inner.Automaton.{closed, step, value_of};
 
-use crate::token::Kind;
+use crate::token::TokenKind;
 use crate::{Action, Arg, Literal, Pair};
 use kt_base::{Items, NoMemory, Text};
 use std::alloc::Global;
@@ -63,39 +63,43 @@ pub enum Step {
 
 impl State {
     /// Returns the transition of a token, or `None` if the grammar does not allow the token here.
-    pub fn step(self, alloc: Global, kind: Kind) -> Result<Option<Step>, NoMemory>
+    pub fn step(self, alloc: Global, kind: TokenKind) -> Result<Option<Step>, NoMemory>
         ensures { IfOk result (λ to. to ≡ step self kind) }
     {
         let to = match (self, kind) {
-            (State::Named(name), Kind::Quoted(text)) => Step::Ends(Action::Call(
+            (State::Named(name), TokenKind::Quoted(text)) => Step::Ends(Action::Call(
                 name,
                 Arg::Value(Literal::Text(text)),
             )),
-            (State::Named(name), Kind::OpenParen) => Step::To(State::Opened(name)),
-            (State::Named(name), Kind::OpenBrace) => Step::To(State::Pairs(Table::new(
+            (State::Named(name), TokenKind::OpenParen) => Step::To(State::Opened(name)),
+            (State::Named(name), TokenKind::OpenBrace) => Step::To(State::Pairs(Table::new(
                 alloc, name, false,
             ))),
-            (State::Named(name), Kind::Dot) => Step::To(State::Dotted(single(alloc, name)?)),
-            (State::Named(name), Kind::OpenBracket) => Step::To(State::PathOpened(single(
+            (State::Named(name), TokenKind::Dot) => Step::To(State::Dotted(single(alloc, name)?)),
+            (State::Named(name), TokenKind::OpenBracket) => Step::To(State::PathOpened(single(
                 alloc, name,
             )?)),
-            (State::Named(name), Kind::Equals) => Step::To(State::PathEquals(single(alloc, name)?)),
-            (State::Opened(name), Kind::OpenBrace) => Step::To(State::Pairs(Table::new(
+            (State::Named(name), TokenKind::Equals) => Step::To(State::PathEquals(single(
+                alloc, name,
+            )?)),
+            (State::Opened(name), TokenKind::OpenBrace) => Step::To(State::Pairs(Table::new(
                 alloc, name, true,
             ))),
             (State::Opened(name), kind) => match value(kind) {
                 None => return Ok(None),
                 Some(value) => Step::To(State::Closing(Action::Call(name, Arg::Value(value)))),
             },
-            (State::Closing(call), Kind::CloseParen) => Step::Ends(call),
-            (State::Pairs(table), Kind::Name(name)) => Step::To(State::Keyed(table, name)),
-            (State::Pairs(table), Kind::OpenBracket) => Step::To(State::KeyOpened(table)),
-            (State::Pairs(table), Kind::CloseBrace) => table.close(),
-            (State::KeyOpened(table), Kind::Quoted(key)) => Step::To(State::KeyQuoted(table, key)),
-            (State::KeyQuoted(table, key), Kind::CloseBracket) => Step::To(State::Keyed(
+            (State::Closing(call), TokenKind::CloseParen) => Step::Ends(call),
+            (State::Pairs(table), TokenKind::Name(name)) => Step::To(State::Keyed(table, name)),
+            (State::Pairs(table), TokenKind::OpenBracket) => Step::To(State::KeyOpened(table)),
+            (State::Pairs(table), TokenKind::CloseBrace) => table.close(),
+            (State::KeyOpened(table), TokenKind::Quoted(key)) => Step::To(State::KeyQuoted(
                 table, key,
             )),
-            (State::Keyed(table, key), Kind::Equals) => Step::To(State::KeyEquals(table, key)),
+            (State::KeyQuoted(table, key), TokenKind::CloseBracket) => Step::To(State::Keyed(
+                table, key,
+            )),
+            (State::Keyed(table, key), TokenKind::Equals) => Step::To(State::KeyEquals(table, key)),
             (State::KeyEquals(table, name), kind) => match value(kind) {
                 None => return Ok(None),
                 Some(value) => {
@@ -104,20 +108,22 @@ impl State {
                     Step::To(State::Paired(table))
                 }
             },
-            (State::Paired(table), Kind::Comma | Kind::Semicolon) => Step::To(State::Pairs(table)),
-            (State::Paired(table), Kind::CloseBrace) => table.close(),
-            (State::Dotted(mut path), Kind::Name(name)) => {
+            (State::Paired(table), TokenKind::Comma | TokenKind::Semicolon) => Step::To(
+                State::Pairs(table),
+            ),
+            (State::Paired(table), TokenKind::CloseBrace) => table.close(),
+            (State::Dotted(mut path), TokenKind::Name(name)) => {
                 path.push(name)?;
                 Step::To(State::Path(path))
             }
-            (State::PathOpened(mut path), Kind::Quoted(text)) => {
+            (State::PathOpened(mut path), TokenKind::Quoted(text)) => {
                 path.push(text)?;
                 Step::To(State::PathQuoted(path))
             }
-            (State::PathQuoted(path), Kind::CloseBracket) => Step::To(State::Path(path)),
-            (State::Path(path), Kind::Dot) => Step::To(State::Dotted(path)),
-            (State::Path(path), Kind::OpenBracket) => Step::To(State::PathOpened(path)),
-            (State::Path(path), Kind::Equals) => Step::To(State::PathEquals(path)),
+            (State::PathQuoted(path), TokenKind::CloseBracket) => Step::To(State::Path(path)),
+            (State::Path(path), TokenKind::Dot) => Step::To(State::Dotted(path)),
+            (State::Path(path), TokenKind::OpenBracket) => Step::To(State::PathOpened(path)),
+            (State::Path(path), TokenKind::Equals) => Step::To(State::PathEquals(path)),
             (State::PathEquals(path), kind) => match value(kind) {
                 None => return Ok(None),
                 Some(value) => Step::Ends(Action::Assign(path, value)),
@@ -129,13 +135,13 @@ impl State {
 }
 
 /// Returns the literal that a token represents, or `None` if the token is not a literal.
-fn value(kind: Kind) -> Option<Literal>
+fn value(kind: TokenKind) -> Option<Literal>
     ensures { result ≡ value_of kind }
 {
     match kind {
-        Kind::Quoted(text) => Some(Literal::Text(text)),
-        Kind::Number(n) => Some(Literal::Number(n)),
-        Kind::Truth(b) => Some(Literal::Truth(b)),
+        TokenKind::Quoted(text) => Some(Literal::Text(text)),
+        TokenKind::Number(n) => Some(Literal::Number(n)),
+        TokenKind::Truth(b) => Some(Literal::Truth(b)),
         _ => None,
     }
 }

@@ -16,7 +16,7 @@ pub enum Flaw {
 
 /// A kind of token, with its value.
 #[derive(Drop)]
-pub enum Kind {
+pub enum TokenKind {
     /// A name.
     Name(Text),
     /// A string, with its escapes replaced.
@@ -45,7 +45,7 @@ pub struct Token {
     /// The line on which the token begins, counted from 1.
     pub line: u32,
     /// The kind of the token.
-    pub kind: Kind,
+    pub kind: TokenKind,
 }
 
 impl Token {
@@ -56,8 +56,8 @@ impl Token {
         ensures { result ≡ fault_of self.now }
     {
         match self.kind {
-            Kind::Broken(Flaw::Bad) => ScriptFault::BadToken(self.line),
-            Kind::Broken(Flaw::Endless) => ScriptFault::Unclosed(self.line),
+            TokenKind::Broken(Flaw::Bad) => ScriptFault::BadToken(self.line),
+            TokenKind::Broken(Flaw::Endless) => ScriptFault::Unclosed(self.line),
             _ => ScriptFault::NotLiteral(self.line),
         }
     }
@@ -65,44 +65,44 @@ impl Token {
 
 /// A piece of a text: white space, a comment or a token.
 #[derive(Drop)]
-pub struct Piece {
+pub struct Lexeme {
     /// The length in bytes.
     pub length: usize,
     /// The kind of a token, or `None` for white space and comments.
-    pub kind: Option<Kind>,
+    pub kind: Option<TokenKind>,
 }
 
-impl Piece {
+impl Lexeme {
     ghost use Rattle.kt_script.specs.Inner.Pieces.{blank, token, broken};
 
     /// Creates a piece of `length` bytes that is not a token.
-    pub fn blank(length: usize) -> Piece
+    pub fn blank(length: usize) -> Lexeme
         ensures { result ≡ blank length }
     {
-        Piece { length, kind: None }
+        Lexeme { length, kind: None }
     }
 
     /// Creates a token of `length` bytes.
-    pub fn token(length: usize, kind: Kind) -> Piece
+    pub fn token(length: usize, kind: TokenKind) -> Lexeme
         ensures { result ≡ token length kind }
     {
-        Piece {
+        Lexeme {
             length,
             kind: Some(kind),
         }
     }
 
     /// Creates a broken token that extends to the end of `text`.
-    pub fn broken(text: &[u8], flaw: Flaw) -> Piece
+    pub fn broken(text: &[u8], flaw: Flaw) -> Lexeme
         ensures { result ≡ broken text.now flaw }
     {
-        Piece::token(text.len(), Kind::Broken(flaw))
+        Lexeme::token(text.len(), TokenKind::Broken(flaw))
     }
 }
 
 /// An end of the plain bytes in a string.
 #[derive(Drop)]
-pub(crate) enum Stop {
+pub(crate) enum StringStop {
     /// The string's last quote.
     Quote,
     /// A backslash and the byte after it, which represent this character.

@@ -3,7 +3,7 @@
 ghost use Rattle.std.specs.Prelude.{◌≡◌, ◌≤◌, length, IfOk};
 ghost use Rattle.kt_script.specs.Common.{prefix_len, is_letter, is_word, word, name_at, is_space};
 
-use crate::token::{Kind, Piece};
+use crate::token::{Lexeme, TokenKind};
 use kt_base::{NoMemory, Text, is_digit};
 use std::alloc::Global;
 
@@ -37,22 +37,22 @@ fn word_length(text: &[u8]) -> usize
 }
 
 /// Creates the token of `letters`: a truth value for `true` and `false`, otherwise a name.
-fn word(alloc: Global, letters: &str) -> Result<Kind, NoMemory>
+fn word(alloc: Global, letters: &str) -> Result<TokenKind, NoMemory>
     ensures { IfOk result (λ kind. kind ≡ word letters.now) }
 {
     if letters.as_bytes() == b"true".as_slice() {
-        return Ok(Kind::Truth(true));
+        return Ok(TokenKind::Truth(true));
     }
     if letters.as_bytes() == b"false".as_slice() {
-        return Ok(Kind::Truth(false));
+        return Ok(TokenKind::Truth(false));
     }
-    Ok(Kind::Name(Text::from_str(alloc, letters)?))
+    Ok(TokenKind::Name(Text::from_str(alloc, letters)?))
 }
 
 /// Returns the name or truth value at the beginning of `text`.
-pub fn name(alloc: Global, text: &str) -> Result<Piece, NoMemory>
+pub fn name(alloc: Global, text: &str) -> Result<Lexeme, NoMemory>
     ensures { IfOk result (λ piece. piece ≡ name_at text.now) }
 {
     let length = word_length(text.as_bytes());
-    Ok(Piece::token(length, word(alloc, &text[..length])?))
+    Ok(Lexeme::token(length, word(alloc, &text[..length])?))
 }

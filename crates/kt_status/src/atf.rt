@@ -21,7 +21,7 @@ fn fault_phrase(fault: ClaimFault) -> Phrase
 }
 
 /// Returns the verdict on a case whose outcome contradicts its claim.
-fn belied(phrase: Phrase, ending: Outcome) -> Verdict
+fn contradicted(phrase: Phrase, ending: Outcome) -> Verdict
     ensures { result ≡ broken (phrase_text phrase ++ ending_text ending) }
 {
     Verdict::broken(Reason::Ended(phrase, ending))
@@ -38,7 +38,7 @@ pub fn atf_verdict(claim: Claim, ending: Outcome) -> Verdict
         }
         (_, Outcome::TimedOut) => Verdict::broken(Reason::Fixed(Phrase::BodyTimedOut)),
         // In all cases from here on, the body exited or received a signal.
-        (Claim::Missing, _) => belied(Phrase::PrematureExit, ending),
+        (Claim::Missing, _) => contradicted(Phrase::PrematureExit, ending),
         (Claim::Unreadable, _) => Verdict::broken(Reason::Fixed(Phrase::ResultsUnreadable)),
         (Claim::Malformed(fault), _) => Verdict::broken(Reason::Fixed(fault_phrase(fault))),
         (Claim::Passed, Outcome::Exited(0)) => Verdict::passed(),
@@ -46,11 +46,11 @@ pub fn atf_verdict(claim: Claim, ending: Outcome) -> Verdict
         (Claim::ExpectedFailure(reason), Outcome::Exited(0)) => {
             Verdict::expected_failure(Reason::Owned(reason))
         }
-        (Claim::Passed, _) => belied(Phrase::PassedButNoSuccess, ending),
-        (Claim::Skipped(_), _) => belied(Phrase::SkippedButNoSuccess, ending),
-        (Claim::ExpectedFailure(_), _) => belied(Phrase::ExpectedFailureButNoSuccess, ending),
+        (Claim::Passed, _) => contradicted(Phrase::PassedButNoSuccess, ending),
+        (Claim::Skipped(_), _) => contradicted(Phrase::SkippedButNoSuccess, ending),
+        (Claim::ExpectedFailure(_), _) => contradicted(Phrase::ExpectedFailureButNoSuccess, ending),
         (Claim::Failed(reason), Outcome::Exited(1)) => Verdict::failed(Reason::Owned(reason)),
-        (Claim::Failed(_), _) => belied(Phrase::FailedButNoFailure, ending),
+        (Claim::Failed(_), _) => contradicted(Phrase::FailedButNoFailure, ending),
         (Claim::ExpectedDeath(reason), _) => Verdict::expected_failure(Reason::Owned(reason)),
         (Claim::ExpectedExit(None, reason), Outcome::Exited(_)) => {
             Verdict::expected_failure(Reason::Owned(reason))
@@ -61,7 +61,7 @@ pub fn atf_verdict(claim: Claim, ending: Outcome) -> Verdict
         (Claim::ExpectedExit(Some(due), _), Outcome::Exited(got)) => {
             Verdict::failed(Reason::Counted(Phrase::OtherExitCode, due as u64, got as u64))
         }
-        (Claim::ExpectedExit(_, _), _) => belied(Phrase::NoCleanExit, ending),
+        (Claim::ExpectedExit(_, _), _) => contradicted(Phrase::NoCleanExit, ending),
         (Claim::ExpectedSignal(None, reason), Outcome::Signaled(_, _)) => {
             Verdict::expected_failure(Reason::Owned(reason))
         }
@@ -71,7 +71,7 @@ pub fn atf_verdict(claim: Claim, ending: Outcome) -> Verdict
         (Claim::ExpectedSignal(Some(due), _), Outcome::Signaled(got, _)) => {
             Verdict::failed(Reason::Counted(Phrase::OtherSignal, due as u64, got as u64))
         }
-        (Claim::ExpectedSignal(_, _), _) => belied(Phrase::NoSignal, ending),
-        (Claim::ExpectedTimeout(_), _) => belied(Phrase::NoTimeout, ending),
+        (Claim::ExpectedSignal(_, _), _) => contradicted(Phrase::NoSignal, ending),
+        (Claim::ExpectedTimeout(_), _) => contradicted(Phrase::NoTimeout, ending),
     }
 }

@@ -99,7 +99,7 @@ pub use Rattle.sqlite_wal.proofs.StateLemmas.{open_from}
 pub use Rattle.sqlite_wal.specs.Files.{outcomes, seen_image}
 pub use Rattle.sqlite_wal.specs.Reads.{AreClean, are_clean}
 pub use Rattle.sqlite_wal.specs.Recovery.{AreWhole, IsIgnored, only_page}
-pub use Rattle.kt_store.specs.Attaching.{Current, Numbered, Was}
+pub use Rattle.kt_store.specs.Attaching.{Current, Numbered, DatabaseBefore}
 pub use Rattle.kt_store.specs.Files.{HasWithoutLog}
 pub use Rattle.kt_store.specs.Inner.Cursors.{IsAt, Places, Shows, begins}
 pub use Rattle.kt_store.specs.Inner.Edits.{Fills, IsSettledStore, begun_row}
@@ -113,7 +113,7 @@ pub use Rattle.kt_store.specs.Runs.{HaveNoPairs, IsRun, KeepsEither, KeepsOld, O
 pub use Rattle.kt_store.specs.Serving.{Agrees, Outlasts, changed_by}
 pub use Rattle.kt_store.specs.Stands.{HasTables, IsSettledWhileOpen, IsEmpty, IsSettled, IsStore, SaysNumber, StandsInOld}
 pub use Rattle.kt_store.specs.StoreCalls.{StoreCall}
-pub use Rattle.kt_store.specs.Supposed.{IsOfRuns, ListsTables, objects_2}
+pub use Rattle.kt_store.specs.TrustedContents.{IsOfRuns, ListsTables, objects_2}
 pub use Rattle.kt_store.specs.Tables.{begin_text, beside_meta, create_entries, create_meta, create_props, create_runs, entries, entries_1, finish_text, index_of, mark_text, meta, meta_1, meta_text, no_schema, props, props_1, put_text, raise_text, run_text, runs, runs_1, schema_1, there_text}
 pub use Rattle.kt_store.specs.Heads.{without_outputs, without_pairs}
 pub use Rattle.kt_store.specs.Common.{AreNamed, AreNumbered, AreOrdered, AreRuns, AreWide, Asked, AsksNumber, Began, Blank, CanAdd, Changes, Commits, CommitsLater, CommitsNothing, CountsUnder, Ended, Ends, EndsIn, Executed, Finished, HasColumns, HasCommitted, HasNumber, Heads, HoldsCommit, HoldsRuns, IsBareIfPassed, IsComplete, IsEntry, IsNoMemory, IsOf, IsOurs, IsPair, IsStoreFault, IsTaken, IsTakenOf, IsText, IsUnderstood, Keeps, KeepsOne, KeepsRuns, Leaves, ListsRuns, Looked, Looks, LooksThrough, MayChange, MayCommit, MayExecute, MayShow, Obeys, Older, OpensOver, OpensRuns, Outline, Outputs, Pairs, Put, PutsRows, Reads, Refuses, Rests, RunsAll, RunsOne, SaysSchema, Serves, ShowsOf, ShowsUnder, StandAt, StandsFor, Statement, TakesTables, Undoes, Wrote, bound, done_row, entries_of, entries_text, entry_at, entry_columns, entry_row, entry_statements, finish, finish_refusal, flag, has_position, head_columns, head_of, in_columns, kind_code, new_run, outlined, outputs_of, pair_columns, pair_row, pair_rows, pair_rows_from, pair_statement, pair_statements, pairs_of, pairs_text, places_2, plain_statements, put_refusal, results, run_at, run_row, runs_text, schema_2, seen_as, unnumbered, whole_columns, with_entry}

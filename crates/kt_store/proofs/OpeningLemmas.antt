@@ -9,7 +9,7 @@ use Rattle.sqlite_catalog.specs.Reading.{AreShaped}
 use Rattle.sqlite.specs.Store.{Ghosts as StoreGhosts}
 use Rattle.sqlite_disk.specs.declared.Disk.{Ghosts}
 use Rattle.sqlite_disk.specs.Events.{Event, replay}
-use Rattle.kt_store.specs.Attaching.{IsOf, TakesTables, Was}
+use Rattle.kt_store.specs.Attaching.{IsOf, TakesTables, DatabaseBefore}
 use Rattle.sqlite_pool.specs.Stored.{stored_size}
 use Rattle.sqlite_wal.specs.PageSize.{IsPageSize}
 use Rattle.sqlite_wal.specs.Reads.{OnlyReads}
@@ -126,7 +126,7 @@ opens_runs image old new looks settled unbroken opens = record {
 same_tables : (s t : Schema) (a b : Trees) (runs : List Run) → s ≡ t → a ≡ b → Tables (record { schema = s; trees = a }) runs → Tables (record { schema = t; trees = b }) runs
 same_tables s t a b runs same equal has = subst (λ x. Tables (record { schema = t; trees = x }) runs) equal (subst (λ x. Tables (record { schema = x; trees = a }) runs) same has)
 
-pub taken_by : {S : Type 0} (g : StoreGhosts S) (conn results : Held S) (made : Result S StoreFault) → ((was : Was) → IsOf was (state g conn) → TakesTables was (state g conn) (state g results))
+pub taken_by : {S : Type 0} (g : StoreGhosts S) (conn results : Held S) (made : Result S StoreFault) → ((was : DatabaseBefore) → IsOf was (state g conn) → TakesTables was (state g conn) (state g results))
     → IfOk made (λ s. (runs : List Run) → StandsFor (state g results) runs → HasCommitted (g.view s) runs) → IfOk made (λ s. IsClean (g.view s) → HasCleanDisk (state g results))
     → IfOk made (λ s. (trees : Trees) → g.recovers s trees → (state g results).may_leave trees) → IfOk made (λ s. IsClean (g.view s) → IsTrue (g.view s).is_numbered) → IfOk made (IsTaken g conn)
 taken_by g conn results (Ok store) takes stands earlier crash numbered = (results, takes, stands, earlier, crash, numbered)

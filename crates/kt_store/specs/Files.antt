@@ -6,11 +6,11 @@ use Rattle.sqlite_wal.specs.Files.{outcomes}
 use Rattle.sqlite_wal.specs.Reads.{AreClean}
 use Rattle.sqlite_store.specs.FileStore.{files as files_in, faults, is_shielded}
 use Rattle.sqlite.specs.Start.{FindsIn}
-use Rattle.kt_store.specs.Attaching.{Was, IsOf, TakesTables}
+use Rattle.kt_store.specs.Attaching.{DatabaseBefore, IsOf, TakesTables}
 use Rattle.kt_store.specs.Runs.{SaysIn}
 use Rattle.kt_store.specs.Seeks.{HasCommitted, OpensRuns}
 use Rattle.kt_store.specs.Stands.{StandsFor}
-use Rattle.kt_store.specs.Supposed.{ListsTables}
+use Rattle.kt_store.specs.TrustedContents.{ListsTables}
 use Rattle.sqlite_store.specs.Listing.{file_trees, IsOurs}
 use Rattle.sqlite_store.specs.declared.catalog.Wanted.{Wanted}
 use Rattle.sqlite_wal.specs.PageSize.{IsPageSize}
@@ -53,7 +53,7 @@ module _ {D : Type 0} {g : disk.Ghosts D} where
 
   -- the results are those of such a connection, whose tables were taken
   abbrev pub AreOfFile : Image → Held (FileStore D g) → Type 0
-  AreOfFile image results = (conn : Held (FileStore D g)) × IsOfFile image conn × ((was : Was) → IsOf was (file_state conn) → TakesTables was (file_state conn) (file_state results))
+  AreOfFile image results = (conn : Held (FileStore D g)) × IsOfFile image conn × ((was : DatabaseBefore) → IsOf was (file_state conn) → TakesTables was (file_state conn) (file_state results))
 
   -- a store has the last commit of such results, and a crash leaves what it left of them
   pub record Follows (results : Held (FileStore D g)) (store : FileStore D g) : Type 0 where

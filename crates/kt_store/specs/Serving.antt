@@ -5,7 +5,7 @@ use Rattle.kt_store.specs.Heads.{head_of, outlined, pairs_of, outputs_of, entry_
 use Rattle.kt_store.specs.Runs.{AreNumbered, AreOrdered, KeepsOne, new_run, run_at, with_entry, put_refusal, finish, finish_refusal}
 use Rattle.kt_store.specs.Stands.{Leaves, StandsFor}
 use Rattle.kt_store.specs.StoreCalls.{StoreCall, Began, Put, Finished, Heads, Outline, Pairs, Outputs}
-use Rattle.kt_store.specs.declared.result_store.Keeping as store
+use Rattle.kt_store.specs.declared.result_store.StoreSpec as store
 use Rattle.kt_store.specs.Types.{Entry, Ghosts, HasCleanDisk, Held, NoRun, Run, StoreFull, last_run, state}
 
 -- the runs after a call: one that is refused changes nothing

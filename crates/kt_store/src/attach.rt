@@ -3,7 +3,7 @@ ghost use Rattle.kt_store.specs.Common.{HasCleanDisk, IsLive, IsUnchanged, state
 
 use crate::StoreFault;
 use crate::batch::Texts;
-use crate::store_fault::Trouble;
+use crate::store_fault::StoreFailure;
 use crate::store_fault::statements::{ask, commit, probe, value_in};
 use sqlite::{Alter, Connection};
 
@@ -79,7 +79,7 @@ pub(crate) fn schema_number<S: Alter>(conn: &mut Connection<S>) -> Result<i64, S
 
 /// Checks that SQLite can prepare the queries of a store: for runs, for entries and, unless the tables are those of
 /// schema 1, for pairs.
-pub(crate) fn find_tables<S: Alter>(conn: &mut Connection<S>, old: bool) -> Result<(), Trouble>
+pub(crate) fn find_tables<S: Alter>(conn: &mut Connection<S>, old: bool) -> Result<(), StoreFailure>
     ensures same { HasCleanDisk (state S.Store conn.new)
         → OnOk result (IsUnchanged (state S.Store conn.old) (state S.Store conn.new)) }
     ensures rests { HasCleanDisk (state S.Store conn.new)
@@ -131,7 +131,7 @@ pub(crate) fn is_old<S: Alter>(conn: &mut Connection<S>) -> Result<bool, StoreFa
 }
 
 /// Migrates a database of schema 1 to schema 2, in one commit.
-pub(crate) fn renew<S: Alter>(conn: &mut Connection<S>) -> Result<(), StoreFault>
+pub(crate) fn migrate<S: Alter>(conn: &mut Connection<S>) -> Result<(), StoreFault>
     ensures taken { (runs : _) → IsOf (Older runs) (state S.Store conn.old)
         → OnOk result (TakesTables (Older runs) (state S.Store conn.old) (state S.Store conn.new)) }
     ensures refused { (runs : _) → IsOf (Older runs) (state S.Store conn.old)
@@ -158,13 +158,13 @@ pub(crate) fn take<S: Alter>(conn: &mut Connection<S>) -> Result<(), StoreFault>
 {
     lives(conn);
     if is_old(conn)? {
-        renew(conn)?;
+        migrate(conn)?;
     }
     Ok(())
 }
 
 /// Creates the tables in an empty database, or accepts those that are there.
-pub(crate) fn settle<S: Alter>(conn: &mut Connection<S>) -> Result<(), StoreFault>
+pub(crate) fn create_or_adopt_tables<S: Alter>(conn: &mut Connection<S>) -> Result<(), StoreFault>
     ensures taken { (was : _) → IsOf was (state S.Store conn.old)
         → OnOk result (TakesTables was (state S.Store conn.old) (state S.Store conn.new)) }
     ensures refused { (was : _) → IsOf was (state S.Store conn.old)

@@ -1,4 +1,4 @@
-use crate::store_fault::Trouble;
+use crate::store_fault::StoreFailure;
 use crate::store_fault::statements::step;
 use sqlite::{Alter, Transaction};
 
@@ -14,7 +14,7 @@ pub(crate) trait Batch {
     ghost is_ready: { Self → Type 0 };
 
     /// Runs them inside a transaction.
-    fn fill<S: Alter>(&self, tx: &mut Transaction<'_, S>) -> Result<(), Trouble>
+    fn fill<S: Alter>(&self, tx: &mut Transaction<'_, S>) -> Result<(), StoreFailure>
         requires { is_ready self.now }
         ensures same_reference { tx.new.conn.ghost_name ≡ tx.old.conn.ghost_name }
         ensures runs { OnOk result (RunsAll S.Store (statements self.now)
@@ -36,7 +36,7 @@ impl Batch for Texts<'_> {
 
     ghost is_ready = { λ t. AllByRecursion IsOurs (map (λ sql. sql.now) t.texts.now) };
 
-    fn fill<S: Alter>(&self, tx: &mut Transaction<'_, S>) -> Result<(), Trouble> {
+    fn fill<S: Alter>(&self, tx: &mut Transaction<'_, S>) -> Result<(), StoreFailure> {
         for text in self.texts {
             step(tx, text, &[])?;
         }

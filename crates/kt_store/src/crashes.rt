@@ -6,7 +6,7 @@ use sqlite::Alter;
 /// The law of crashes, which joins what the calls of a store say of them. Behind a call that was
 /// done a crash leaves its runs; each later call that may write adds the runs with its own change
 /// to what a crash may leave, and a query adds nothing.
-pub fn law_of_crashes<S: Alter>()
+pub fn theorem_of_crashes<S: Alter>()
     ensures done { (s : Held S) (runs : List Run) → Leaves (state S.Store s) (Keeps runs)
         → Leaves (state S.Store s) (KeepsOne (runs ∷ [])) }
     ensures written { (old new : Held S) (before : List (List Run)) (after : List Run)

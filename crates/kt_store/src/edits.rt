@@ -12,7 +12,7 @@ use crate::lookup::{MOST_RUNS, key};
 use crate::places::Places;
 use crate::put::reason_of;
 use crate::seeks::{entries_at, last_number, run_head, stored_head, stored_run};
-use crate::store_fault::Trouble;
+use crate::store_fault::StoreFailure;
 use crate::store_fault::rules::{TableEdit, put_rows};
 use crate::store_fault::trees::{count_under, number_row};
 use crate::value::{blob, code, int, text};
@@ -179,7 +179,7 @@ fn is_put<S: Store>(
     places: Places,
     run: u32,
     position: u32,
-) -> Result<bool, Trouble>
+) -> Result<bool, StoreFailure>
     requires { StandAt places (S.Store.view store.old) }
     ensures found { OnTrees S.Store store.old store.new (λ runs.
         IfOk result (λ b. b ≡ has_position position (entries_of (run_at runs run)))) }
@@ -286,7 +286,7 @@ fn count_of<S: Store>(
     alloc: Global,
     places: Places,
     run: u32,
-) -> Result<u64, Trouble>
+) -> Result<u64, StoreFailure>
     requires { StandAt places (S.Store.view store.old) }
     ensures count { OnTrees S.Store store.old store.new (λ runs.
         IfOk result (λ n. n ≡ length (entries_of (run_at runs run)))) }

@@ -11,7 +11,7 @@ use crate::RunHead;
 use crate::lookup::key;
 use crate::places::Places;
 use crate::seeks::{entries_at, last_row, pairs_at, stored_head};
-use crate::store_fault::Trouble;
+use crate::store_fault::StoreFailure;
 use crate::store_fault::trees::{
     Table, are_shaped, columns_of, count_under, next_row, number_row, sure,
 };
@@ -39,7 +39,7 @@ fn last_place<S: Store>(
     alloc: Global,
     table: &Table,
     key: &Row,
-) -> Result<Row, Trouble>
+) -> Result<Row, StoreFailure>
     ensures looks { Looks S.Store store.old store.new }
 {
     sure(are_shaped(store, table))?;
@@ -55,7 +55,7 @@ fn is_last_row_placed<S: Store>(
     store: &mut S,
     alloc: Global,
     table: &Table,
-) -> Result<bool, Trouble>
+) -> Result<bool, StoreFailure>
     ensures looks { Looks S.Store store.old store.new }
 {
     let Some(row) = last_row(store, alloc, table.tree)? else {
@@ -68,7 +68,7 @@ fn is_last_row_placed<S: Store>(
 
 /// Returns the run and the position of the last key of a table's index. Fails if the index lacks the key of the table's
 /// last row.
-fn end_of<S: Store>(store: &mut S, alloc: Global, table: &Table) -> Result<Row, Trouble>
+fn end_of<S: Store>(store: &mut S, alloc: Global, table: &Table) -> Result<Row, StoreFailure>
     ensures looks { Looks S.Store store.old store.new }
 {
     sure(is_last_row_placed(store, alloc, table)?)?;
@@ -104,7 +104,7 @@ fn has_entry<S: Store>(
     alloc: Global,
     places: Places,
     pair: &Row,
-) -> Result<bool, Trouble>
+) -> Result<bool, StoreFailure>
     ensures through { IsClean (S.Store.view store.new)
         → OnOk result (LooksThrough (S.Store.view store.old) (S.Store.view store.new)) }
     ensures looks { Looks S.Store store.old store.new }
@@ -120,7 +120,7 @@ fn check_last_entry<S: Store>(
     alloc: Global,
     places: Places,
     last: RunHead,
-) -> Result<(), Trouble>
+) -> Result<(), StoreFailure>
     ensures looks { Looks S.Store store.old store.new }
 {
     let end = end_of(store, alloc, &entries_at(places))?;
@@ -128,7 +128,11 @@ fn check_last_entry<S: Store>(
 }
 
 /// Checks that the table of pairs and its index end with the same pair, and that its entry exists.
-fn check_last_pair<S: Store>(store: &mut S, alloc: Global, places: Places) -> Result<(), Trouble>
+fn check_last_pair<S: Store>(
+    store: &mut S,
+    alloc: Global,
+    places: Places,
+) -> Result<(), StoreFailure>
     ensures through { IsClean (S.Store.view store.new)
         → OnOk result (LooksThrough (S.Store.view store.old) (S.Store.view store.new)) }
     ensures looks { Looks S.Store store.old store.new }
@@ -143,7 +147,7 @@ pub(crate) fn check_ends<S: Store>(
     alloc: Global,
     places: Places,
     last: RunHead,
-) -> Result<(), Trouble>
+) -> Result<(), StoreFailure>
     ensures through { IsClean (S.Store.view store.new)
         → OnOk result (LooksThrough (S.Store.view store.old) (S.Store.view store.new)) }
     ensures looks { Looks S.Store store.old store.new }
@@ -158,7 +162,7 @@ fn last_head<S: Store>(
     alloc: Global,
     places: Places,
     last: u64,
-) -> Result<RunHead, Trouble>
+) -> Result<RunHead, StoreFailure>
     ensures looks { Looks S.Store store.old store.new }
 {
     if last == 0 {
@@ -176,7 +180,7 @@ pub(crate) fn check_last<S: Store>(
     alloc: Global,
     places: Places,
     last: u64,
-) -> Result<(), Trouble>
+) -> Result<(), StoreFailure>
     ensures through { IsClean (S.Store.view store.new)
         → OnOk result (LooksThrough (S.Store.view store.old) (S.Store.view store.new)) }
     ensures looks { Looks S.Store store.old store.new }
@@ -220,7 +224,7 @@ fn count_pairs<S: Store>(
     table: &Table,
     run: u32,
     entries: &[Entry],
-) -> Result<u64, Trouble>
+) -> Result<u64, StoreFailure>
     ensures looks { Looks S.Store store.old store.new }
 {
     let mut count: u64 = 0;
@@ -239,7 +243,7 @@ fn are_of_entries<S: Store>(
     places: Places,
     head: RunHead,
     entries: &[Entry],
-) -> Result<bool, Trouble>
+) -> Result<bool, StoreFailure>
     ensures looks { Looks S.Store store.old store.new }
 {
     let table = pairs_at(places);
@@ -260,7 +264,7 @@ pub(crate) fn check_entries<S: Store>(
     places: Places,
     head: RunHead,
     entries: &[Entry],
-) -> Result<(), Trouble>
+) -> Result<(), StoreFailure>
     ensures looks { Looks S.Store store.old store.new }
 {
     sure(may_be_all(head, entries))?;

@@ -5,7 +5,7 @@ use crate::StoreFault;
 use crate::heads::add;
 use crate::lookup::{key, look};
 use crate::outlines::{entry_in, pairs_in};
-use crate::store_fault::Trouble;
+use crate::store_fault::StoreFailure;
 use crate::store_fault::statements::{query, value_in};
 use crate::value::int;
 use kt_base::Entry;
@@ -13,7 +13,10 @@ use sqlite::{Alter, Connection, Row};
 use std::alloc::Global;
 
 /// Reads the rows of a run's entries, by position.
-pub(crate) fn entry_rows<S: Alter>(conn: &mut Connection<S>, run: u32) -> Result<Vec<Row>, Trouble>
+pub(crate) fn entry_rows<S: Alter>(
+    conn: &mut Connection<S>,
+    run: u32,
+) -> Result<Vec<Row>, StoreFailure>
     ensures all { OnRuns S.Store conn.old conn.new (λ runs.
         IfOk result (λ rows. rows.items
         ≡ map whole_columns (entries_of (run_at runs run)))) }
@@ -34,7 +37,7 @@ fn pair_rows<S: Alter>(
     conn: &mut Connection<S>,
     run: u32,
     position: u32,
-) -> Result<Vec<Row>, Trouble>
+) -> Result<Vec<Row>, StoreFailure>
     ensures all { OnRuns S.Store conn.old conn.new (λ runs.
         IfOk result (λ rows. rows.items
         ≡ map pair_columns (pairs_of (entry_at (run_at runs run) position)))) }
@@ -55,7 +58,7 @@ fn entry_of<S: Alter>(
     alloc: Global,
     run: u32,
     row: &Row,
-) -> Result<Entry, Trouble>
+) -> Result<Entry, StoreFailure>
     requires wide { 11 ≤ length row.now }
     ensures entry { OnRuns S.Store conn.old conn.new (λ runs. (e : Stored) → IsEntry e
         → entry_at (run_at runs run) e.position ≡ Some e → row.now ≡ whole_columns e
@@ -74,7 +77,7 @@ fn entries_in<S: Alter>(
     alloc: Global,
     run: u32,
     rows: &[Row],
-) -> Result<Vec<Entry>, Trouble>
+) -> Result<Vec<Entry>, StoreFailure>
     requires wide { AreWide 11 rows.now }
     ensures entries { OnRuns S.Store conn.old conn.new (λ runs. AreRuns runs
         → rows.now ≡ map whole_columns (entries_of (run_at runs run))

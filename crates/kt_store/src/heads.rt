@@ -3,7 +3,7 @@ ghost use Rattle.kt_store.specs.Common.{CountFrom, OnRuns, AreWide, Looked, head
 ghost use Rattle.kt_base.specs.declared.entry.Run.{Run as Stored};
 
 use crate::RunHead;
-use crate::store_fault::Trouble;
+use crate::store_fault::StoreFailure;
 use crate::store_fault::statements::{query, value_in};
 use crate::store_fault::trees::sure;
 use kt_base::NoMemory;
@@ -19,7 +19,7 @@ pub(crate) fn add<T: Drop>(items: &mut Vec<T>, item: T) -> Result<(), NoMemory>
 }
 
 /// Reads the head of a run from its row.
-pub(crate) fn head_in(row: &Row) -> Result<RunHead, Trouble>
+pub(crate) fn head_in(row: &Row) -> Result<RunHead, StoreFailure>
     requires { 4 ≤ length row.now }
     ensures head { (r : Stored) → row.now ≡ head_columns r → IfOk result (λ h. h ≡ head_of r) }
 {
@@ -36,7 +36,7 @@ pub(crate) fn head_in(row: &Row) -> Result<RunHead, Trouble>
 }
 
 /// Reads the heads of runs in their rows. The rows are damaged if they are not numbered from 1.
-pub(crate) fn heads_in(alloc: Global, rows: &[Row]) -> Result<Vec<RunHead>, Trouble>
+pub(crate) fn heads_in(alloc: Global, rows: &[Row]) -> Result<Vec<RunHead>, StoreFailure>
     requires { AreWide 4 rows.now }
     ensures heads { (runs : List Stored) → rows.now ≡ map head_columns runs
         → IfOk result (λ heads. heads.items ≡ map head_of runs) }
@@ -55,7 +55,7 @@ pub(crate) fn heads_in(alloc: Global, rows: &[Row]) -> Result<Vec<RunHead>, Trou
 pub(crate) fn all_heads<S: Alter>(
     conn: &mut Connection<S>,
     alloc: Global,
-) -> Result<Vec<RunHead>, Trouble>
+) -> Result<Vec<RunHead>, StoreFailure>
     ensures all { OnRuns S.Store conn.old conn.new (λ runs.
         IfOk result (λ heads. heads.items ≡ map head_of runs)) }
     ensures numbered { IfOk result (λ heads. CountFrom 1 heads.items) }

@@ -2,7 +2,7 @@ ghost use Rattle.std.specs.Prelude.{◌≡◌, ◌⊎◌, ◌<◌, ◌≤◌, �
 ghost use Rattle.kt_store.specs.Common.{OnRuns, last_run, IsStoreFault, Looked, entries_of, run_at, flag, AreRuns, has_position};
 
 use crate::StoreFault;
-use crate::store_fault::Trouble;
+use crate::store_fault::StoreFailure;
 use crate::store_fault::statements::{has_rows, query, value_in};
 use crate::value::int;
 use sqlite::{Alter, Connection};
@@ -14,7 +14,7 @@ pub(crate) const MOST_RUNS: u32 = 1_000_000;
 pub(crate) fn find<S: Alter>(
     conn: &mut Connection<S>,
     run: u32,
-) -> Result<Option<(u64, u64)>, Trouble>
+) -> Result<Option<(u64, u64)>, StoreFailure>
     ensures looked { Looked S.Store conn.old conn.new }
     ensures valid { OnRuns S.Store conn.old conn.new (λ runs. OnOk result (AreRuns runs)) }
     ensures found { OnRuns S.Store conn.old conn.new (λ runs.
@@ -73,7 +73,7 @@ pub(crate) fn there<S: Alter>(
     conn: &mut Connection<S>,
     run: u32,
     position: u32,
-) -> Result<bool, Trouble>
+) -> Result<bool, StoreFailure>
     ensures looked { Looked S.Store conn.old conn.new }
     ensures found { OnRuns S.Store conn.old conn.new (λ runs.
         IfOk result (λ b. b ≡ has_position position (entries_of (run_at runs run)))) }

@@ -1,6 +1,6 @@
 ghost use Rattle.std.specs.Prelude.{◌≡◌, ◌⊎◌, [], ◌∷◌, pos, codes, map, drop, true, false, Ok, IfOk, IfErr, OnOk, IfSome, IsTrue};
 ghost use Rattle.kt_store.specs.Common.{Ends, Finds, Int, IsLeft, IsOfOptions, IsStoreFault, Looks, ListsRuns, MustBeTested, RecoversAgain, SaysAnother};
-ghost use Rattle.kt_store.specs.Supposed.{IsOfRuns, ListsTables, key_object, objects_2, table_object};
+ghost use Rattle.kt_store.specs.TrustedContents.{IsOfRuns, ListsTables, key_object, objects_2, table_object};
 ghost use Rattle.sqlite_trees.specs.Tree.{Trees};
 ghost use Rattle.sqlite_value.specs.Value.{owned};
 ghost use Rattle.sqlite_value.specs.declared.value.Value.TheVariants.{Text as Words};
@@ -20,7 +20,7 @@ use crate::StoreFault;
 use crate::attach::{CREATE_ENTRIES, CREATE_META, CREATE_PROPS, CREATE_RUNS};
 use crate::new_file::SHORTEST_LOG;
 use crate::runs_file::{RunsFile, over};
-use crate::store_fault::Trouble;
+use crate::store_fault::StoreFailure;
 use crate::store_fault::trees::{all_shown, present};
 use kt_base::NoMemory;
 use sqlite_disk::{Disk, Files};
@@ -80,7 +80,7 @@ fn plain_size<D: Disk>(alloc: Global, files: &mut Files<D>) -> Option<PageSize>
 
 /// Returns whether all pages and trees of a database are tested before it is read. They are if its file has at most 16 MiB,
 /// which takes some 60 ms, or if its log may have frames, since a runner was killed or the machine lost power.
-fn is_tested<D: Disk>(files: &mut Files<D>) -> Result<bool, Trouble>
+fn is_tested<D: Disk>(files: &mut Files<D>) -> Result<bool, StoreFailure>
     requires log { IsTrue (D.Disk.is_usable files.old.log) }
     requires db { IsTrue (D.Disk.is_usable files.old.db) }
     ensures tested { IfOk result (λ it. AreClean D.Disk files.new.log files.new.db
@@ -143,7 +143,7 @@ fn is_key(row: &Row, id: u32, name: &str, table: &str) -> bool
 }
 
 /// Returns `true` if these rows list the objects of schema 2 (docs/formats/store.md).
-fn are_objects(rows: &[Row]) -> bool
+fn is_schema_2(rows: &[Row]) -> bool
     ensures { IsTrue result → rows.now ≡ objects_2 }
 {
     let [meta, meta_key, runs, entries, entries_key, props, props_key] = rows else {
@@ -160,7 +160,7 @@ fn are_objects(rows: &[Row]) -> bool
 }
 
 /// Reads the list of objects, and returns `true` if it is that of schema 2. Then the files get that schema.
-fn list_schema<D: Disk>(alloc: Global, files: &mut Unopened<D>) -> Result<bool, Trouble>
+fn list_schema<D: Disk>(alloc: Global, files: &mut Unopened<D>) -> Result<bool, StoreFailure>
     requires { AreUsable files.old }
     ensures usable { OnOk result (AreUsable files.new) }
     ensures read { OnOk result (IsTrue (state_of files.new).is_clean
@@ -170,12 +170,12 @@ fn list_schema<D: Disk>(alloc: Global, files: &mut Unopened<D>) -> Result<bool, 
 {
     let listed = files.read_catalog()?;
     let rows = all_shown(alloc, listed.as_slice(), &[0, 1, 2, 3, 5])?;
-    if !are_objects(rows.as_slice()) || rows.len() != 7 {
+    if !is_schema_2(rows.as_slice()) || rows.len() != 7 {
         return Ok(false);
     }
     match files.list_schema(rows.as_slice(), &LAYOUTS) {
         Ok(is_listed) => Ok(is_listed),
-        Err(refusal) => Err(Trouble::from(NoMemory::from(refusal))),
+        Err(refusal) => Err(StoreFailure::from(NoMemory::from(refusal))),
     }
 }
 
@@ -197,18 +197,21 @@ fn number_in(settings: &[Row]) -> Option<i64>
 }
 
 /// Returns what a call returned that gives back what it took if it fails.
-fn opened<T, L: Drop>(returned: Result<T, (OpenError, L)>) -> Result<T, Trouble>
+fn opened<T, L: Drop>(returned: Result<T, (OpenError, L)>) -> Result<T, StoreFailure>
     ensures ok { IfOk result (λ it. returned ≡ Ok it) }
 {
     match returned {
         Ok(it) => Ok(it),
-        Err((error, _left)) => Err(Trouble::from(error)),
+        Err((error, _left)) => Err(StoreFailure::from(error)),
     }
 }
 
 /// Opens files that are sound. All their pages and trees are tested first if `is_tested` is set, and else only those that
 /// list the schema and the free pages.
-fn sound_over<D: Disk + Drop>(files: Unopened<D>, is_tested: bool) -> Result<FileStore<D>, Trouble>
+fn sound_over<D: Disk + Drop>(
+    files: Unopened<D>,
+    is_tested: bool,
+) -> Result<FileStore<D>, StoreFailure>
     requires usable { AreUsable files }
     requires sound { IsTrue (state_of files).is_clean → HasFile files }
     ensures ready { IfOk result IsReady }
@@ -235,7 +238,7 @@ fn known_over<D: Disk + Drop>(
     mut files: Files<D>,
     options: Options,
     is_link: bool,
-) -> Result<Result<FileStore<D>, Files<D>>, Trouble>
+) -> Result<Result<FileStore<D>, Files<D>>, StoreFailure>
     requires log { IsTrue (D.Disk.is_usable files.log) }
     requires db { IsTrue (D.Disk.is_usable files.db) }
     requires held { IsOfRuns (image_of D.Disk files) }
@@ -321,7 +324,7 @@ pub(crate) fn known<D: Disk + Drop>(
 }
 
 /// Copies the log into the database file, and closes both. Changes that are not committed are lost.
-pub(crate) fn close_store<D: Disk + Drop>(mut store: FileStore<D>) -> Result<(), Trouble>
+pub(crate) fn close_store<D: Disk + Drop>(mut store: FileStore<D>) -> Result<(), StoreFailure>
     ensures closed { OnOk result (Ends store) }
 {
     store.rollback();
@@ -330,12 +333,12 @@ pub(crate) fn close_store<D: Disk + Drop>(mut store: FileStore<D>) -> Result<(),
             let _files = store.close();
             Ok(())
         }
-        Err(error) => Err(Trouble::from(error)),
+        Err(error) => Err(StoreFailure::from(error)),
     }
 }
 
 /// Reads the number of the schema in the tables.
-fn said_number<S: Store>(store: &mut S, alloc: Global) -> Result<i64, Trouble>
+fn said_number<S: Store>(store: &mut S, alloc: Global) -> Result<i64, StoreFailure>
     ensures says { IfOk result (λ n. IsClean (S.Store.view store.new)
         → SaysIn n (S.Store.view store.old).trees) }
     ensures looks { Looks S.Store store.old store.new }

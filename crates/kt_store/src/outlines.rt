@@ -7,7 +7,7 @@ ghost use Rattle.kt_base.specs.declared.variable.Variable.{Variable as StoredPai
 ghost use Rattle.sqlite.specs.Order.{Row as Values};
 
 use crate::heads::add;
-use crate::store_fault::Trouble;
+use crate::store_fault::StoreFailure;
 use crate::store_fault::statements::value_in;
 use crate::store_fault::trees::present;
 use crate::value::kind_of;
@@ -16,7 +16,7 @@ use sqlite::Row;
 use std::alloc::Global;
 
 /// Reads a text from a column of a row.
-fn text_in(row: &Row, at: usize) -> Result<Text, Trouble>
+fn text_in(row: &Row, at: usize) -> Result<Text, StoreFailure>
     requires { at < length row.now }
     ensures text { (t : List ℕ) → IsText t → column row.now at ≡ Words (utf8 t)
         → IfOk result (λ x. x ≡ t) }
@@ -26,7 +26,7 @@ fn text_in(row: &Row, at: usize) -> Result<Text, Trouble>
 }
 
 /// Reads a pair from its row.
-fn pair_in(row: &Row) -> Result<Variable, Trouble>
+fn property_from_row(row: &Row) -> Result<Variable, StoreFailure>
     requires { 2 ≤ length row.now }
     ensures { (v : StoredPair) → IsPair v → row.now ≡ pair_columns v → IfOk result (λ x. x ≡ v) }
 {
@@ -36,14 +36,14 @@ fn pair_in(row: &Row) -> Result<Variable, Trouble>
 }
 
 /// Reads pairs from their rows.
-pub(crate) fn pairs_in(alloc: Global, rows: &[Row]) -> Result<Variables, Trouble>
+pub(crate) fn pairs_in(alloc: Global, rows: &[Row]) -> Result<Variables, StoreFailure>
     requires { AreWide 2 rows.now }
     ensures { (vs : List StoredPair) → AllByRecursion IsPair vs → rows.now ≡ map pair_columns vs
         → IfOk result (λ x. x ≡ vs) }
 {
     let mut pairs = Variables::new(alloc);
     for row in rows {
-        pairs.push(pair_in(row)?)?;
+        pairs.push(property_from_row(row)?)?;
     }
     Ok(pairs)
 }
@@ -59,7 +59,7 @@ pub fn no_output(alloc: Global) -> Output
 }
 
 /// Reads bytes from a column of a row.
-fn bytes_in(row: &Row, at: usize) -> Result<Bytes, Trouble>
+fn bytes_in(row: &Row, at: usize) -> Result<Bytes, StoreFailure>
     requires { at < length row.now }
     ensures bytes { IfOk result (λ b. column row.now at ≡ Blob b) }
 {
@@ -68,7 +68,7 @@ fn bytes_in(row: &Row, at: usize) -> Result<Bytes, Trouble>
 }
 
 /// Reads an output from two columns of a row.
-fn output_in(row: &Row, out: usize, err: usize) -> Result<Output, Trouble>
+fn output_in(row: &Row, out: usize, err: usize) -> Result<Output, StoreFailure>
     requires { (out < length row.now) × (err < length row.now) }
     ensures output { (o : Pair) → column row.now out ≡ Blob o.out → column row.now err ≡ Blob o.err
         → IfOk result (λ x. x ≡ o) }
@@ -79,7 +79,7 @@ fn output_in(row: &Row, out: usize, err: usize) -> Result<Output, Trouble>
 }
 
 /// Reads an entry without its pairs and outputs from its row.
-fn bare_in(alloc: Global, row: &Row) -> Result<Entry, Trouble>
+fn bare_in(alloc: Global, row: &Row) -> Result<Entry, StoreFailure>
     requires { 7 ≤ length row.now }
     ensures { (e : Stored) (more : Values) → IsEntry e → row.now ≡ entry_columns e ++ more
         → IfOk result (λ x. x ≡ outlined e) }
@@ -106,7 +106,7 @@ fn bare_in(alloc: Global, row: &Row) -> Result<Entry, Trouble>
 }
 
 /// Reads entries without their pairs and outputs from their rows.
-pub(crate) fn outline_in(alloc: Global, rows: &[Row]) -> Result<Vec<Entry>, Trouble>
+pub(crate) fn outline_in(alloc: Global, rows: &[Row]) -> Result<Vec<Entry>, StoreFailure>
     requires { AreWide 7 rows.now }
     ensures { (es : List Stored) → AllByRecursion IsEntry es → rows.now ≡ map entry_columns es
         → IfOk result (λ found. found.items ≡ map outlined es) }
@@ -120,7 +120,7 @@ pub(crate) fn outline_in(alloc: Global, rows: &[Row]) -> Result<Vec<Entry>, Trou
 }
 
 /// Reads an entry with its outputs from its row, and gives it these pairs.
-pub(crate) fn entry_in(alloc: Global, row: &Row, meta: Variables) -> Result<Entry, Trouble>
+pub(crate) fn entry_in(alloc: Global, row: &Row, meta: Variables) -> Result<Entry, StoreFailure>
     requires { 11 ≤ length row.now }
     ensures { (e : Stored) → IsEntry e → row.now ≡ whole_columns e → meta ≡ e.meta
         → IfOk result (λ x. x ≡ e) }

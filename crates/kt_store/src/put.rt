@@ -4,7 +4,7 @@ ghost use Rattle.kt_store.specs.Common.{OnRuns, last_run, IsStorable, IsStoreFau
 use crate::StoreFault;
 use crate::batch::Batch;
 use crate::lookup::{key, look, there};
-use crate::store_fault::Trouble;
+use crate::store_fault::StoreFailure;
 use crate::store_fault::statements::{commit, step};
 use crate::value::{blob, code, int, text};
 use kt_base::{Entry, NoMemory, Text, Variable};
@@ -28,7 +28,7 @@ fn add_pair<S: Alter>(
     position: u32,
     place: u64,
     pair: &Variable,
-) -> Result<(), Trouble>
+) -> Result<(), StoreFailure>
     requires { place < 2 ^ 63 }
     ensures same_reference { tx.new.conn.ghost_name ≡ tx.old.conn.ghost_name }
     ensures runs { OnOk result (RunsOne S.Store (pair_statement run position place pair.now)
@@ -54,7 +54,7 @@ fn add_pairs<S: Alter>(
     run: u32,
     position: u32,
     pairs: &[Variable],
-) -> Result<(), Trouble>
+) -> Result<(), StoreFailure>
     ensures same_reference { tx.new.conn.ghost_name ≡ tx.old.conn.ghost_name }
     ensures runs { OnOk result (RunsAll S.Store (pair_statements run position 0 pairs.now)
         tx.old.conn.now tx.new.conn.now) }
@@ -74,7 +74,7 @@ pub(crate) fn fill<S: Alter>(
     run: u32,
     entry: &Entry,
     reason: &Text,
-) -> Result<(), Trouble>
+) -> Result<(), StoreFailure>
     requires reason { reason.now ≡ entry.now.verdict.reason }
     requires moments { IsStorable entry.now }
     ensures same_reference { tx.new.conn.ghost_name ≡ tx.old.conn.ghost_name }
@@ -119,7 +119,7 @@ impl Batch for NewEntry<'_> {
 
     ghost is_ready = { λ n. (n.reason.now ≡ n.entry.now.verdict.reason) × IsStorable n.entry.now };
 
-    fn fill<S: Alter>(&self, tx: &mut Transaction<'_, S>) -> Result<(), Trouble> {
+    fn fill<S: Alter>(&self, tx: &mut Transaction<'_, S>) -> Result<(), StoreFailure> {
         fill(tx, self.run, self.entry, self.reason)
     }
 }
@@ -130,7 +130,7 @@ pub(crate) fn add_entry<S: Alter>(
     run: u32,
     entry: &Entry,
     reason: &Text,
-) -> Result<(), Trouble>
+) -> Result<(), StoreFailure>
     requires reason { reason.now ≡ entry.now.verdict.reason }
     requires moments { IsStorable entry.now }
     ensures added { OnOk result (Changes S.Store conn.old conn.new

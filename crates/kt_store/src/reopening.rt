@@ -1,6 +1,6 @@
 ghost use Rattle.std.specs.Prelude.{List, []};
 ghost use Rattle.kt_store.specs.Common.{EndsIn, Finds, HasCommitted, HoldsRuns, Keeps, Run};
-ghost use Rattle.kt_store.specs.Supposed.{IsOfRuns};
+ghost use Rattle.kt_store.specs.TrustedContents.{IsOfRuns};
 ghost use Rattle.sqlite_store.specs.FileStore.{recovers, view};
 ghost use Rattle.sqlite_store.specs.declared.store.FileStore.{FileStore as Stored};
 ghost use Rattle.sqlite_trees.specs.Tree.{Trees};
@@ -13,7 +13,7 @@ use sqlite_disk::Disk;
 /// a close leaves of a store whose trees are numbered hold its runs, with the log and without it; what is supposed of files
 /// that are opened is true of them; and a store that was found in them has these runs, which a crash leaves. A store is
 /// numbered unless its file was larger than 16 MiB as it was opened, and listed the tables of results.
-pub fn law_of_reopening<D: Disk, E: Disk>()
+pub fn theorem_of_reopening<D: Disk, E: Disk>()
     ensures held { (store : Stored D D.Disk) (runs : List Run) (image : Image)
         → EndsIn store runs image
         → HoldsRuns image runs × HoldsRuns (record image { log = [] }) runs }

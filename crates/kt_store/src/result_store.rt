@@ -22,7 +22,7 @@ pub struct CaseOutputs {
 }
 
 /// What is known of a store, for contracts alone: which runs it stands for, and what a crash leaves of them.
-pub trait Keeping {
+pub trait StoreSpec {
     ghost use Rattle.std.specs.Prelude.{List};
     ghost use Rattle.kt_base.specs.declared.entry.Run.{Run};
     ghost use Rattle.kt_store.specs.Runs.{AreNumbered, AreOrdered};
@@ -50,7 +50,7 @@ pub trait Keeping {
 
 /// Where runs are recorded. Each call's refusals come in a stated order and change nothing; `NoMemory` and `Store` come
 /// where memory or the store itself failed. What was read is right while the store is sound.
-pub trait ResultStore: Keeping {
+pub trait ResultStore: StoreSpec {
     ghost use Rattle.std.specs.Prelude.{IfErr};
     ghost use Rattle.kt_store.specs.Common.{IsMoment, IsStorable, IsStoreFault, Serves, Began, Put, Finished, Heads, Outline, Pairs, Outputs, seen_as};
 
@@ -62,7 +62,7 @@ pub trait ResultStore: Keeping {
     /// - `StoreFull`: there are 1,000,000 runs.
     fn begin(&mut self, total: u32, moment: u64) -> Result<u64, StoreFault>
         requires { IsMoment moment }
-        ensures { Serves Self.Keeping (Began total moment result) self.old self.new };
+        ensures { Serves Self.StoreSpec (Began total moment result) self.old self.new };
 
     /// Adds an entry and its pairs to a run. Timestamps and durations are in milliseconds, up to the end of the year
     /// 9999.
@@ -77,7 +77,7 @@ pub trait ResultStore: Keeping {
     /// - `RepeatedPosition`: the run has an entry at the position.
     fn put(&mut self, run: u64, entry: &Entry) -> Result<(), StoreFault>
         requires { IsStorable entry.now }
-        ensures { Serves Self.Keeping (Put run entry.now result) self.old self.new };
+        ensures { Serves Self.StoreSpec (Put run entry.now result) self.old self.new };
 
     /// Finishes a run.
     ///
@@ -89,11 +89,11 @@ pub trait ResultStore: Keeping {
     /// - `RunClosed`: the run is finished.
     /// - `Incomplete`: the run has fewer entries than its total.
     fn finish(&mut self, run: u64) -> Result<(), StoreFault>
-        ensures { Serves Self.Keeping (Finished run result) self.old self.new };
+        ensures { Serves Self.StoreSpec (Finished run result) self.old self.new };
 
     /// Returns the heads of all runs, by number.
     fn runs(&mut self) -> Result<Vec<RunHead>, StoreFault>
-        ensures served { Serves Self.Keeping (Heads (seen_as (λ heads. heads.items) result))
+        ensures served { Serves Self.StoreSpec (Heads (seen_as (λ heads. heads.items) result))
             self.old self.new }
         ensures failed { IfErr result IsStoreFault };
 
@@ -103,13 +103,13 @@ pub trait ResultStore: Keeping {
     ///
     /// - `NoRun`: no run has the number.
     fn outline(&mut self, run: u64) -> Result<Vec<Entry>, StoreFault>
-        ensures { Serves Self.Keeping (Outline run (seen_as (λ found. found.items) result))
+        ensures { Serves Self.StoreSpec (Outline run (seen_as (λ found. found.items) result))
             self.old self.new };
 
     /// Returns the pairs of the entry of a run at a position, in their order. Returns none if the run has no such
     /// entry.
     fn pairs(&mut self, run: u64, position: u32) -> Result<Variables, StoreFault>
-        ensures { Serves Self.Keeping (Pairs run position result) self.old self.new };
+        ensures { Serves Self.StoreSpec (Pairs run position result) self.old self.new };
 
     /// Returns the outputs of the entry of a run at a position.
     ///
@@ -117,5 +117,5 @@ pub trait ResultStore: Keeping {
     ///
     /// - `NoRun`: no run has the number, or the run has no entry at the position.
     fn outputs(&mut self, run: u64, position: u32) -> Result<CaseOutputs, StoreFault>
-        ensures { Serves Self.Keeping (Outputs run position result) self.old self.new };
+        ensures { Serves Self.StoreSpec (Outputs run position result) self.old self.new };
 }

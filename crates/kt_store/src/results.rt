@@ -1,4 +1,4 @@
-use crate::attach::settle;
+use crate::attach::create_or_adopt_tables;
 use crate::entries::all_entries;
 use crate::heads::all_heads;
 use crate::lookup::key;
@@ -56,7 +56,7 @@ impl<S: Alter> Results<S> {
         ensures due { IfErr result (λ e. IsStoreFault e.0 ⊎ (e.0 ≡ StoreFault.UnknownSchema)) }
     {
         let mut conn = connection;
-        match settle(&mut conn) {
+        match create_or_adopt_tables(&mut conn) {
             Ok(()) => Ok(Results { conn, alloc }),
             Err(error) => Err((error, conn)),
         }

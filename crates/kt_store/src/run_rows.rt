@@ -4,13 +4,13 @@ ghost use Rattle.kt_store.specs.Common.{OnRuns, last_run, IsMoment, HasCleanDisk
 use crate::StoreFault;
 use crate::entries::entry_rows;
 use crate::lookup::{MOST_RUNS, find, key, look};
-use crate::store_fault::Trouble;
+use crate::store_fault::StoreFailure;
 use crate::store_fault::statements::execute;
 use crate::value::int;
 use sqlite::{Alter, Connection};
 
 /// Returns `true` if there are 1,000,000 runs.
-pub(crate) fn is_full<S: Alter>(conn: &mut Connection<S>) -> Result<bool, Trouble>
+pub(crate) fn is_full<S: Alter>(conn: &mut Connection<S>) -> Result<bool, StoreFailure>
     ensures full { OnRuns S.Store conn.old conn.new (λ runs.
         IfOk result (λ full. (full ≡ true → last_run ≤ length runs) × (full ≡ false
         → length runs < last_run))) }
@@ -24,7 +24,7 @@ pub(crate) fn add_run<S: Alter>(
     conn: &mut Connection<S>,
     total: u32,
     moment: u64,
-) -> Result<u64, Trouble>
+) -> Result<u64, StoreFailure>
     requires { IsMoment moment }
     ensures number { (runs : _) → StandsFor (state S.Store conn.old) runs
         → (HasCleanDisk (state S.Store conn.old) → length runs < last_run)
@@ -65,7 +65,7 @@ pub(crate) fn check<S: Alter>(conn: &mut Connection<S>, run: u64) -> Result<(), 
 }
 
 /// Marks a run that has all its entries as finished.
-pub(crate) fn mark<S: Alter>(conn: &mut Connection<S>, run: u32) -> Result<(), Trouble>
+pub(crate) fn mark<S: Alter>(conn: &mut Connection<S>, run: u32) -> Result<(), StoreFailure>
     ensures marked { OnOk result (Changes S.Store conn.old conn.new (IsComplete run) (finish run)) }
     ensures kept { OnErr result (KeepsRuns S.Store conn.old conn.new) }
     ensures crash { MayChange S.Store conn.old conn.new (IsComplete run) (finish run) }

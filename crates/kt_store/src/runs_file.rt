@@ -1,6 +1,6 @@
 ghost use Rattle.std.specs.Prelude.{◌≡◌, ◌⊎◌, codes, true, false, IsTrue, IfErr, IfOk, IfSome};
 ghost use Rattle.kt_store.specs.Common.{Ended, Finds, IsStoreFault, IsTaken, IsTakenOf, IsUri};
-ghost use Rattle.kt_store.specs.Supposed.{IsOfRuns};
+ghost use Rattle.kt_store.specs.TrustedContents.{IsOfRuns};
 ghost use Rattle.sqlite.specs.Files.{image_of};
 ghost use Rattle.sqlite_catalog.specs.Listing.{IsSound, Lists};
 ghost use Rattle.sqlite_schema.specs.declared.schema.Schema.{Schema as Tables};
@@ -15,11 +15,11 @@ use crate::new_file::prepare;
 use crate::opening::{close_store, known, options};
 use crate::places::Places;
 use crate::seeks::{find_outputs, find_pairs, heads, outline};
-use crate::store_fault::Trouble;
+use crate::store_fault::StoreFailure;
 use crate::store_fault::statements::{NotOpened, connect, open_both};
 use crate::store_fault::trees::{present, sure};
-use crate::supposed::Supposed;
-use crate::{Access, CaseOutputs, Keeping, ResultStore, Results, RunHead, StoreFault};
+use crate::trusted_contents::TrustedContents;
+use crate::{Access, CaseOutputs, ResultStore, Results, RunHead, StoreFault, StoreSpec};
 use kt_base::{Entry, NoMemory, Text, Variables};
 use sqlite::{Alter, Connection, FileFrom, FileStore};
 use sqlite_catalog::load::load;
@@ -69,7 +69,7 @@ fn listed<S: Alter>(store: &S, alloc: Global) -> Result<Option<Schema>, NoMemory
 
 /// Returns the results in a store that shows its last commit. Fails unless the store obeys the schema that it lists,
 /// with the tables of results.
-pub(crate) fn over<S: Alter + Drop>(alloc: Global, store: S) -> Result<RunsFile<S>, Trouble>
+pub(crate) fn over<S: Alter + Drop>(alloc: Global, store: S) -> Result<RunsFile<S>, StoreFailure>
     requires settled { IsClean (S.Store.view store) → (S.Store.view store).is_broken ≡ false
         → (S.Store.view store).trees ≡ (S.Store.view store).committed }
     requires sound { IsTrue (S.Store.view store).is_open
@@ -220,7 +220,7 @@ fn pause(rt: &HostRuntime, fault: StoreFault) -> Result<(), StoreFault>
 }
 
 /// Opens the files of a database once. A database is created if there is none.
-fn try_open<S: Supposed>(
+fn try_open<S: TrustedContents>(
     rt: &HostRuntime,
     file: &Text,
     start: S,
@@ -239,7 +239,7 @@ fn try_open<S: Supposed>(
 
 /// Opens the files of a database, which is created if there is none. While another process works with them they are tried
 /// again, for 5 seconds. Only a failed open gives the value of `S` back, so that one pair of files is opened.
-fn open_files<S: Supposed>(
+fn open_files<S: TrustedContents>(
     rt: &HostRuntime,
     file: &Text,
     start: S,
@@ -280,7 +280,7 @@ fn is_link(rt: &HostRuntime, file: &Text) -> bool {
     }
 }
 
-impl<S: Supposed> RunsFile<FileStore<FileFrom<S>>> {
+impl<S: TrustedContents> RunsFile<FileStore<FileFrom<S>>> {
     ghost use Rattle.std.specs.Prelude.{◌≡◌, ◌⊎◌, IfOk, IfErr};
     ghost use Rattle.kt_store.specs.Common.{Finds, IsStoreFault, image_at};
 
@@ -310,7 +310,7 @@ impl<S: Supposed> RunsFile<FileStore<FileFrom<S>>> {
     }
 }
 
-impl<S: Alter> Keeping for RunsFile<S> {
+impl<S: Alter> StoreSpec for RunsFile<S> {
     ghost use Rattle.kt_store.specs.Common.{AreNumbered, AreOrdered, KeepsOne, HasCommitted};
     ghost use Rattle.sqlite_trees.specs.Tree.{Trees};
     ghost use Rattle.sqlite_trees.specs.View.{IsClean};

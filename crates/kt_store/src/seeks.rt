@@ -8,7 +8,7 @@ use crate::heads::{head_in, heads_in};
 use crate::lookup::key;
 use crate::outlines::{outline_in, pairs_in};
 use crate::places::{Place, Places};
-use crate::store_fault::Trouble;
+use crate::store_fault::StoreFailure;
 use crate::store_fault::trees::{
     Table, all_shown, number_of, number_row, row_behind, rows_after, shown, stored_bytes, sure,
 };
@@ -82,7 +82,7 @@ pub(crate) fn last_row<S: Store>(
     store: &mut S,
     alloc: Global,
     tree: u32,
-) -> Result<Option<row::Row>, Trouble>
+) -> Result<Option<row::Row>, StoreFailure>
     ensures last { IfOk result (λ found. IsClean (S.Store.view store.new)
         → IsLast ((S.Store.view store.old).trees tree) found) }
     ensures through { IsClean (S.Store.view store.new)
@@ -103,7 +103,7 @@ pub(crate) fn last_number<S: Store>(
     store: &mut S,
     alloc: Global,
     places: Places,
-) -> Result<u64, Trouble>
+) -> Result<u64, StoreFailure>
     requires { StandAt places (S.Store.view store.old) }
     ensures last { OnTrees S.Store store.old store.new (λ runs.
         IfOk result (λ n. n ≡ length runs)) }
@@ -146,7 +146,7 @@ pub(crate) fn stored_run<S: Store>(
 }
 
 /// Reads the head of a run from its stored row.
-pub(crate) fn stored_head(alloc: Global, row: &row::Row) -> Result<RunHead, Trouble>
+pub(crate) fn stored_head(alloc: Global, row: &row::Row) -> Result<RunHead, StoreFailure>
     ensures head { (r : Run) → row.now ≡ run_row r → IfOk result (λ h. h ≡ head_of r) }
 {
     let shown = shown(alloc, row, &[0, 2, 3, 4])?;
@@ -182,7 +182,7 @@ fn all_entries<S: Store>(
     alloc: Global,
     places: Places,
     run: u32,
-) -> Result<Vec<Entry>, Trouble>
+) -> Result<Vec<Entry>, StoreFailure>
     requires { StandAt places (S.Store.view store.old) }
     ensures all { OnTrees S.Store store.old store.new (λ runs.
         IfOk result (λ found. found.items ≡ map outlined (entries_of (run_at runs run)))) }

@@ -35,6 +35,6 @@ pub use Rattle.kt_suite.specs.Registered.{Decides, IsNext, IsUndecided, Outcome,
 pub use Rattle.kt_suite.specs.Selecting.{unmatched_places, is_unmatched, is_selected, matches_item, places, selected_places}
 pub use Rattle.kt_suite.specs.Tables.{declared, definition, definitions, first_fault, is_property, key_fault, pair_fault, table_of, unless, value_cause}
 pub use Rattle.kt_suite.specs.declared.loader.Registry.{Registry}
-pub use Rattle.kt_suite.specs.declared.loader.Step.{Step}
-pub use Rattle.kt_suite.specs.declared.loader.Step.TheVariants.{Enter, Next}
+pub use Rattle.kt_suite.specs.declared.loader.LoadStep.{LoadStep}
+pub use Rattle.kt_suite.specs.declared.loader.LoadStep.TheVariants.{Enter, Next}
 pub use Rattle.kt_suite.specs.declared.tree.ReadFault.TheVariants.{Missing}

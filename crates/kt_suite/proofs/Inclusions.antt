@@ -1,6 +1,6 @@
 -- The marks of a statement's step, with the file that it includes.
 use Rattle.std.proofs.Common.{Bool, true, false, nat_le, bytes_eq, if◌then◌else◌, Some, None, Result, Ok, Err, ◌≡◌, ◌<◌, ◌+◌, ℕ, List, [], ◌∷◌, ◌++◌, length, arith, refl, sym, subst, ap}
-use Rattle.kt_suite.proofs.Common.{nat_tests, list_any, IncludeLoop, TooDeep, append-nil, SuiteFault, Meaning, Registry, Step, Next, Enter, Asked, Site, Mark, File, Part, Includes, said, entry_fault, Unfolds, end, entered, file_limit, Walked, through, FileGives, MeaningGives, Stepped, goes, enters, fails}
+use Rattle.kt_suite.proofs.Common.{nat_tests, list_any, IncludeLoop, TooDeep, append-nil, SuiteFault, Meaning, Registry, LoadStep, Next, Enter, Asked, Site, Mark, File, Part, Includes, said, entry_fault, Unfolds, end, entered, file_limit, Walked, through, FileGives, MeaningGives, Stepped, goes, enters, fails}
 use Rattle.kt_suite.proofs.Walking.{walked-then}
 use Rattle.kt_suite.proofs.Unfolding.{unfolds_to}
 
@@ -25,17 +25,17 @@ module _ {T : Type 0} {asks : T → Asked → T → Type 0} where
   step_stops (fails fault w) = w
 
   -- A step to the next statement walks the whole statement.
-  pub step_next : {old new : T} {r after : Registry} {at : Site} {m : Meaning} {step : Step} → step ≡ Next after → Stepped asks old new r at m (Ok step)
+  pub step_next : {old new : T} {r after : Registry} {at : Site} {m : Meaning} {step : LoadStep} → step ≡ Next after → Stepped asks old new r at m (Ok step)
       → Walked asks old new (MeaningGives r.reading at m) r (Ok after)
-  step_next {old = old} {new = new} {r = r} {after = after} {at = at} {m = m} is s = gone_on (subst (λ (x : Step). Stepped asks old new r at m (Ok x)) is s)
+  step_next {old = old} {new = new} {r = r} {after = after} {at = at} {m = m} is s = gone_on (subst (λ (x : LoadStep). Stepped asks old new r at m (Ok x)) is s)
     where
       gone_on : Stepped asks old new r at m (Ok (Next after)) → Walked asks old new (MeaningGives r.reading at m) r (Ok after)
       gone_on (goes _ w) = w
 
   -- A step into a file, with the walk of the file, walks the whole statement.
-  pub step_inner : {mid sub new : T} {r next : Registry} {at : Site} {m : Meaning} {path : List ℕ} {step : Step} {result : Result Registry SuiteFault} → step ≡ Enter next path
+  pub step_inner : {mid sub new : T} {r next : Registry} {at : Site} {m : Meaning} {path : List ℕ} {step : LoadStep} {result : Result Registry SuiteFault} → step ≡ Enter next path
       → Stepped asks mid sub r at m (Ok step) → Walked asks sub new (FileGives next.reading path) next result → Walked asks mid new (MeaningGives r.reading at m) r result
-  step_inner {mid = mid} {sub = sub} {new = new} {r = r} {at = at} {m = m} {result = result} is s w = gone_in (subst (λ (x : Step). Stepped asks mid sub r at m (Ok x)) is s) w
+  step_inner {mid = mid} {sub = sub} {new = new} {r = r} {at = at} {m = m} {result = result} is s w = gone_in (subst (λ (x : LoadStep). Stepped asks mid sub r at m (Ok x)) is s) w
     where
       gone_in : {next : Registry} {path : List ℕ} → Stepped asks mid sub r at m (Ok (Enter next path)) → Walked asks sub new (FileGives next.reading path) next result
           → Walked asks mid new (MeaningGives r.reading at m) r result

@@ -1,6 +1,6 @@
 -- The walk of one statement.
 use Rattle.std.proofs.Common.{Bool, true, false, Some, None, Result, Ok, Err, ◌≡◌, ◌≤◌, ◌<◌, ◌+◌, ℕ, List, [], ◌∷◌, ◌++◌, length, refl, sym, subst, ◌⊎◌, inl, inr, IfOk, IfErr}
-use Rattle.kt_suite.proofs.Common.{Variable, SuiteCause, MissingProgram, TooMany, SuiteFault, Meaning, Program, Registry, Missing, Step, Next, Enter, Asked, Exists, IsNoMemory, beside, Site, site_fault, looked_up, Mark, Asks, File, Listed, Fault, said, unread, entry_fault, Unfolds, end, says, refused, entered, file_limit, program_limit, is_fault, file_too_many, program_too_many, no_question, Walked, through, stops, short, Adds, Entered, Enters, refuses, exceeds, scant, MeaningGives, Stepped, goes, enters, fails}
+use Rattle.kt_suite.proofs.Common.{Variable, SuiteCause, MissingProgram, TooMany, SuiteFault, Meaning, Program, Registry, Missing, LoadStep, Next, Enter, Asked, Exists, IsNoMemory, beside, Site, site_fault, looked_up, Mark, Asks, File, Listed, Fault, said, unread, entry_fault, Unfolds, end, says, refused, entered, file_limit, program_limit, is_fault, file_too_many, program_too_many, no_question, Walked, through, stops, short, Adds, Entered, Enters, refuses, exceeds, scant, MeaningGives, Stepped, goes, enters, fails}
 use Rattle.kt_base.specs.declared.child.Interface.{Interface}
 use Rattle.kt_suite.specs.Inner.Walks.{counts}
 use Rattle.kt_suite.specs.declared.statement.Meaning.TheVariants as meaning
@@ -75,7 +75,7 @@ module _ {S : Type 0} (leads : S → Asked → S → Type 0) where
       (goes r (through [] r (record { there = true; unfolds = end _ }) refl refl))
 
   step_enter_at : (old : S) (r : Registry) (at : Site) (name : List ℕ) (result : Result Registry SuiteFault) → Enters at r (beside at.file name) result
-      → Stepped leads old old r at (meaning.Include name) (elim result as (λ _. Result Step SuiteFault) [ Ok next ↦ Ok (Enter next (beside at.file name)) | Err fault ↦ Err fault ])
+      → Stepped leads old old r at (meaning.Include name) (elim result as (λ _. Result LoadStep SuiteFault) [ Ok next ↦ Ok (Enter next (beside at.file name)) | Err fault ↦ Err fault ])
   step_enter_at old r at name _ (refuses cause e) =
       fails (site_fault at cause) (stops [] [] (Fault (site_fault at cause)) r (site_fault at cause) (record { there = true; unfolds = refused _ _ _ _ _ _ e (end _) }) refl refl (is_fault (site_fault at cause)))
   step_enter_at old r at name _ (exceeds e n) =
@@ -83,11 +83,11 @@ module _ {S : Type 0} (leads : S → Asked → S → Type 0) where
   step_enter_at old r at name _ (counts e n) = enters (beside at.file name) refl e n refl
   step_enter_at old r at name _ (scant fault n) = fails fault (at_once old r at (meaning.Include name) fault n)
 
-  pub step_included : (old : S) (r : Registry) (at : Site) (m : Meaning) (name : List ℕ) (result : Result Step SuiteFault) → meaning.Include name ≡ m
+  pub step_included : (old : S) (r : Registry) (at : Site) (m : Meaning) (name : List ℕ) (result : Result LoadStep SuiteFault) → meaning.Include name ≡ m
       → IfOk result (λ step. Entered at r (beside at.file name) step) → IfErr result (λ fault. Enters at r (beside at.file name) (Err fault)) → Stepped leads old old r at m result
   step_included old r at m name (Ok step) e ok err =
       subst (λ (x : Meaning). Stepped leads old old r at x (Ok step)) e
-      (subst (λ (x : Step). Stepped leads old old r at (meaning.Include name) (Ok x)) (sym ok.2) (step_enter_at old r at name (Ok ok.0) ok.1))
+      (subst (λ (x : LoadStep). Stepped leads old old r at (meaning.Include name) (Ok x)) (sym ok.2) (step_enter_at old r at name (Ok ok.0) ok.1))
   step_included old r at m name (Err fault) e ok err =
       subst (λ (x : Meaning). Stepped leads old old r at x (Err fault)) e (step_enter_at old r at name (Err fault) err)
 

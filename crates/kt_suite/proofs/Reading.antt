@@ -1,6 +1,6 @@
 -- A file that is read statement by statement.
 use Rattle.std.proofs.Common.{drop, Option, None, Ok, Err, ◌≡◌, ◌-◌, ℕ, List, [], ◌∷◌, ◌++◌, length, take, ◌<◌, arith, length-append, refl, sym, subst, ap, ◌∙◌}
-use Rattle.kt_suite.proofs.Common.{append_assoc, append-nil, take_at, Stmt, SuiteFault, Meaning, Registry, Step, Enter, Asked, Read, meaning_of, Site, Mark, Asks, Part, Says, said, suite_after, StatementsSay, none, one, opened, Unfolds, end, says, Counted, Walked, through, FileGives, MeaningGives, Stepped, enters, Opened, opens}
+use Rattle.kt_suite.proofs.Common.{append_assoc, append-nil, take_at, Stmt, SuiteFault, Meaning, Registry, LoadStep, Enter, Asked, Read, meaning_of, Site, Mark, Asks, Part, Says, said, suite_after, StatementsSay, none, one, opened, Unfolds, end, says, Counted, Walked, through, FileGives, MeaningGives, Stepped, enters, Opened, opens}
 use Rattle.kt_suite.proofs.Counting.{counted-reading, totals}
 use Rattle.kt_suite.proofs.Unfolding.{unfolds-append, some_marks, some_parts}
 use Rattle.kt_suite.proofs.Walking.{walked-enough, walked-reading, walked-then}
@@ -90,6 +90,6 @@ module _ {T : Type 0} (asks : T → Asked → T → Type 0) where
       let room = entered_below r.reading path e in
       omega (arith, same, room, length-append start.reading (file ∷ []))
 
-  pub deeper : (old mid sub : T) (start : Registry) (file : List ℕ) (r next : Registry) (suite : Option (List ℕ)) (m : Meaning) (at : Site) (path : List ℕ) (step : Step) (left : List Stmt) → step ≡ Enter next path
+  pub deeper : (old mid sub : T) (start : Registry) (file : List ℕ) (r next : Registry) (suite : Option (List ℕ)) (m : Meaning) (at : Site) (path : List ℕ) (step : LoadStep) (left : List Stmt) → step ≡ Enter next path
       → Reading asks old mid start file r suite left → Stepped asks mid sub r at m (Ok step) → 32 - length next.reading < 32 - length start.reading
-  deeper old mid sub start file r next suite m at path step left is f s = deep old mid sub start file r next suite m at path left f (subst (λ (x : Step). Stepped asks mid sub r at m (Ok x)) is s)
+  deeper old mid sub start file r next suite m at path step left is f s = deep old mid sub start file r next suite m at path left f (subst (λ (x : LoadStep). Stepped asks mid sub r at m (Ok x)) is s)

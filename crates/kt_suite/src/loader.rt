@@ -1,7 +1,7 @@
 ghost use Rattle.std.specs.Prelude.{◌≡◌, ◌⊎◌, ◌≤◌, ◌-◌, ◌++◌, [], ◌∷◌, List, ℕ, length, take, drop, IfOk};
 ghost use Rattle.kt_suite.specs.Common.{Answered, Asked, IsSteady, program_limit, Unfinished, Registered, Outcome, Walked, FileGives, Script, IsText, fault_at, read_fault, script_line, IsNoMemory, WellOpened, Opened};
 
-use crate::fault::{blame, no_memory};
+use crate::fault::{fault_at, no_memory};
 use crate::statement::wrong_opening;
 use crate::stepping::step;
 use crate::{Program, ReadFault, SuiteCause, SuiteFault, Tree};
@@ -65,7 +65,7 @@ impl Registry {
 
 /// A next step of the loader, after a statement.
 #[derive(Drop)]
-pub enum Step {
+pub enum LoadStep {
     /// The next statement of the file.
     Next(Registry),
     /// The file at this path, and then the next statement of the including file.
@@ -78,7 +78,7 @@ fn unread(alloc: Global, file: &Text, why: ReadFault) -> SuiteFault
 {
     match why {
         ReadFault::Memory(refusal) => no_memory(alloc, refusal),
-        ReadFault::Missing | ReadFault::Failed => blame(file, alloc, 0, SuiteCause::Unreadable),
+        ReadFault::Missing | ReadFault::Failed => fault_at(file, alloc, 0, SuiteCause::Unreadable),
     }
 }
 
@@ -100,7 +100,7 @@ fn unparsed(alloc: Global, file: &Text, why: ScriptFault) -> SuiteFault
 {
     match why {
         ScriptFault::NoMemory(refusal) => no_memory(alloc, refusal),
-        _ => blame(file, alloc, line_of(why), SuiteCause::Script(why)),
+        _ => fault_at(file, alloc, line_of(why), SuiteCause::Script(why)),
     }
 }
 
@@ -109,9 +109,9 @@ fn well_opened(alloc: Global, file: &Text, stmts: Items<Stmt>) -> Result<Items<S
     ensures { WellOpened file.now stmts result }
 {
     match stmts.as_slice().split_first() {
-        None => return Err(blame(file, alloc, 1, SuiteCause::NoSyntax)),
+        None => return Err(fault_at(file, alloc, 1, SuiteCause::NoSyntax)),
         Some((first, _rest)) => if let Some(cause) = wrong_opening(&first.action) {
-            return Err(blame(file, alloc, first.line, cause));
+            return Err(fault_at(file, alloc, first.line, cause));
         },
     }
     Ok(stmts)
@@ -174,8 +174,8 @@ fn read_file<T: Tree>(
             Err(fault) => return Err(fault),
         };
         match turn {
-            Step::Next(next) => registry = next,
-            Step::Enter(next, path) => {
+            LoadStep::Next(next) => registry = next,
+            LoadStep::Enter(next, path) => {
                 registry = match read_file(alloc, tree, next, &path) {
                     Ok(next) => next,
                     Err(fault) => return Err(fault),

@@ -1,8 +1,8 @@
 ghost use Rattle.std.specs.Prelude.{◌≡◌, Err, IfErr, IfOk, OnOk};
 ghost use Rattle.kt_suite.specs.Common.{list_any, bytes_eq, beside, entry_fault, meaning_of, suite_after, Adds, Entered, Enters, Stepped};
 
-use crate::fault::{blame, no_memory};
-use crate::loader::{Registry, Step};
+use crate::fault::{fault_at, no_memory};
+use crate::loader::{LoadStep, Registry};
 use crate::paths::path_beside;
 use crate::statement::{Meaning, read_statement};
 use crate::within::is_same;
@@ -51,10 +51,10 @@ fn enter(
     ensures { Enters (record { file = file.now; line = line }) registry path.now result }
 {
     if let Some(cause) = wrong_entry(registry.reading.as_slice(), path) {
-        return Err(blame(file, alloc, line, cause));
+        return Err(fault_at(file, alloc, line, cause));
     }
     if registry.files >= FILE_LIMIT {
-        return Err(blame(file, alloc, line, SuiteCause::TooMany));
+        return Err(fault_at(file, alloc, line, SuiteCause::TooMany));
     }
     let mut registry = registry;
     registry.files += 1;
@@ -68,7 +68,7 @@ fn include(
     line: u32,
     registry: Registry,
     name: &Text,
-) -> Result<Step, SuiteFault>
+) -> Result<LoadStep, SuiteFault>
     ensures ok { IfOk result (λ step. Entered (record { file = file.now; line = line })
         registry (beside file.now name.now) step) }
     ensures err { IfErr result (λ fault. Enters (record { file = file.now; line = line })
@@ -78,7 +78,7 @@ fn include(
         Err(refusal) => Err(no_memory(alloc, refusal)),
         Ok(path) => match enter(alloc, file, line, registry, &path) {
             Err(fault) => Err(fault),
-            Ok(next) => Ok(Step::Enter(next, path)),
+            Ok(next) => Ok(LoadStep::Enter(next, path)),
         },
     }
 }
@@ -102,10 +102,10 @@ fn register<T: Tree>(
         Ok(path) => path,
     };
     if !tree.exists(&path) {
-        return Err(blame(file, alloc, line, SuiteCause::MissingProgram));
+        return Err(fault_at(file, alloc, line, SuiteCause::MissingProgram));
     }
     if registry.programs.len() >= PROGRAM_LIMIT {
-        return Err(blame(file, alloc, line, SuiteCause::TooMany));
+        return Err(fault_at(file, alloc, line, SuiteCause::TooMany));
     }
     let mut program = named;
     program.path = path;
@@ -126,7 +126,7 @@ pub fn step<T: Tree>(
     registry: Registry,
     suite: &mut Option<Text>,
     stmt: &Stmt,
-) -> Result<Step, SuiteFault>
+) -> Result<LoadStep, SuiteFault>
     ensures step { Stepped T.asks tree.old tree.new registry
         (record { file = file.now; line = stmt.now.line })
         (meaning_of suite.old stmt.now.action) result }
@@ -135,10 +135,10 @@ pub fn step<T: Tree>(
 {
     match read_statement(alloc, &*suite, &stmt.action) {
         Err(refusal) => Err(no_memory(alloc, refusal)),
-        Ok(Meaning::Wrong(cause)) => Err(blame(file, alloc, stmt.line, cause)),
+        Ok(Meaning::Wrong(cause)) => Err(fault_at(file, alloc, stmt.line, cause)),
         Ok(Meaning::Suite(name)) => {
             *suite = Some(name);
-            Ok(Step::Next(registry))
+            Ok(LoadStep::Next(registry))
         }
         Ok(Meaning::Include(name)) => include(alloc, file, stmt.line, registry, &name),
         Ok(Meaning::Program(interface, name, own, props)) => {
@@ -150,7 +150,7 @@ pub fn step<T: Tree>(
             };
             match register(alloc, tree, file, stmt.line, registry, named) {
                 Err(fault) => Err(fault),
-                Ok(next) => Ok(Step::Next(next)),
+                Ok(next) => Ok(LoadStep::Next(next)),
             }
         }
     }

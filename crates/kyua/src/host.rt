@@ -1,36 +1,36 @@
-//! The implementation of `Platform` for the host.
+//! The implementation of `ResultsHost` for the host.
 
 use kt_base::Text;
 use kt_child::DriverFault;
-use kt_cli::{Platform, Surroundings};
-use kt_store::{Access, RunsFile, StoreFault, Supposed};
+use kt_cli::{ProcessEnv, ResultsHost};
+use kt_store::{Access, RunsFile, StoreFault, TrustedContents};
 use sqlite::{FileFrom, FileStore, Unknown};
 
 /// Specification of the path and the initial contents of the results file.
-pub(crate) trait Past: Supposed {
+pub(crate) trait InitialContents: TrustedContents {
     ghost use Rattle.std.specs.Prelude.{ℕ, List};
 
     ghost path: { List ℕ };
 }
 
-impl Past for Unknown {
+impl InitialContents for Unknown {
     ghost use Rattle.std.specs.Prelude.{[]};
 
     ghost path = { [] };
 }
 
-/// A `Platform` of the host, whose results file is an SQLite database.
+/// A `ResultsHost` of the host, whose results file is an SQLite database.
 ///
 /// Only contracts use `S`: it represents the initial contents of the results file.
 #[derive(Drop)]
-pub(crate) struct Host<'a, S> {
+pub(crate) struct KyuaHost<'a, S> {
     /// The runtime, through which files and the environment are read.
     pub(crate) rt: &'a HostRuntime,
     /// The only value of `S`, which the first open of a results file consumes.
     pub(crate) start: Option<S>,
 }
 
-impl<S: Past> Platform for Host<'_, S> {
+impl<S: InitialContents> ResultsHost for KyuaHost<'_, S> {
     ghost use Rattle.sqlite_wal.specs.Files.{image_at};
     ghost use Rattle.kt_cli.specs.Platforms.{InFiles};
 
@@ -46,7 +46,7 @@ impl<S: Past> Platform for Host<'_, S> {
         results.close()
     }
 
-    fn surroundings(&mut self) -> Result<Surroundings, DriverFault> {
-        Surroundings::of_process(self.rt)
+    fn process_env(&mut self) -> Result<ProcessEnv, DriverFault> {
+        ProcessEnv::of_process(self.rt)
     }
 }

@@ -3,11 +3,11 @@
 
 mod host;
 
-use host::{Host, Past};
+use host::{InitialContents, KyuaHost};
 use kt_child::HostOs;
 use kt_cli::{
-    HeldOutput, HostMachine, LineOutput, Outside, Platform, SharedOutput, StandardOutput,
-    carry_out_words,
+    HeldOutput, HostHandles, LineOutput, OsFiles, ResultsHost, SharedOutput, StandardOutput,
+    run_args,
 };
 use sqlite::Unknown;
 use std::alloc::Global;
@@ -18,30 +18,24 @@ use std::process::ExitCode;
 /// Executes the command in the arguments of the process, and returns the exit status.
 ///
 /// Bytes that the reader of standard output does not take yet are held in memory.
-fn execute<P: Platform>(rt: &HostRuntime, host: &mut P) -> ExitCode {
+fn execute<P: ResultsHost>(rt: &HostRuntime, host: &mut P) -> ExitCode {
     let held = RefCell::new(HeldOutput::new(rt.alloc(), StandardOutput::new(rt)));
-    let outside = Outside {
+    let outside = HostHandles {
         alloc: rt.alloc(),
-        machine: HostMachine { rt },
+        machine: OsFiles { rt },
         os: HostOs::new(rt, SharedOutput::new(&held)),
     };
-    // `carry_out_words` sets `by_line` for `test`.
+    // `run_args` sets `by_line` for `test`.
     let mut out = LineOutput::new(SharedOutput::new(&held), false);
-    let (status, _outside) = carry_out_words(
-        outside,
-        host,
-        env::args(rt),
-        &mut out,
-        &mut rt.stderr(),
-    );
+    let (status, _outside) = run_args(outside, host, env::args(rt), &mut out, &mut rt.stderr());
     ExitCode::from(status)
 }
 
 /// Executes the command in the arguments of the process, on the host.
 ///
 /// Only contracts use `start`: it represents the initial contents of the results file.
-fn run<S: Past>(rt: &HostRuntime, start: S) -> ExitCode {
-    let mut host = Host {
+fn run<S: InitialContents>(rt: &HostRuntime, start: S) -> ExitCode {
+    let mut host = KyuaHost {
         rt,
         start: Some(start),
     };

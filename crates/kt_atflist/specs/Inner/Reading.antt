@@ -12,11 +12,11 @@ use Rattle.kt_atflist.specs.declared.listing.CaseDef.{CaseDef}
 use Rattle.kt_atflist.specs.declared.list_fault.ListCause.{ListCause}
 use Rattle.kt_atflist.specs.declared.list_fault.ListCause.TheVariants.{BadHeader, BadLine, NoIdent, RepeatedKey, RepeatedIdent, UnknownKey, BadValue, EmptyList, NotUtf8}
 use Rattle.kt_atflist.specs.Read.{Read}
-use Rattle.kt_atflist.specs.declared.reading.Step.{Step}
-use Rattle.kt_atflist.specs.declared.reading.Step.TheVariants.{To, Wrong}
+use Rattle.kt_atflist.specs.declared.reading.ListStep.{ListStep}
+use Rattle.kt_atflist.specs.declared.reading.ListStep.TheVariants.{To, Wrong}
 
 -- `begin_named cases name`: the step that begins a block for the case `name` after `cases`.
-abbrev pub begin_named : List CaseDef → List ℕ → Step
+abbrev pub begin_named : List CaseDef → List ℕ → ListStep
 begin_named cases name = if is_listed cases name then Wrong RepeatedIdent else To (record { cases = cases; block = Some (named name) })
 
 -- `name_from ident`: the name of the case with the bytes `ident`, or the cause of the fault.
@@ -25,7 +25,7 @@ name_from None = Err NoIdent
 name_from (Some ident) = if is_name ident then Ok (lossy ident) else Err BadValue
 
 -- `begin_with cases name`: the step that begins a block after `cases`, if there is a name.
-abbrev pub begin_with : List CaseDef → Result (List ℕ) ListCause → Step
+abbrev pub begin_with : List CaseDef → Result (List ℕ) ListCause → ListStep
 begin_with cases (Err cause) = Wrong cause
 begin_with cases (Ok name) = begin_named cases name
 
@@ -59,23 +59,23 @@ set_line block key None = Err BadLine
 set_line block key (Some value) = if is_empty key then Err BadLine else set_key block (lossy key) (lossy value)
 
 -- `go_on_with cases change`: the step to a changed block after `cases`.
-abbrev pub go_on_with : List CaseDef → Change → Step
+abbrev pub go_on_with : List CaseDef → Change → ListStep
 go_on_with cases (Err cause) = Wrong cause
 go_on_with cases (Ok block) = To (record { cases = cases; block = Some block })
 
 -- `go_on cases block line`: the step for a line of `block` that isn't its first line; an empty line
 -- ends the block.
-abbrev pub go_on : List CaseDef → CaseDef → List ℕ → Step
+abbrev pub go_on : List CaseDef → CaseDef → List ℕ → ListStep
 go_on cases block line = if is_empty line then To (record { cases = cases ++ block ∷ []; block = None }) else go_on_with cases (set_line block (key_in line) (value_in line))
 
 -- `step_from cases block line`: the step for `line` after `cases`, in `block` if there is a block
 -- in progress.
-abbrev pub step_from : List CaseDef → Option CaseDef → List ℕ → Step
+abbrev pub step_from : List CaseDef → Option CaseDef → List ℕ → ListStep
 step_from cases None line = begin_with cases (name_from (ident_in line))
 step_from cases (Some block) line = go_on cases block line
 
 -- `step_of r line`: the step for `line` in the state `r`.
-abbrev pub step_of : Read → List ℕ → Step
+abbrev pub step_of : Read → List ℕ → ListStep
 step_of r line = step_from r.cases r.block line
 
 -- `closed cases block`: `cases`, followed by the case of a block in progress.
@@ -89,7 +89,7 @@ finished r = closed r.cases r.block
 
 -- `led n step more`: the result of line `n` with this step; `more` is the result of the rest by the
 -- next state.
-abbrev pub led : ℕ → Step → (Read → Outcome) → Outcome
+abbrev pub led : ℕ → ListStep → (Read → Outcome) → Outcome
 led n (Wrong cause) more = Err (fault_at cause n)
 led n (To r) more = more r
 

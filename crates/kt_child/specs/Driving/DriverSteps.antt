@@ -3,7 +3,7 @@ use Rattle.std.specs.Prelude.{◌≡◌, ℕ, List}
 use Rattle.kt_child.specs.Types.{Chain, Ended, Job, Listing, Role, StartAnswer, Variable}
 use Rattle.kt_child.specs.declared.driving.driver.Driver.{Driver}
 use Rattle.kt_child.specs.System.Calls.{Call}
-use Rattle.kt_child.specs.Driving.Board.{Starts, Waited, board}
+use Rattle.kt_child.specs.Driving.DriverState.{Starts, Waited, driver_state}
 use Rattle.kt_child.specs.Driving.Lists.{ListsBy}
 
 -- `leads` is the relation of the system's calls.
@@ -12,14 +12,14 @@ module _ {O : Type 0} (leads : O → Call → O → Type 0) where
   -- child. Its directories `source` and `root` are unchanged.
   abbrev pub DriverStarts : Driver O → Job → Role → StartAnswer → Driver O → Type 0
   DriverStarts old job role answer new =
-      ((calls : List Call) × Chain leads old.os calls new.os × Starts old.source old.root (board old) job role calls answer (board new))
+      ((calls : List Call) × Chain leads old.os calls new.os × Starts old.source old.root (driver_state old) job role calls answer (driver_state new))
       × (new.source ≡ old.source) × (new.root ≡ old.root)
 
   -- `DriverWaits old ended new`: `new` is the driver `old` after a wait for one child, with the
   -- record `ended`.
   abbrev pub DriverWaits : Driver O → Ended → Driver O → Type 0
   DriverWaits old ended new =
-      ((calls : List Call) × Chain leads old.os calls new.os × Waited old.running.children (board old) calls ended new.running.children (board new))
+      ((calls : List Call) × Chain leads old.os calls new.os × Waited old.running.children (driver_state old) calls ended new.running.children (driver_state new))
       × (new.source ≡ old.source) × (new.root ≡ old.root)
 
   -- `DriverLists old program variables answer new`: `new` is the driver `old` after a list of

@@ -1,6 +1,6 @@
 -- Purposes of children, and plans of their starts.
 use Rattle.std.specs.Prelude.{ℕ, List, [], ◌++◌, codes, if◌then◌else◌, false}
-use Rattle.kt_child.specs.Types.{Atf, Body, Case, Cleanup, Job, Paths, Role, Spawning, Variable, Want}
+use Rattle.kt_child.specs.Types.{Atf, Body, CaseAttempt, Cleanup, Job, Paths, Role, Spawning, Variable, Want}
 use Rattle.kt_base.specs.Texts.{is_empty}
 use Rattle.kt_suite.specs.Paths.{parent_of}
 use Rattle.kt_child.specs.declared.planning.Want.TheVariants.{List as Listing, Body as BodyOf, Cleanup as CleanupOf}
@@ -23,7 +23,7 @@ limit_of job Body = job.timeout
 limit_of job Cleanup = 60
 
 -- A purpose of a child, with its program, variables and case, and its timeout in seconds.
-pub record Purpose : Type 0 where
+pub record ChildPurpose : Type 0 where
   pub want : Want
   pub program : List ℕ
   pub variables : List Variable
@@ -36,17 +36,17 @@ want_of Body = BodyOf
 want_of Cleanup = CleanupOf
 
 -- `job_purpose job role`: the purpose of `job`'s child in `role`.
-abbrev pub job_purpose : Job → Role → Purpose
+abbrev pub job_purpose : Job → Role → ChildPurpose
 job_purpose job role =
     record { want = want_of role; program = job.program; variables = job.vars; case_name = job.case_name; limit = limit_of job role }
 
 -- `list_purpose program variables`: the purpose of a child that lists the cases of `program`.
-abbrev pub list_purpose : List ℕ → List Variable → Purpose
+abbrev pub list_purpose : List ℕ → List Variable → ChildPurpose
 list_purpose program variables = record { want = Listing; program = program; variables = variables; case_name = []; limit = 300 }
 
 -- `spawning_for source p c`: the plan of a child's start for the purpose `p` and the case `c`.
 -- `source` is the directory of the root Kyuafile.
-abbrev pub spawning_for : List ℕ → Purpose → Case → Spawning
+abbrev pub spawning_for : List ℕ → ChildPurpose → CaseAttempt → Spawning
 spawning_for source p c =
     record {
       child = child_of c;
@@ -61,15 +61,15 @@ spawning_for source p c =
     }
 
 -- `spawning_of source job c`: the plan of a start of `job`'s child for the case `c`.
-abbrev pub spawning_of : List ℕ → Job → Case → Spawning
+abbrev pub spawning_of : List ℕ → Job → CaseAttempt → Spawning
 spawning_of source job c = spawning_for source (job_purpose job c.role) c
 
 -- `list_case root number`: the case of a list with the attempt number `number`.
-abbrev pub list_case : List ℕ → ℕ → Case
+abbrev pub list_case : List ℕ → ℕ → CaseAttempt
 list_case root number = record { position = 0; attempt = number; role = Body; interface = Atf; cleanup = false; paths = paths_of root number }
 
 -- `case_of job role number paths`: the case of `job`'s child in `role`. `number` and `paths` are
 -- those of its body.
-abbrev pub case_of : Job → Role → ℕ → Paths → Case
+abbrev pub case_of : Job → Role → ℕ → Paths → CaseAttempt
 case_of job role number paths =
     record { position = job.position; attempt = number; role = role; interface = job.interface; cleanup = job.cleanup; paths = paths }

@@ -1,11 +1,11 @@
 -- A list of test cases that an ATF program prints.
 use Rattle.std.specs.Prelude.{◌≡◌, ◌<◌, ◌+◌, ◌-◌, ◌^◌, ◌⊎◌, ℕ, List, [], ◌∷◌, ◌++◌, Bool, Result, Ok, Err}
-use Rattle.kt_child.specs.Types.{Case, Chain, FileRead, ListBytes, Listing, OsFault, Outcome, Spawning, Variable, Watched}
+use Rattle.kt_child.specs.Types.{CaseAttempt, Chain, FileRead, ListBytes, Listing, OsFault, Outcome, Spawning, Variable, Watched}
 use Rattle.kt_child.specs.declared.driving.driver.Driver.{Driver}
 use Rattle.kt_base.specs.declared.child.Refused.TheVariants.{Memory, Directory}
 use Rattle.kt_atflist.specs.declared.listing.Listing.TheVariants.{Refused as RefusedFor, Ended}
 use Rattle.kt_child.specs.System.Calls.{Call, ReadFile, RemoveTree}
-use Rattle.kt_child.specs.Driving.Board.{Alive, IsOver, alive_of}
+use Rattle.kt_child.specs.Driving.DriverState.{Alive, IsOver, alive_of}
 use Rattle.kt_child.specs.Driving.JobPlan.{list_case, list_purpose, spawning_for}
 use Rattle.kt_child.specs.Driving.Starting.{SetUp, spawned}
 use Rattle.kt_child.specs.Polling.Turns.{WaitedOn}
@@ -14,7 +14,7 @@ use Rattle.kt_child.specs.Ending.Reads.{IsListWithin, list_of}
 -- `WatchedList plan c calls outcome bytes`: `calls` poll a program that lists its test cases until
 -- it has finished, read its output and remove its directory. `outcome` follows from all responses,
 -- and `bytes` has at most 1,048,576 bytes.
-abbrev pub WatchedList : Spawning → Case → List Call → Outcome → ListBytes → Type 0
+abbrev pub WatchedList : Spawning → CaseAttempt → List Call → Outcome → ListBytes → Type 0
 WatchedList plan c calls outcome bytes =
     (place : ℕ) × (left : List Watched) × (polls : List Call) × (read : Result FileRead OsFault) × (done : Bool)
     × (calls ≡ polls ++ ReadFile plan.out 1048576 read ∷ RemoveTree plan.dir done ∷ [])
@@ -24,7 +24,7 @@ WatchedList plan c calls outcome bytes =
 
 -- `RanList plan c calls result`: `calls` are all calls for a list of test cases, from the program's
 -- start to the removal of its directory.
-abbrev pub RanList : Spawning → Case → List Call → Listing → Type 0
+abbrev pub RanList : Spawning → CaseAttempt → List Call → Listing → Type 0
 RanList plan c calls (RefusedFor cause) = SetUp plan calls (Err cause)
 RanList plan c calls (Ended outcome bytes) =
     (start : List Call) × (more : List Call) × (calls ≡ start ++ more)

@@ -4,7 +4,7 @@ use Rattle.kt_child.specs.Types.{Body, Ended, Job, Listing, Role, StartAnswer, T
 use Rattle.kt_child.specs.declared.driving.driver.Driver.{Driver}
 use Rattle.kt_child.specs.System.Calls.{Call}
 use Rattle.kt_child.specs.Inner.Children.{times}
-use Rattle.kt_child.specs.Driving.Board.{Board, board_of}
+use Rattle.kt_child.specs.Driving.DriverState.{DriverState, driver_state_of}
 use Rattle.kt_child.specs.Driving.ChildrenState.{idle_state}
 use Rattle.kt_child.specs.Driving.DriverSteps.{DriverLists, DriverStarts, DriverWaits}
 use Rattle.kt_child.specs.Driving.Runs.{Runs}
@@ -40,16 +40,16 @@ AttemptsDiffer {O} leads =
     → is_attempt attempt ≡ true → d.next < 2 ^ 64 - 1 → Serves leads d attempt e → ServesAll leads e requests f → d.next < f.next
 
 -- `numbers b`: the attempt numbers of the cases with a running child or a pending cleanup.
-abbrev pub numbers : Board → List ℕ
+abbrev pub numbers : DriverState → List ℕ
 numbers b = map (λ a. a.case.attempt) b.alive ++ map (λ c. c.attempt) b.owed
 
 -- `IsApart b`: each attempt number occurs at most once on the board `b` and is lower than the next
 -- number. So no two children on a board have the same name.
-abbrev pub IsApart : Board → Type 0
+abbrev pub IsApart : DriverState → Type 0
 IsApart b = (n : ℕ) → (times n (numbers b) ≤ 1) × (b.next ≤ n → times n (numbers b) ≡ 0)
 
 -- `NumbersDiffer`: `IsApart` is true of each board that a trace reaches from an idle board.
 abbrev pub NumbersDiffer : Type 0
 NumbersDiffer =
-    (plan : List Job) (source root : List ℕ) (next : ℕ) (T : Trace) (calls : List Call) (b : Board)
-    → Runs plan source root (board_of idle_state next) T calls b → IsApart b
+    (plan : List Job) (source root : List ℕ) (next : ℕ) (T : Trace) (calls : List Call) (b : DriverState)
+    → Runs plan source root (driver_state_of idle_state next) T calls b → IsApart b

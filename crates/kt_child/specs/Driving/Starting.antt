@@ -1,6 +1,6 @@
 -- The start of a child: its calls, and the cause of a refusal.
 use Rattle.std.specs.Prelude.{◌≡◌, ℕ, List, [], ◌∷◌, ◌++◌, Result, Ok, Err, is_err, ◌⊎◌}
-use Rattle.kt_child.specs.Types.{Body, Case, Cleanup, OsFault, Refused as RefusedFor, Role, Spawning, StartAnswer, Started as StartedAt, Watched}
+use Rattle.kt_child.specs.Types.{Body, CaseAttempt, Cleanup, OsFault, Refused as RefusedFor, Role, Spawning, StartAnswer, Started as StartedAt, Watched}
 use Rattle.kt_base.specs.declared.child.Refused.{Refused}
 use Rattle.kt_base.specs.declared.child.Refused.TheVariants.{Directory, Output, Spawn as NotSpawned, Memory as NoMemory}
 use Rattle.kt_child.specs.declared.system.OsFault.TheVariants.{Failed, Memory}
@@ -83,7 +83,7 @@ Started p calls (RefusedFor cause) = SetUp p calls (Err cause)
 
 -- `spawned limit c`: the child of the case `c` that has just started, with the timeout `limit` in
 -- seconds.
-abbrev pub spawned : ℕ → Case → Watched
+abbrev pub spawned : ℕ → CaseAttempt → Watched
 spawned limit c = record { case = c; limit = limit; watch = fresh }
 
 -- `Unbegun role dir calls answer`: a start for which an allocation failed. Its only call removes

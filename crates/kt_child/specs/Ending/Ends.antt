@@ -1,6 +1,6 @@
 -- The calls after the last poll of a child.
 use Rattle.std.specs.Prelude.{◌≡◌, ◌≤◌, ℕ, Bool, true, false, ◌&&◌, List, [], ◌∷◌, ◌++◌, length, Result, if◌then◌else◌}
-use Rattle.kt_child.specs.Types.{Body, Case, Cleanup, Ended, FileRead, OsFault, Outcome, Paths, Role}
+use Rattle.kt_child.specs.Types.{Body, CaseAttempt, Cleanup, Ended, FileRead, OsFault, Outcome, Paths, Role}
 use Rattle.kt_sched.specs.Children.{same_role}
 use Rattle.kt_child.specs.System.Calls.{Call, Now, ReadFile, RemoveTree}
 use Rattle.kt_child.specs.System.Moments.{moment_of}
@@ -18,7 +18,7 @@ err_of Body paths = paths.err
 err_of Cleanup paths = paths.cleanup_err
 
 -- `is_over c`: the case `c` is finished when its current child ends, so no cleanup follows.
-abbrev pub is_over : Case → Bool
+abbrev pub is_over : CaseAttempt → Bool
 is_over c = if same_role c.role Body && c.cleanup then false else true
 
 -- `Removes removed dir calls`: `calls` remove `dir` if `removed` is `true`, and otherwise are none.
@@ -26,11 +26,11 @@ abbrev pub Removes : Bool → List ℕ → List Call → Type 0
 Removes true dir calls = (done : Bool) × (calls ≡ RemoveTree dir done ∷ [])
 Removes false dir calls = calls ≡ []
 
--- `Leaves c calls outcome e`: `calls` create the record `e` of a finished child of `c`. They read
+-- `FinishesChild c calls outcome e`: `calls` create the record `e` of a finished child of `c`. They read
 -- the clock, the evidence, the output and the errors, in that order, and remove the directory. At
 -- most 1,048,576 bytes of each output are read.
-abbrev pub Leaves : Case → List Call → Outcome → Ended → Type 0
-Leaves c calls outcome e =
+abbrev pub FinishesChild : CaseAttempt → List Call → Outcome → Ended → Type 0
+FinishesChild c calls outcome e =
     (now : Result ℕ OsFault) × (reads : List Call) × (out : Result FileRead OsFault) × (err : Result FileRead OsFault) × (last : List Call)
     × (calls ≡ Now now ∷ (reads ++ ReadFile (out_of c.role c.paths) 1048576 out ∷ ReadFile (err_of c.role c.paths) 1048576 err ∷ last))
     × Gathers c.interface c.role c.paths reads e.evidence × Removes (is_over c) c.paths.dir last

@@ -1,6 +1,6 @@
 -- Definitions for the private functions on running children.
 use Rattle.std.specs.Prelude.{map, ℕ, ◌==◌, Bool, true, false, ◌≡◌, ◌+◌, ◌≤◌, List, [], ◌∷◌, All, ◌*◌, ◌<◌, ◌++◌}
-use Rattle.kt_child.specs.Types.{Case, Refused as RefusedFor, StartAnswer, Started as StartedAt, Watch, Watched}
+use Rattle.kt_child.specs.Types.{CaseAttempt, Refused as RefusedFor, StartAnswer, Started as StartedAt, Watch, Watched}
 use Rattle.kt_child.specs.Driving.ChildrenState.{ChildrenState, cases_of}
 
 -- `IsShort killed limit before after`: the poll counts of a running child: fewer than 100 polls for
@@ -37,7 +37,7 @@ times n [] = 0
 times n (m ∷ numbers) = one_if (n == m) + times n numbers
 
 -- `count_at i cases`: the number of `cases` at the position `i`.
-abbrev pub count_at : ℕ → List Case → ℕ
+abbrev pub count_at : ℕ → List CaseAttempt → ℕ
 count_at i cases = times i (map (λ c. c.position) cases)
 
 -- `count_in i b`: the number of cases at the position `i` with a running child or a pending
@@ -47,12 +47,12 @@ count_in i b = count_at i (cases_of b.children) + count_at i b.pending
 
 -- `IsChildrenState children pending`: each child is running, and no two cases have the same
 -- position.
-pub record IsChildrenState (children : List Watched) (pending : List Case) : Type 0 where
+pub record IsChildrenState (children : List Watched) (pending : List CaseAttempt) : Type 0 where
   pub on : All IsOn children
   pub once : (i : ℕ) → count_at i (cases_of children) + count_at i pending ≤ 1
 
 -- `with_pending b pending`: `b` with the pending cases `pending`.
-abbrev pub with_pending : ChildrenState → List Case → ChildrenState
+abbrev pub with_pending : ChildrenState → List CaseAttempt → ChildrenState
 with_pending b pending = record { children = b.children; pending = pending }
 
 -- `state_after_start b child result`: `b` after a start with this result. A started child is the

@@ -1,11 +1,11 @@
 -- Paths, environment and arguments of a child.
 use Rattle.std.specs.Prelude.{ℕ, List, [], ◌∷◌, ◌++◌, map, codes}
 use Rattle.std.specs.Fmt.{decimal}
-use Rattle.kt_child.specs.Types.{Atf, Case, Child, EnvPlan, Interface, Paths, Variable, Want}
+use Rattle.kt_child.specs.Types.{Atf, CaseAttempt, Child, EnvPlan, Interface, Paths, Variable, Want}
 use Rattle.kt_child.specs.declared.planning.Want.TheVariants.{List as Listing, Body, Cleanup}
 
 -- `child_of c`: the name of the current child of the case `c`.
-abbrev pub child_of : Case → Child
+abbrev pub child_of : CaseAttempt → Child
 child_of c = record { attempt = c.attempt; role = c.role }
 
 -- `attempt_dir root number`: the directory of the attempt `number` below `root`.
@@ -29,19 +29,19 @@ paths_of root number =
       cleanup_err = below root number (codes "cleanup.err");
     }
 
--- `variable_word v`: the argument that passes the variable `v` to an ATF program.
-abbrev pub variable_word : Variable → List ℕ
-variable_word v = codes "-v" ++ v.name ++ codes "=" ++ v.value
+-- `variable_argument v`: the argument that passes the variable `v` to an ATF program.
+abbrev pub variable_argument : Variable → List ℕ
+variable_argument v = codes "-v" ++ v.name ++ codes "=" ++ v.value
 
 -- `words_of interface want result source variables case_name`: the arguments of a program that is
 -- started for `want`. `result` is the path of the result file, and `source` the directory of the
 -- program.
 abbrev pub words_of : Interface → Want → List ℕ → List ℕ → List Variable → List ℕ → List (List ℕ)
-words_of Atf Listing result source variables case_name = map variable_word variables ++ codes "-l" ∷ []
+words_of Atf Listing result source variables case_name = map variable_argument variables ++ codes "-l" ∷ []
 words_of Atf Body result source variables case_name =
-    ((codes "-r" ++ result) ∷ (codes "-s" ++ source) ∷ []) ++ map variable_word variables ++ case_name ∷ []
+    ((codes "-r" ++ result) ∷ (codes "-s" ++ source) ∷ []) ++ map variable_argument variables ++ case_name ∷ []
 words_of Atf Cleanup result source variables case_name =
-    ((codes "-s" ++ source) ∷ []) ++ map variable_word variables ++ (case_name ++ codes ":cleanup") ∷ []
+    ((codes "-s" ++ source) ∷ []) ++ map variable_argument variables ++ (case_name ++ codes ":cleanup") ∷ []
 words_of interface want result source variables case_name = []
 
 -- `variable name value`: the variable `name` with the value `value`.

@@ -6,7 +6,7 @@ ghost use Rattle.kt_child.specs.declared.driving.driver.DriverFault.TheVariants 
 
 use crate::driving::running_children::{RunningChildren, refuse};
 use crate::driving::starts::{memory_refusal, spawning, take_number, want_and_limit};
-use crate::planning::{Case, Purpose};
+use crate::planning::{CaseAttempt, ChildPurpose};
 use crate::{Os, Paths, workdir_plan};
 use kt_base::{NoMemory, OUT_OF_MEMORY, Refused, Role, Text};
 use kt_removal::numbered_path;
@@ -176,7 +176,7 @@ impl<O: Os + Drop> Driver<O> {
         ensures source { self.new.source ≡ self.old.source }
         ensures root { self.new.root ≡ self.old.root }
     {
-        let case = Case {
+        let case = CaseAttempt {
             position: job.position,
             attempt,
             role,
@@ -185,7 +185,7 @@ impl<O: Os + Drop> Driver<O> {
             paths,
         };
         let (want, limit) = want_and_limit(job, role);
-        let purpose = Purpose {
+        let purpose = ChildPurpose {
             want,
             program: &job.program,
             variables: &job.vars,

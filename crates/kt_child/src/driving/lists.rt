@@ -3,7 +3,7 @@ ghost use Rattle.kt_child.specs.Common.{Chain, Call, fresh, list_case, list_purp
 
 use crate::driving::starts::{memory_refusal, set_up, spawned, spawning, take_number};
 use crate::ending::ends::read_list;
-use crate::planning::{Case, Purpose, Spawning};
+use crate::planning::{CaseAttempt, ChildPurpose, Spawning};
 use crate::polling::polls::first_over;
 use crate::{Driver, Os, Want, workdir_plan};
 use kt_atflist::{ListBytes, Listing};
@@ -16,7 +16,7 @@ const LIST_LIMIT: u64 = 300;
 
 /// Waits for the end of a program that lists its test cases, reads its output and removes its
 /// directory. Returns the outcome and the output.
-fn watch_list<O: Os>(os: &mut O, plan: &Spawning, case: Case) -> (Outcome, ListBytes)
+fn watch_list<O: Os>(os: &mut O, plan: &Spawning, case: CaseAttempt) -> (Outcome, ListBytes)
     requires { IsOn (spawned plan.now.limit case) }
     ensures { (calls : List Call) × Chain O.leads os.old calls os.new
         × WatchedList plan.now case calls result.0 result.1 }
@@ -29,7 +29,7 @@ fn watch_list<O: Os>(os: &mut O, plan: &Spawning, case: Case) -> (Outcome, ListB
 }
 
 /// Starts a program that lists its test cases, waits for its end and returns the result.
-fn run_list<O: Os>(os: &mut O, plan: &Spawning, case: Case) -> Listing
+fn run_list<O: Os>(os: &mut O, plan: &Spawning, case: CaseAttempt) -> Listing
     requires { IsOn (spawned plan.now.limit case) }
     ensures { (calls : List Call) × Chain O.leads os.old calls os.new
         × RanList plan.now case calls result }
@@ -43,7 +43,7 @@ fn run_list<O: Os>(os: &mut O, plan: &Spawning, case: Case) -> Listing
     }
 }
 
-/// Returns the `Case` of a program that lists its test cases, and the plan of its start. `source`
+/// Returns the `CaseAttempt` of a program that lists its test cases, and the plan of its start. `source`
 /// is the absolute directory of the root Kyuafile.
 fn plan_list(
     alloc: Global,
@@ -52,13 +52,13 @@ fn plan_list(
     attempt: u64,
     program: &Text,
     variables: &Variables,
-) -> Result<(Case, Spawning), NoMemory>
+) -> Result<(CaseAttempt, Spawning), NoMemory>
     ensures case { IfOk result (λ planned. planned.0 ≡ list_case root.now attempt) }
     ensures plan { IfOk result (λ planned. planned.1 ≡ spawning_for source.now
         (list_purpose program.now variables.now) (list_case root.now attempt)) }
     ensures on { IfOk result (λ planned. IsOnBy planned.1.limit fresh) }
 {
-    let case = Case {
+    let case = CaseAttempt {
         position: 0,
         attempt,
         role: Role::Body,
@@ -67,7 +67,7 @@ fn plan_list(
         paths: workdir_plan(alloc, root, attempt)?,
     };
     let none = Text::new(alloc);
-    let purpose = Purpose {
+    let purpose = ChildPurpose {
         want: Want::List,
         program,
         variables,

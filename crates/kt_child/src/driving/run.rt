@@ -1,4 +1,4 @@
-ghost use Rattle.kt_child.specs.Common.{IsIdle, IsPlan, IsWidth, Ran, Trace, Leads, is_among, shown_in, DriverStarts, DriverWaits, AttemptsDiffer, NumbersDiffer, EndsFollow, RunsFrom, board};
+ghost use Rattle.kt_child.specs.Common.{IsIdle, IsPlan, IsWidth, Ran, Trace, Leads, is_among, shown_in, DriverStarts, DriverWaits, AttemptsDiffer, NumbersDiffer, EndsFollow, RunsFrom, driver_state};
 
 use crate::{Driver, Os};
 use kt_base::Items;
@@ -31,20 +31,20 @@ pub fn run_driver<O: Os + Drop, S: Sink>(
         sink.old sink.new result }
     ensures by_trace { (T : Trace)
         → Leads (DriverStarts O.leads) (DriverWaits O.leads) plan T driver.old driver.new
-        → RunsFrom O.leads plan T (board driver.old) driver.old driver.new }
+        → RunsFrom O.leads plan T (driver_state driver.old) driver.old driver.new }
 {
     run_cases(alloc, plan, width, driver, sink)
 }
 
 /// Theorem: no two attempts of a driver have the same number. An attempt is the start of a body, or
 /// a list of a program's test cases.
-pub fn law_of_numbers<O: Os + Drop>()
+pub fn theorem_of_numbers<O: Os + Drop>()
     ensures { AttemptsDiffer O.leads }
 {}
 
 /// Theorem: no two running children have the same name, provided that none was running and no
 /// cleanup was pending at the start.
-pub fn law_of_names()
+pub fn theorem_of_names()
     ensures { NumbersDiffer }
 {}
 
@@ -53,6 +53,6 @@ pub fn law_of_names()
 /// Each poll and kill concerns one child. The outcome of a child follows from all results of its
 /// polls and its kill, by the table of outcomes. The start, the reads and the removal of a child
 /// concern its own directory.
-pub fn law_of_traces<O: Os + Drop>()
+pub fn theorem_of_traces<O: Os + Drop>()
     ensures { EndsFollow O.leads }
 {}

@@ -1,6 +1,6 @@
 ghost use Rattle.std.specs.Prelude.{◌≡◌, ◌+◌, ◌<◌, ◌≤◌, length, List, slice_get, Some, remove, OnOk, true};
 ghost use Rattle.std.specs.Vec.{vec_len, vec_capacity};
-ghost use Rattle.kt_child.specs.declared.planning.Case.{Case};
+ghost use Rattle.kt_child.specs.declared.planning.CaseAttempt.{CaseAttempt};
 ghost use Rattle.kt_child.specs.Driving.Starting.{Unbegun};
 ghost use Rattle.kt_child.specs.declared.polling.Watched.{Watched};
 ghost use Rattle.kt_child.specs.Driving.ChildrenState.{is_among, pending_with};
@@ -9,8 +9,8 @@ ghost use Rattle.kt_child.specs.System.Calls.{Call};
 
 use crate::Os;
 use crate::driving::starts::{memory_refusal, spawned, start_child};
-use crate::ending::ends::{is_over, leave, remove_if};
-use crate::planning::{Case, Spawning};
+use crate::ending::ends::{finish_child, is_over, remove_if};
+use crate::planning::{CaseAttempt, Spawning};
 use crate::polling::Watched;
 use crate::polling::polls::first_over;
 use kt_base::{NoMemory, Refused, Role, Text};
@@ -25,7 +25,7 @@ pub(crate) struct RunningChildren {
     /// The running children, in the order of their start.
     children: Vec<Watched>,
     /// The cases with a pending cleanup.
-    pending: Vec<Case>,
+    pending: Vec<CaseAttempt>,
 }
 
 impl Model for RunningChildren {
@@ -46,7 +46,7 @@ impl Model for RunningChildren {
 }
 
 /// Reserves capacity for one more child and for the pending cleanup of its case.
-fn make_room(children: &mut Vec<Watched>, pending: &mut Vec<Case>) -> Result<(), NoMemory>
+fn make_room(children: &mut Vec<Watched>, pending: &mut Vec<CaseAttempt>) -> Result<(), NoMemory>
     requires room { vec_len children.old + vec_len pending.old ≤ vec_capacity pending.old }
     ensures children { children.new.items ≡ children.old.items }
     ensures pending { pending.new.items ≡ pending.old.items }
@@ -62,10 +62,10 @@ fn make_room(children: &mut Vec<Watched>, pending: &mut Vec<Case>) -> Result<(),
 
 /// Returns the index of the case at a position of the plan. The caller guarantees that there is
 /// such a case.
-fn place_of(cases: &[Case], position: u32) -> usize
+fn place_of(cases: &[CaseAttempt], position: u32) -> usize
     requires { is_among cases.now position ≡ true }
     ensures within { result < length cases.now }
-    ensures position { (c : Case) → slice_get cases.now result ≡ Some c → c.position ≡ position }
+    ensures position { (c : CaseAttempt) → slice_get cases.now result ≡ Some c → c.position ≡ position }
 {
     let mut place = 0;
     while cases[place].position != position {
@@ -75,7 +75,7 @@ fn place_of(cases: &[Case], position: u32) -> usize
 }
 
 /// Removes the child at an index. Keeps its case as pending if its cleanup must still run.
-fn forget(children: &mut Vec<Watched>, pending: &mut Vec<Case>, place: usize)
+fn forget(children: &mut Vec<Watched>, pending: &mut Vec<CaseAttempt>, place: usize)
     requires child { place < vec_len children.old }
     requires room { vec_len children.old + vec_len pending.old ≤ vec_capacity pending.old }
     ensures children { children.new.items ≡ remove children.old.items place }
@@ -103,7 +103,7 @@ pub(crate) fn refuse<O: Os>(os: &mut O, role: Role, dir: &Text, refusal: NoMemor
 
 impl RunningChildren {
     ghost use Rattle.std.specs.Prelude.{◌≡◌, ◌==◌, ℕ, ◌<◌, List, length, slice_get, remove, Some, true, false, if◌then◌else◌};
-    ghost use Rattle.kt_child.specs.Common.{IsEvidence, running_after_end, pending_after_end, IsMoment, HasMoment, Chain, Call, IsOn, count_in, Waited, idle_state, is_among, shown_in, Begun, state_after_start, spawned, with_pending, board_of};
+    ghost use Rattle.kt_child.specs.Common.{IsEvidence, running_after_end, pending_after_end, IsMoment, HasMoment, Chain, Call, IsOn, count_in, Waited, idle_state, is_among, shown_in, Begun, state_after_start, spawned, with_pending, driver_state_of};
     ghost use Rattle.kt_sched.specs.Children.{Child as Shown};
 
     /// Creates an empty list of running children and an empty list of pending cleanups. Nothing is
@@ -118,7 +118,7 @@ impl RunningChildren {
     }
 
     /// Removes the case at a position from those with a pending cleanup, and returns it.
-    pub(crate) fn take_owed(&mut self, position: u32) -> Case
+    pub(crate) fn take_owed(&mut self, position: u32) -> CaseAttempt
         requires { is_among self.old.pending position ≡ true }
         ensures taken { (place : ℕ) × (slice_get self.old.pending place ≡ Some result)
             × (self.new ≡ with_pending self.old (remove self.old.pending place)) }
@@ -134,7 +134,12 @@ impl RunningChildren {
 
     /// Starts a child of a case: a body in a new directory, or a cleanup in the directory of its
     /// body. A child that was started is added to the running children.
-    pub(crate) fn start<O: Os>(&mut self, os: &mut O, case: Case, plan: &Spawning) -> StartAnswer
+    pub(crate) fn start<O: Os>(
+        &mut self,
+        os: &mut O,
+        case: CaseAttempt,
+        plan: &Spawning,
+    ) -> StartAnswer
         requires on { IsOn (spawned plan.now.limit case) }
         requires free { count_in case.position self.old ≡ 0 }
         ensures begun { (calls : List Call) × Chain O.leads os.old calls os.new
@@ -160,8 +165,8 @@ impl RunningChildren {
     pub(crate) fn wait<O: Os>(&mut self, alloc: Global, os: &mut O) -> Ended
         requires { 0 < length self.old.children }
         ensures waited { (calls : List Call) × Chain O.leads os.old calls os.new
-            × ((next : ℕ) → Waited self.old.children (board_of self.old next) calls result
-            self.new.children (board_of self.new next)) }
+            × ((next : ℕ) → Waited self.old.children (driver_state_of self.old next) calls result
+            self.new.children (driver_state_of self.new next)) }
         ensures moment { IsMoment result.moment }
         ensures one_that_ran { (s : Shown) × (shown_in self.old result.position result.role
             ≡ Some s) × IsEvidence s.interface result.role result.evidence }
@@ -171,7 +176,7 @@ impl RunningChildren {
             ≡ pending_after_end (shown_in self.old) (is_among self.old.pending) result k }
     {
         let first = first_over(os, &mut self.children);
-        let ended = leave(alloc, os, &self.children[first.place].case, first.outcome);
+        let ended = finish_child(alloc, os, &self.children[first.place].case, first.outcome);
         forget(&mut self.children, &mut self.pending, first.place);
         ended
     }

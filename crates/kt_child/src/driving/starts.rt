@@ -3,7 +3,7 @@ ghost use Rattle.kt_child.specs.Common.{Chain, Call, HasMoment, SetUp, SetUpIn, 
 
 use crate::ending::ends::{output_paths, remove_if};
 use crate::planning::words::{absolute_path, program_directory};
-use crate::planning::{Case, Purpose, Spawning};
+use crate::planning::{CaseAttempt, ChildPurpose, Spawning};
 use crate::polling::{Watch, Watched};
 use crate::system::moments::moment;
 use crate::{Os, OsFault, Want, argv_plan, env_plan};
@@ -51,8 +51,8 @@ fn copies(first: &Text, second: &Text) -> Result<(Text, Text), NoMemory>
 fn words_for(
     alloc: Global,
     program: &Text,
-    purpose: Purpose<'_>,
-    case: &Case,
+    purpose: ChildPurpose<'_>,
+    case: &CaseAttempt,
 ) -> Result<Items<Text>, NoMemory>
     ensures { IfOk result (λ words. words ≡ words_of case.now.interface purpose.entry.want
         case.now.paths.result (program_directory program.now) purpose.entry.variables.now
@@ -75,8 +75,8 @@ fn words_for(
 pub(crate) fn spawning(
     alloc: Global,
     source: &Text,
-    purpose: Purpose<'_>,
-    case: &Case,
+    purpose: ChildPurpose<'_>,
+    case: &CaseAttempt,
 ) -> Result<Spawning, NoMemory>
     requires some { 1 ≤ purpose.limit }
     requires range { purpose.limit ≤ 1000000 }
@@ -130,7 +130,7 @@ fn cause_of(cause: Refused, fault: OsFault) -> Refused
 
 /// Creates the state of a child that has just started and was not polled yet. `limit` is its
 /// timeout in seconds.
-pub(crate) fn spawned(limit: u64, case: Case) -> Watched
+pub(crate) fn spawned(limit: u64, case: CaseAttempt) -> Watched
     ensures { result ≡ spawned limit case }
 {
     let watch = Watch {

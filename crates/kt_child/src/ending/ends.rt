@@ -1,8 +1,8 @@
 ghost use Rattle.std.specs.Prelude.{◌≡◌, List, ◌≤◌, Result, length};
-ghost use Rattle.kt_child.specs.Common.{IsEvidence, IsMoment, Chain, Call, Leaves, Removes, err_of, is_over, out_of, FileRead, OsFault, ReadFile, IsListWithin, bytes_of, list_of};
+ghost use Rattle.kt_child.specs.Common.{IsEvidence, IsMoment, Chain, Call, FinishesChild, Removes, err_of, is_over, out_of, FileRead, OsFault, ReadFile, IsListWithin, bytes_of, list_of};
 
-use crate::ending::gathering::gather;
-use crate::planning::Case;
+use crate::ending::gathering::read_evidence;
+use crate::planning::CaseAttempt;
 use crate::system::moments::moment;
 use crate::{FileRead, Os, Paths};
 use kt_atflist::ListBytes;
@@ -54,7 +54,7 @@ pub(crate) fn output_paths(role: Role, paths: &Paths) -> (&Text, &Text)
 }
 
 /// Returns `true` if the case is finished when its current child ends, so no cleanup follows.
-pub(crate) fn is_over(case: &Case) -> bool
+pub(crate) fn is_over(case: &CaseAttempt) -> bool
     ensures { result ≡ is_over case.now }
 {
     case.role == Role::Cleanup || !case.cleanup
@@ -72,15 +72,20 @@ pub(crate) fn remove_if<O: Os>(os: &mut O, removed: bool, dir: &Text)
 
 /// Creates the record of a finished child: reads the clock, the evidence and the outputs. Removes
 /// the directory of the attempt if no cleanup follows.
-pub(crate) fn leave<O: Os>(alloc: Global, os: &mut O, case: &Case, outcome: Outcome) -> Ended
+pub(crate) fn finish_child<O: Os>(
+    alloc: Global,
+    os: &mut O,
+    case: &CaseAttempt,
+    outcome: Outcome,
+) -> Ended
     ensures left { (calls : List Call) × Chain O.leads os.old calls os.new
-        × Leaves case.now calls outcome result }
+        × FinishesChild case.now calls outcome result }
     ensures moment { IsMoment result.moment }
     ensures evidence { IsEvidence case.now.interface result.role result.evidence }
 {
     // Read the clock first, so that the time of a case does not include these reads.
     let moment = moment(os);
-    let evidence = gather(alloc, os, case.interface, case.role, &case.paths);
+    let evidence = read_evidence(alloc, os, case.interface, case.role, &case.paths);
     let (out, err) = output_paths(case.role, &case.paths);
     let out = read_kept(alloc, os, out);
     let err = read_kept(alloc, os, err);

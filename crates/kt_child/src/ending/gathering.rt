@@ -57,7 +57,7 @@ fn read_tap<O: Os>(alloc: Global, os: &mut O, path: &Text) -> Tap
 
 /// Reads the evidence of a finished child: the result file of an ATF body, or the output of a TAP
 /// body. Reads nothing for a plain program or a cleanup.
-pub(crate) fn gather<O: Os>(
+pub(crate) fn read_evidence<O: Os>(
     alloc: Global,
     os: &mut O,
     interface: Interface,

@@ -21,7 +21,7 @@ pub enum Want {
 /// A purpose of a child: the part of the test program that it runs, and the values for its
 /// arguments.
 #[derive(Clone, Copy)]
-pub(crate) struct Purpose<'a> {
+pub(crate) struct ChildPurpose<'a> {
     /// The part of the test program that runs.
     pub want: Want,
     /// The path of the program, relative to the directory of the root Kyuafile.
@@ -36,7 +36,7 @@ pub(crate) struct Purpose<'a> {
 
 /// A case, or a list of cases, with a running child or a pending cleanup.
 #[derive(Drop)]
-pub(crate) struct Case {
+pub(crate) struct CaseAttempt {
     /// The position of the case in the plan, counted from 0, or 0 for a list.
     pub position: u32,
     /// The number of the attempt, which is the start of the case's body or the list.
@@ -51,7 +51,7 @@ pub(crate) struct Case {
     pub paths: Paths,
 }
 
-impl Case {
+impl CaseAttempt {
     ghost use Rattle.std.specs.Prelude.{◌≡◌};
     ghost use Rattle.kt_child.specs.Common.{child_of};
 

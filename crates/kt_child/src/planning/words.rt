@@ -1,5 +1,5 @@
 ghost use Rattle.std.specs.Prelude.{◌≡◌, [], ◌∷◌, ◌++◌, map, codes, IfOk, OnOk};
-ghost use Rattle.kt_child.specs.Common.{variable_word, words_of, chars, program_directory, program_path};
+ghost use Rattle.kt_child.specs.Common.{variable_argument, words_of, chars, program_directory, program_path};
 
 use crate::{Paths, Want};
 use kt_base::{Interface, Items, NoMemory, Text, Variable, Variables};
@@ -53,7 +53,7 @@ fn push_both(alloc: Global, texts: &mut Items<Text>, head: &str, tail: &str) -> 
 
 /// Returns the argument `-vNAME=VALUE`, which passes a variable to an ATF program.
 fn word_of_variable(alloc: Global, variable: &Variable) -> Result<Text, NoMemory>
-    ensures { IfOk result (λ word. word ≡ variable_word variable.now) }
+    ensures { IfOk result (λ word. word ≡ variable_argument variable.now) }
 {
     let mut word = joined(alloc, "-v", variable.name.as_str())?;
     word.push_str("=")?;
@@ -67,7 +67,7 @@ fn push_variable_words(
     words: &mut Items<Text>,
     variables: &Variables,
 ) -> Result<(), NoMemory>
-    ensures { OnOk result (words.new ≡ words.old ++ map variable_word variables.now) }
+    ensures { OnOk result (words.new ≡ words.old ++ map variable_argument variables.now) }
 {
     for variable in variables.as_slice() {
         let word = word_of_variable(alloc, variable)?;
@@ -78,7 +78,7 @@ fn push_variable_words(
 
 /// Returns the arguments that make an ATF program list its test cases.
 fn list_words(alloc: Global, variables: &Variables) -> Result<Items<Text>, NoMemory>
-    ensures { IfOk result (λ words. words ≡ map variable_word variables.now ++ codes "-l" ∷ []) }
+    ensures { IfOk result (λ words. words ≡ map variable_argument variables.now ++ codes "-l" ∷ []) }
 {
     let mut words = Items::new(alloc);
     push_variable_words(alloc, &mut words, variables)?;
@@ -115,7 +115,7 @@ fn cleanup_words(
     case_name: &Text,
 ) -> Result<Items<Text>, NoMemory>
     ensures { IfOk result (λ words. words ≡ ((codes "-s" ++ source.now) ∷ [])
-        ++ map variable_word variables.now ++ (case_name.now ++ codes ":cleanup") ∷ []) }
+        ++ map variable_argument variables.now ++ (case_name.now ++ codes ":cleanup") ∷ []) }
 {
     let mut words = Items::new(alloc);
     push_both(alloc, &mut words, "-s", source.as_str())?;

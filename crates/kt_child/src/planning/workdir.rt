@@ -50,7 +50,7 @@ fn path_below(alloc: Global, root: &Text, number: u64, name: &str) -> Result<Tex
 }
 
 /// Returns the paths of two names in the directory of an attempt.
-fn two_below(
+fn join_two(
     alloc: Global,
     root: &Text,
     number: u64,
@@ -76,8 +76,8 @@ pub fn workdir_plan(alloc: Global, root: &Text, number: u64) -> Result<Paths, No
     let dir = numbered_path(alloc, root, "/", number)?;
     let work = path_below(alloc, root, number, "work")?;
     let result = path_below(alloc, root, number, "result")?;
-    let (out, err) = two_below(alloc, root, number, "out", "err")?;
-    let (cleanup_out, cleanup_err) = two_below(alloc, root, number, "cleanup.out", "cleanup.err")?;
+    let (out, err) = join_two(alloc, root, number, "out", "err")?;
+    let (cleanup_out, cleanup_err) = join_two(alloc, root, number, "cleanup.out", "cleanup.err")?;
     Ok(Paths {
         dir,
         work,

@@ -2,7 +2,7 @@
 
 pub(crate) mod polls;
 
-use crate::planning::Case;
+use crate::planning::CaseAttempt;
 use kt_base::Outcome;
 
 /// A count of the polls of a running child. The driver measures a timeout in polls, 100 for each
@@ -21,7 +21,7 @@ pub(crate) struct Watch {
 #[derive(Drop)]
 pub(crate) struct Watched {
     /// The case of the child.
-    pub case: Case,
+    pub case: CaseAttempt,
     /// The timeout of the child, in seconds, from 1 to 1,000,000.
     pub limit: u64,
     /// The count of its polls.

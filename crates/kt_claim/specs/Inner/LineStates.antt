@@ -2,7 +2,7 @@
 use Rattle.std.specs.Prelude.{◌≡◌, ℕ, Bool, true, false, not, ◌&&◌, if◌then◌else◌, List, [], ◌∷◌, ◌++◌, length, drop, codes, Option, Some, None, is_some, option_map}
 use Rattle.kt_claim.specs.Bytes.{is_blank}
 use Rattle.std.specs.Option.{option_or}
-use Rattle.kt_claim.specs.TapStream.{without_return, begins, says, past, trimmed, is_bail, is_gap, is_test, is_unexcused, Directive, reason_of, directive_at, directive_in, ends_plan, below_limit, planned_from, skips, skip_reason, plan_for, plan}
+use Rattle.kt_claim.specs.TapStream.{without_return, begins, says, past, trimmed, is_bail, is_gap, is_test, is_unexcused, Directive, reason_of, directive_at, directive_in, is_plan_end, below_limit, planned_from, skips, skip_reason, plan_for, plan}
 use Rattle.kt_claim.specs.declared.begun.Begun.{Begun}
 use Rattle.kt_claim.specs.declared.begun.Begun.TheVariants as begun
 use Rattle.kt_claim.specs.declared.begun.Letters.{Letters}
@@ -95,7 +95,7 @@ facts_with begun.Nothing kept more = facts_of more
 facts_with (begun.Opened o lacks) kept more = opened o (begins lacks.now more) (drop (length lacks.now) more)
 facts_with (begun.Digits value) kept more = planning (option_map (plan_for (skips (directive_in false more))) (planned_from value more))
 facts_with (begun.Blanks n) kept more =
-    planning (option_map (plan_for (skips (directive_in false more))) (if ends_plan (past is_blank more) then below_limit n else None))
+    planning (option_map (plan_for (skips (directive_in false more))) (if is_plan_end (past is_blank more) then below_limit n else None))
 facts_with (begun.Looking purpose escaped) kept more = directed purpose (directive_in escaped more)
 facts_with (begun.Hash purpose) kept more = directed purpose (option_or (directive_at (past is_blank more)) (directive_in false more))
 facts_with (begun.Lettered purpose l) kept more = directed purpose (option_or (begun_directive l more) (directive_in false more))

@@ -2,7 +2,7 @@
 use Rattle.std.specs.Prelude.{ℕ, Bool, List, [], ◌∷◌, ◌≡◌, Option, Result, Ok, Err}
 use Rattle.kt_cli.specs.Types.{Entry, Put, Run, SinkFault, StoreFault, line_bytes}
 use Rattle.kt_sched.specs.declared.sink.SinkFault.TheVariants.{Memory, Other}
-use Rattle.kt_store.specs.declared.result_store.Keeping as keeping
+use Rattle.kt_store.specs.declared.result_store.StoreSpec as keeping
 use Rattle.kt_store.specs.declared.store_fault.StoreFault.TheVariants.{NoMemory}
 use Rattle.kt_cli.specs.Inner.Pages.{Says}
 use Rattle.kt_cli.specs.Inner.Stores.{put_all}

@@ -3,7 +3,7 @@ use Rattle.std.specs.Prelude.{ℕ, Bool, false, List, [], ◌∷◌, ◌++◌, �
 use Rattle.kt_cli.specs.Types.{Counts, Entry, Job, Leads, NoEvent, Put, RunFault, SinkFailed, SinkFault, StoreCall, StoreFault, Totals, Trace}
 use Rattle.kt_sched.specs.declared.launcher.Launcher as launcher
 use Rattle.kt_sched.specs.declared.run_fault.RunFault.TheVariants.{NoMemory}
-use Rattle.kt_store.specs.declared.result_store.Keeping as keeping
+use Rattle.kt_store.specs.declared.result_store.StoreSpec as keeping
 use Rattle.kt_cli.specs.Inner.Pages.{Says}
 use Rattle.kt_cli.specs.Inner.Recording.{sink_fault_of}
 use Rattle.kt_cli.specs.Scenes.{Scene}

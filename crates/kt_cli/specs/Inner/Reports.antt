@@ -1,7 +1,7 @@
 -- Output of the reports, as private functions write it.
 use Rattle.std.specs.Prelude.{ℕ, Bool, true, false, List, [], ◌∷◌, ◌++◌, ◌≡◌, ◌⊎◌, Option, None, Result, Ok, Err, drop, flat_map}
 use Rattle.kt_cli.specs.Types.{Date, Entry, IsDateOf, Kind, Outputs, Pairs, Run, Shows, StoreCall, by_section, case_bytes, ending, heading, last_kind, opening, summary, titled_lines}
-use Rattle.kt_store.specs.declared.result_store.Keeping as keeping
+use Rattle.kt_store.specs.declared.result_store.StoreSpec as keeping
 use Rattle.kt_cli.specs.Pages.{Printed}
 use Rattle.kt_cli.specs.Stores.{Stored}
 use Rattle.kt_cli.specs.Reports.{DifferInOutputs, DifferInPairs, JunitCut, TextCut, Unread, asked_outputs, asked_pairs, ending_of, next_bytes}

@@ -2,7 +2,7 @@
 use Rattle.std.specs.Prelude.{ℕ, List, ◌⊎◌}
 use Rattle.kt_sched.specs.declared.launcher.Launcher as launcher
 use Rattle.kt_cli.specs.Types.{Leads, StoreCall, Trace}
-use Rattle.kt_store.specs.declared.result_store.Keeping as keeping
+use Rattle.kt_store.specs.declared.result_store.StoreSpec as keeping
 use Rattle.kt_cli.specs.Pages.{Printed}
 use Rattle.kt_cli.specs.Scenes.{Scene}
 use Rattle.kt_cli.specs.Stores.{Stored}

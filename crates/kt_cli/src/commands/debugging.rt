@@ -1,15 +1,15 @@
 ghost use Rattle.std.specs.Prelude.{is_err};
 ghost use Rattle.kt_cli.specs.Common.{IsIdle, IsPlan, Debugged, AsksOnly};
-ghost use Rattle.kt_words.specs.declared.command.Command.TheVariants as command;
+ghost use Rattle.kt_args.specs.declared.command.Command.TheVariants as command;
 
 use crate::Exit;
 use crate::commands::recorder::Printer;
 use crate::messages::{stopped, write_memory, write_run_fault, write_warnings};
 use crate::output::exit::{FAILED, ended};
+use kt_args::CaseOptions;
 use kt_base::{Items, OutputFault};
 use kt_plan::{World, prepare, select_cases};
 use kt_sched::{Job, Launcher, RunFault, Totals, run_cases};
-use kt_words::CaseOptions;
 use std::alloc::Global;
 use std::io::Write;
 

@@ -1,15 +1,15 @@
 ghost use Rattle.std.specs.Prelude.{IfOk, OnErr, ◌≡◌, ℕ, List};
-ghost use Rattle.kt_cli.specs.Common.{IsIdle, Did, Scene, scene, DidAll, Run, Command, Left};
+ghost use Rattle.kt_cli.specs.Common.{IsIdle, CommandResult, Scene, scene, DidAll, Run, Command, Left};
 
 use crate::Exit;
 use crate::commands::debugging::debug;
 use crate::commands::listing::list;
 use crate::commands::reporting::{report, report_junit};
 use crate::commands::testing::test;
+use kt_args::Command;
 use kt_base::NoMemory;
 use kt_plan::World;
 use kt_store::ResultStore;
-use kt_words::Command;
 use std::alloc::Global;
 use std::io::Write;
 
@@ -20,7 +20,7 @@ use std::io::Write;
 /// recording. After a failed put it only starts pending cleanups.
 ///
 /// The calls, the output and the exit status follow from the results of earlier calls, even if the
-/// store forgets entries. `law_of_sound_stores` states which runs the store has afterwards.
+/// store forgets entries. `theorem_of_sound_stores` states which runs the store has afterwards.
 pub fn execute<W: World, R: ResultStore, O: Write>(
     alloc: Global,
     command: &Command,
@@ -29,7 +29,7 @@ pub fn execute<W: World, R: ResultStore, O: Write>(
     out: &mut O,
 ) -> Exit
     requires { IsIdle (W.running world.old) (W.pending world.old) }
-    ensures did { Did W.World R.Keeping command.now
+    ensures did { CommandResult W.World R.StoreSpec command.now
         (scene world.old results.old (O.contents out.old))
         (scene world.new results.new (O.contents out.new)) result.status }
     ensures idle { IsIdle (W.running world.new) (W.pending world.new) }
@@ -65,7 +65,7 @@ pub fn execute_all<W: World, R: ResultStore, O: Write>(
     out: &mut O,
 ) -> Result<Vec<Exit>, NoMemory>
     requires { IsIdle (W.running world.old) (W.pending world.old) }
-    ensures did { IfOk result (λ exits. DidAll W.World R.Keeping commands.now
+    ensures did { IfOk result (λ exits. DidAll W.World R.StoreSpec commands.now
         (scene world.old results.old (O.contents out.old))
         (scene world.new results.new (O.contents out.new)) exits.items) }
     ensures idle { IsIdle (W.running world.new) (W.pending world.new) }
@@ -88,8 +88,8 @@ pub fn execute_all<W: World, R: ResultStore, O: Write>(
 /// A sound store returns what was written. The new run has exactly the entries that were put, and
 /// is finished only if it has all of them. A call fails only if the store itself failed or has the
 /// maximum number of runs.
-pub fn law_of_sound_stores<W: World, R: ResultStore>()
+pub fn theorem_of_sound_stores<W: World, R: ResultStore>()
     ensures { (c : Command) (old new : Scene W R) (exit : ℕ) (runs : List Run)
-        (did : Did W.World R.Keeping c old new exit) → R.stands old.store runs
+        (did : CommandResult W.World R.StoreSpec c old new exit) → R.stands old.store runs
         → R.sound new.store → Left did runs }
 {}

@@ -1,13 +1,13 @@
 ghost use Rattle.std.specs.Prelude.{is_err};
 ghost use Rattle.kt_cli.specs.Common.{Shows, IsIdle, listing, AsksOnly};
-ghost use Rattle.kt_words.specs.declared.command.Command.TheVariants as command;
+ghost use Rattle.kt_args.specs.declared.command.Command.TheVariants as command;
 
 use crate::Exit;
 use crate::messages::{stopped, write_warnings};
 use crate::output::exit::{ended, status_of};
+use kt_args::CaseOptions;
 use kt_base::{OutputFault, emit_all};
 use kt_plan::{Chosen, World, select_cases};
-use kt_words::CaseOptions;
 use std::alloc::Global;
 use std::io::Write;
 

@@ -36,7 +36,7 @@ impl<R: ResultStore, O: Write> Sink for Recorder<'_, R, O> {
     ghost entries = { λ s put. Took R.stands s.number s.results.now put };
 
     ghost puts = { λ s e r t. (t.results.ghost_name ≡ s.results.ghost_name)
-        × (t.out.ghost_name ≡ s.out.ghost_name) × Recorded R.Keeping
+        × (t.out.ghost_name ≡ s.out.ghost_name) × Recorded R.StoreSpec
         (recording s.results.now s.number (is_err s.written) (O.contents s.out.now)) e r
         (recording t.results.now t.number (is_err t.written) (O.contents t.out.now)) };
 

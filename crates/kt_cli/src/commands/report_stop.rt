@@ -9,7 +9,7 @@ use kt_store::StoreFault;
 
 /// Errors returned by `read_run`.
 #[derive(Clone, Copy)]
-pub enum NotShown {
+pub enum ReportError {
     /// The store has no runs.
     NoRuns,
     /// The store has runs, but none with this number.

@@ -2,7 +2,7 @@ ghost use Rattle.std.specs.Prelude.{◌≡◌, ◌∷◌, [], None, is_err};
 ghost use Rattle.kt_cli.specs.Common.{utf8, Shows, TextOrUnread, JunitOrUnread, DidReport, WritesEntries, WritesJunit, WritesText, by_section, chosen, chosen_of, Reported, ReportedJunit, IsMissing, ReadsRun, not_shown_line};
 
 use crate::Exit;
-use crate::commands::report_stop::{JunitStop, NotShown, TextStop};
+use crate::commands::report_stop::{JunitStop, ReportError, TextStop};
 use crate::messages::{write_memory, write_refusal};
 use crate::output::exit::{FAILED, ended};
 use kt_base::{Decimal, Entry, Items, Kind, OutputFault, Run, emit, emit_all};
@@ -29,24 +29,24 @@ fn chosen_head(number: Option<u64>, heads: &[RunHead]) -> Option<RunHead>
 }
 
 /// Returns why the requested run is missing: there are no runs, or none has this number.
-fn missing(number: Option<u64>, heads: &[RunHead]) -> NotShown
+fn missing(number: Option<u64>, heads: &[RunHead]) -> ReportError
     ensures { IsMissing number heads.now result }
 {
     match number {
-        Some(number) if !heads.is_empty() => NotShown::NoRun(number),
-        _ => NotShown::NoRuns,
+        Some(number) if !heads.is_empty() => ReportError::NoRun(number),
+        _ => ReportError::NoRuns,
     }
 }
 
 /// Reads run `number`, or the last run if `number` is `None`.
 ///
 /// The entries have no properties and no outputs.
-fn read_run<R: ResultStore>(number: Option<u64>, results: &mut R) -> Result<Run, NotShown>
-    ensures { ReadsRun R.Keeping number results.old results.new result }
+fn read_run<R: ResultStore>(number: Option<u64>, results: &mut R) -> Result<Run, ReportError>
+    ensures { ReadsRun R.StoreSpec number results.old results.new result }
 {
     let heads = match results.runs() {
         Ok(heads) => heads,
-        Err(fault) => return Err(NotShown::Refused(fault)),
+        Err(fault) => return Err(ReportError::Refused(fault)),
     };
     let Some(head) = chosen_head(number, heads.as_slice()) else {
         return Err(missing(number, heads.as_slice()));
@@ -59,22 +59,22 @@ fn read_run<R: ResultStore>(number: Option<u64>, results: &mut R) -> Result<Run,
             finished: head.finished,
             entries: Items::from_vec(entries),
         }),
-        Err(fault) => Err(NotShown::Refused(fault)),
+        Err(fault) => Err(ReportError::Refused(fault)),
     }
 }
 
 /// Writes the error line of a run that can't be shown.
-fn write_not_shown<O: Write>(why: NotShown, out: &mut O) -> Result<(), OutputFault>
+fn write_not_shown<O: Write>(why: ReportError, out: &mut O) -> Result<(), OutputFault>
     ensures { Shows (O.contents out.old) (O.contents out.new) (is_err result)
         (utf8 (not_shown_line why)) }
 {
     match why {
-        NotShown::NoRuns => emit(b"kyua: E: no runs\n", out),
-        NotShown::NoRun(number) => {
+        ReportError::NoRuns => emit(b"kyua: E: no runs\n", out),
+        ReportError::NoRun(number) => {
             let digits = Decimal::new(number);
             emit_all(&[b"kyua: E: no run ", digits.as_bytes(), b"\n"], out)
         }
-        NotShown::Refused(fault) => write_refusal(fault, out),
+        ReportError::Refused(fault) => write_refusal(fault, out),
     }
 }
 
@@ -89,7 +89,7 @@ fn write_entry<R: ResultStore, O: Write>(
     results: &mut R,
     out: &mut O,
 ) -> Result<Option<Kind>, TextStop>
-    ensures { WritesEntries R.Keeping results.old results.new (O.contents out.old)
+    ensures { WritesEntries R.StoreSpec results.old results.new (O.contents out.old)
         (O.contents out.new) run before (entry.now ∷ []) result }
 {
     let kind = entry.verdict.kind();
@@ -110,7 +110,7 @@ fn write_section<R: ResultStore, O: Write>(
     results: &mut R,
     out: &mut O,
 ) -> Result<Option<Kind>, TextStop>
-    ensures { WritesEntries R.Keeping results.old results.new (O.contents out.old)
+    ensures { WritesEntries R.StoreSpec results.old results.new (O.contents out.old)
         (O.contents out.new) run.now.number before (chosen_of kinds.now run.now.entries kind)
         result }
 {
@@ -133,7 +133,7 @@ fn write_sections<R: ResultStore, O: Write>(
     results: &mut R,
     out: &mut O,
 ) -> Result<Option<Kind>, TextStop>
-    ensures { WritesEntries R.Keeping results.old results.new (O.contents out.old)
+    ensures { WritesEntries R.StoreSpec results.old results.new (O.contents out.old)
         (O.contents out.new) run.now.number None (by_section kinds.now run.now.entries) result }
 {
     let mut last = None;
@@ -152,7 +152,7 @@ fn write_text<R: ResultStore, O: Write>(
     results: &mut R,
     out: &mut O,
 ) -> Result<(), TextStop>
-    ensures { WritesText R.Keeping results.old results.new (O.contents out.old)
+    ensures { WritesText R.StoreSpec results.old results.new (O.contents out.old)
         (O.contents out.new) kinds.now run.now result }
 {
     let date = date_of(run.started);
@@ -172,7 +172,7 @@ pub fn report<R: ResultStore, O: Write>(
     results: &mut R,
     out: &mut O,
 ) -> Exit
-    ensures { DidReport R.Keeping results.old results.new (O.contents out.old)
+    ensures { DidReport R.StoreSpec results.old results.new (O.contents out.old)
         (O.contents out.new) result.status (Reported number kinds.now verbose)
         (TextOrUnread number kinds.now verbose) }
 {
@@ -199,7 +199,7 @@ fn write_junit<R: ResultStore, O: Write>(
     results: &mut R,
     out: &mut O,
 ) -> Result<(), JunitStop>
-    ensures { WritesJunit R.Keeping results.old results.new (O.contents out.old)
+    ensures { WritesJunit R.StoreSpec results.old results.new (O.contents out.old)
         (O.contents out.new) run.now result }
 {
     junit_heading(run, out)?;
@@ -220,7 +220,7 @@ pub fn report_junit<R: ResultStore, O: Write>(
     results: &mut R,
     out: &mut O,
 ) -> Exit
-    ensures { DidReport R.Keeping results.old results.new (O.contents out.old)
+    ensures { DidReport R.StoreSpec results.old results.new (O.contents out.old)
         (O.contents out.new) result.status (ReportedJunit number) (JunitOrUnread number) }
 {
     let run = match read_run(number, results) {

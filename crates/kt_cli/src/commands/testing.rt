@@ -1,16 +1,16 @@
 ghost use Rattle.std.specs.Prelude.{◌≤◌, length, is_err, false};
-ghost use Rattle.kt_cli.specs.Common.{Shows, utf8, IsIdle, IsMoment, IsPlan, IsWidth, most_items, Did, Says, Records, RanPlan, scene, ending, run_for, totals_text};
-ghost use Rattle.kt_words.specs.declared.command.Command.TheVariants as command;
+ghost use Rattle.kt_cli.specs.Common.{Shows, utf8, IsIdle, IsMoment, IsPlan, IsWidth, most_items, CommandResult, Says, Records, RanPlan, scene, ending, run_for, totals_text};
+ghost use Rattle.kt_args.specs.declared.command.Command.TheVariants as command;
 
 use crate::Exit;
 use crate::commands::recorder::{Recorder, sink_fault};
 use crate::messages::{stopped, write_memory, write_refusal, write_run_fault, write_warnings};
 use crate::output::exit::{FAILED, ended, status_of};
+use kt_args::CaseOptions;
 use kt_base::{Decimal, Items, OutputFault, Text, emit_all};
 use kt_plan::{Chosen, Picked, World, prepare, select_cases};
 use kt_sched::{Job, Launcher, RunFault, Totals, run_cases};
 use kt_store::ResultStore;
-use kt_words::CaseOptions;
 use std::alloc::Global;
 use std::io::Write;
 
@@ -35,7 +35,7 @@ fn record_cases<L: Launcher, R: ResultStore, O: Write>(
     requires plan { IsPlan numbered.plan }
     requires width { IsWidth numbered.width }
     requires idle { IsIdle (L.running launcher.old) (L.pending launcher.old) }
-    ensures records { Records L.Launcher R.Keeping numbered.plan numbered.width numbered.number
+    ensures records { Records L.Launcher R.StoreSpec numbered.plan numbered.width numbered.number
         (scene launcher.old results.old (O.contents out.old))
         (scene launcher.new results.new (O.contents out.new)) result.0 (is_err result.1) }
     ensures idle { IsIdle (L.running launcher.new) (L.pending launcher.new) }
@@ -118,7 +118,7 @@ fn run_plan<L: Launcher, R: ResultStore, O: Write>(
     requires few { length planned.plan ≤ most_items }
     requires moment { IsMoment planned.moment }
     requires idle { IsIdle (L.running launcher.old) (L.pending launcher.old) }
-    ensures ran { RanPlan L.Launcher R.Keeping
+    ensures ran { RanPlan L.Launcher R.StoreSpec
         (run_for planned.entry.plan planned.entry.options.now planned.entry.picked.now
         planned.entry.moment)
         (scene launcher.old results.old (O.contents out.old))
@@ -170,7 +170,7 @@ pub fn test<W: World, R: ResultStore, O: Write>(
     out: &mut O,
 ) -> Exit
     requires { IsIdle (W.running world.old) (W.pending world.old) }
-    ensures did { Did W.World R.Keeping (command.Test options.now file.now)
+    ensures did { CommandResult W.World R.StoreSpec (command.Test options.now file.now)
         (scene world.old results.old (O.contents out.old))
         (scene world.new results.new (O.contents out.new)) result.status }
     ensures idle { IsIdle (W.running world.new) (W.pending world.new) }

@@ -1,12 +1,12 @@
 ghost use Rattle.std.specs.Prelude.{Result, drop, map};
-ghost use Rattle.kt_words.specs.Common.{into_iter_items, string_bytes};
-ghost use Rattle.kt_words.specs.declared.command_fault.CommandFault.{CommandFault as Fault};
+ghost use Rattle.kt_args.specs.Common.{into_iter_items, string_bytes};
+ghost use Rattle.kt_args.specs.declared.command_fault.CommandFault.{CommandFault as Fault};
 ghost use Rattle.kt_cli.specs.Common.{CarriedOut, Command, IsSaid, line_state, program, state};
 
-use crate::host::performing::carry_out;
-use crate::{LineOutput, Machine, Outside, Platform};
+use crate::host::performing::run_command;
+use crate::{HostFiles, HostHandles, LineOutput, ResultsHost};
+use kt_args::{Command, read_words};
 use kt_child::Os;
-use kt_words::{Command, read_words};
 use std::env::Args;
 use std::io;
 use std::io::Write;
@@ -15,17 +15,17 @@ use std::io::Write;
 ///
 /// The first argument is the program's own name. Wrong arguments are reported on `errors`. The
 /// output of `kyua test` is written line by line, that of another command in blocks of 64 KiB. The
-/// returned `Outside` is the given one, after the calls of the command.
-pub fn carry_out_words<M: Machine + Drop, O: Os + Drop, P: Platform, W: Write, E: Write>(
-    outside: Outside<M, O>,
+/// returned `HostHandles` is the given one, after the calls of the command.
+pub fn run_args<M: HostFiles + Drop, O: Os + Drop, P: ResultsHost, W: Write, E: Write>(
+    outside: HostHandles<M, O>,
     platform: &mut P,
     words: io::Result<Args>,
     out: &mut LineOutput<W>,
     errors: &mut E,
-) -> (u8, Outside<M, O>)
+) -> (u8, HostHandles<M, O>)
     ensures { (command : Result Command Fault)
         × IsSaid (λ all. map (λ word. string_bytes word) (drop 1 (into_iter_items all))) words command
-        × CarriedOut (program M.Machine O.Os P.Platform P.Results.Keeping) command
+        × CarriedOut (program M.HostFiles O.Os P.ResultsHost P.Results.StoreSpec) command
         (state platform.old outside) (state platform.new result.1)
         (record { out = line_state W.contents out.old; errors = E.contents errors.old })
         (record { out = line_state W.contents out.new; errors = E.contents errors.new })
@@ -33,6 +33,6 @@ pub fn carry_out_words<M: Machine + Drop, O: Os + Drop, P: Platform, W: Write, E
 {
     let command = read_words(outside.alloc, words);
     out.set_by_line(matches!(&command, Ok(Command::Test { .. })));
-    let (exit, outside) = carry_out(outside, platform, command, out, errors);
+    let (exit, outside) = run_command(outside, platform, command, out, errors);
     (exit.status, outside)
 }

@@ -1,12 +1,12 @@
 ghost use Rattle.std.specs.Prelude.{◌≡◌, IfOk, IfErr, OnErr};
 ghost use Rattle.kt_cli.specs.Common.{chars, IsIdle, is_among, shown_in, IsMade, NoDriver, NoRoot, OnDriver, source_directory, scene};
 
-use crate::{Exit, HostWorld, Machine, Outside, Surroundings, execute};
+use crate::{Exit, HostFiles, HostHandles, HostWorld, ProcessEnv, execute};
+use kt_args::{CaseOptions, Command};
 use kt_base::{NoMemory, Text, is_absolute};
 use kt_child::{Driver, DriverFault, Os};
 use kt_store::ResultStore;
 use kt_suite::{parent_path, split_path};
-use kt_words::{CaseOptions, Command};
 use std::alloc::Global;
 use std::io::Write;
 
@@ -57,17 +57,17 @@ fn driver_of<O: Os + Drop>(
 /// Executes a command over test cases on the host.
 ///
 /// The command has its own root directory for work directories, which is removed at the end. Fails,
-/// and changes no results, if the driver can't be created. The returned `Outside` is the given one,
+/// and changes no results, if the driver can't be created. The returned `HostHandles` is the given one,
 /// after the calls of the command.
-pub fn execute_over_cases<M: Machine + Drop, O: Os + Drop, S: ResultStore, W: Write>(
-    outside: Outside<M, O>,
-    around: Surroundings,
+pub fn execute_over_cases<M: HostFiles + Drop, O: Os + Drop, S: ResultStore, W: Write>(
+    outside: HostHandles<M, O>,
+    around: ProcessEnv,
     command: &Command,
     options: &CaseOptions,
     results: &mut S,
     out: &mut W,
-) -> Result<(Exit, Outside<M, O>), (DriverFault, Outside<M, O>)>
-    ensures did { IfOk result (λ done. OnDriver M.Machine O.Os S.Keeping
+) -> Result<(Exit, HostHandles<M, O>), (DriverFault, HostHandles<M, O>)>
+    ensures did { IfOk result (λ done. OnDriver M.HostFiles O.Os S.StoreSpec
         (scene outside results.old (W.contents out.old))
         (scene done.1 results.new (W.contents out.new))
         around options.now command.now done.0.status) }
@@ -80,10 +80,10 @@ pub fn execute_over_cases<M: Machine + Drop, O: Os + Drop, S: ResultStore, W: Wr
         Ok((directory, _)) => directory,
         Err(refusal) => return Err((DriverFault::NoMemory(refusal), outside)),
     };
-    let Outside { alloc, machine, os } = outside;
+    let HostHandles { alloc, machine, os } = outside;
     let driver = match driver_of(alloc, os, &around.here, work, kyuafile) {
         Ok(driver) => driver,
-        Err((fault, os)) => return Err((fault, Outside { alloc, machine, os })),
+        Err((fault, os)) => return Err((fault, HostHandles { alloc, machine, os })),
     };
     let mut world = HostWorld {
         machine,
@@ -99,5 +99,5 @@ pub fn execute_over_cases<M: Machine + Drop, O: Os + Drop, S: ResultStore, W: Wr
     } = world;
     // The root directory is removed even after a failed command.
     let os = driver.close();
-    Ok((exit, Outside { alloc, machine, os }))
+    Ok((exit, HostHandles { alloc, machine, os }))
 }

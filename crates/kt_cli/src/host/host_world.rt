@@ -1,6 +1,6 @@
 use crate::host::host_path::{LONGEST_PATH, joined_path};
 use crate::host::program_search::is_found;
-use crate::{Machine, Surroundings};
+use crate::{HostFiles, ProcessEnv};
 use kt_atflist::Listing;
 use kt_base::{Bytes, Role, Text, Variables};
 use kt_child::{Driver, Os};
@@ -19,10 +19,10 @@ pub struct HostWorld<M: Drop, O: Os + Drop> {
     /// The driver, which starts test programs and lists their cases.
     pub(crate) driver: Driver<O>,
     /// The working directory and the environment of the process.
-    pub(crate) around: Surroundings,
+    pub(crate) around: ProcessEnv,
 }
 
-impl<M: Machine + Drop, O: Os + Drop> Tree for HostWorld<M, O> {
+impl<M: HostFiles + Drop, O: Os + Drop> Tree for HostWorld<M, O> {
     ghost use Rattle.kt_cli.specs.HostAnswers.{IsLook};
 
     ghost asks = { IsLook M.answers };
@@ -44,7 +44,7 @@ impl<M: Machine + Drop, O: Os + Drop> Tree for HostWorld<M, O> {
     }
 }
 
-impl<M: Machine + Drop, O: Os + Drop> Launcher for HostWorld<M, O> {
+impl<M: HostFiles + Drop, O: Os + Drop> Launcher for HostWorld<M, O> {
     ghost use Rattle.kt_cli.specs.Common.{is_among, shown_in, HostStarts, HostWaits};
 
     ghost running = { λ s. shown_in s.driver.running };
@@ -64,7 +64,7 @@ impl<M: Machine + Drop, O: Os + Drop> Launcher for HostWorld<M, O> {
     }
 }
 
-impl<M: Machine + Drop, O: Os + Drop> World for HostWorld<M, O> {
+impl<M: HostFiles + Drop, O: Os + Drop> World for HostWorld<M, O> {
     ghost use Rattle.std.specs.Prelude.{◌≡◌};
     ghost use Rattle.kt_cli.specs.Common.{ap, ChildrenState, is_among, shown_in, IsHostAnswer, look_kept, running_kept};
 

@@ -1,36 +1,36 @@
 ghost use Rattle.std.specs.Prelude.{◌≡◌};
-ghost use Rattle.kt_cli.specs.Common.{access_of, given_bytes, line_state, CarriedOut, DoneIn, DoneOver, program, scene, state, Rejected};
+ghost use Rattle.kt_cli.specs.Common.{access_of, given_bytes, line_state, CarriedOut, WithResults, OverProcesses, program, scene, state, Rejected};
 
 use crate::commands::reporting::{report, report_junit};
 use crate::host::host_execution::execute_over_cases;
 use crate::messages::with_closed;
 use crate::{
-    Exit, LineOutput, Machine, MemRuns, Outside, Platform, print_command_fault, print_driver_fault,
-    print_store_fault,
+    Exit, HostFiles, HostHandles, LineOutput, MemRuns, ResultsHost, print_command_fault,
+    print_driver_fault, print_store_fault,
 };
+use kt_args::{Command, CommandFault};
 use kt_base::Text;
 use kt_child::Os;
 use kt_store::{Access, ResultStore};
-use kt_words::{Command, CommandFault};
 use std::io::Write;
 
 /// Executes a command over an open results store.
 ///
 /// Commands over test cases also get the working directory and the environment of the process.
-fn perform_over<M: Machine + Drop, O: Os + Drop, P: Platform, S: ResultStore, W: Write>(
-    outside: Outside<M, O>,
+fn perform_over<M: HostFiles + Drop, O: Os + Drop, P: ResultsHost, S: ResultStore, W: Write>(
+    outside: HostHandles<M, O>,
     platform: &mut P,
     command: &Command,
     results: &mut S,
     out: &mut W,
-) -> (Exit, Outside<M, O>)
-    ensures { DoneOver (program M.Machine O.Os P.Platform P.Results.Keeping) S.Keeping command.now
+) -> (Exit, HostHandles<M, O>)
+    ensures { OverProcesses (program M.HostFiles O.Os P.ResultsHost P.Results.StoreSpec) S.StoreSpec command.now
         (scene (state platform.old outside) results.old (W.contents out.old))
         (scene (state platform.new result.1) results.new (W.contents out.new)) result.0.status }
 {
     match command {
         Command::List(options) | Command::Debug(options) | Command::Test { options, .. } => {
-            let around = match platform.surroundings() {
+            let around = match platform.process_env() {
                 Ok(around) => around,
                 Err(fault) => return (print_driver_fault(fault, out), outside),
             };
@@ -69,14 +69,14 @@ fn access_of(command: &Command) -> Access
 }
 
 /// Opens a results file, executes a command over it, and closes the file.
-fn perform_in_file<M: Machine + Drop, O: Os + Drop, P: Platform, W: Write>(
-    outside: Outside<M, O>,
+fn perform_in_file<M: HostFiles + Drop, O: Os + Drop, P: ResultsHost, W: Write>(
+    outside: HostHandles<M, O>,
     platform: &mut P,
     command: &Command,
     file: &Text,
     out: &mut W,
-) -> (Exit, Outside<M, O>)
-    ensures { DoneIn (program M.Machine O.Os P.Platform P.Results.Keeping) command.now file.now
+) -> (Exit, HostHandles<M, O>)
+    ensures { WithResults (program M.HostFiles O.Os P.ResultsHost P.Results.StoreSpec) command.now file.now
         (scene (state platform.old outside) tt (W.contents out.old))
         (scene (state platform.new result.1) tt (W.contents out.new)) result.0.status }
 {
@@ -112,15 +112,15 @@ fn reject<W: Write, E: Write>(fault: &CommandFault, out: &mut LineOutput<W>, err
 ///
 /// The command runs over the machine and the system of `outside`, and over the results file that
 /// the platform opens and closes. `list` and `debug` run over an empty store in memory. At the end
-/// all output is written. The returned `Outside` is the given one, after the calls of the command.
-pub fn carry_out<M: Machine + Drop, O: Os + Drop, P: Platform, W: Write, E: Write>(
-    outside: Outside<M, O>,
+/// all output is written. The returned `HostHandles` is the given one, after the calls of the command.
+pub fn run_command<M: HostFiles + Drop, O: Os + Drop, P: ResultsHost, W: Write, E: Write>(
+    outside: HostHandles<M, O>,
     platform: &mut P,
     command: Result<Command, CommandFault>,
     out: &mut LineOutput<W>,
     errors: &mut E,
-) -> (Exit, Outside<M, O>)
-    ensures { CarriedOut (program M.Machine O.Os P.Platform P.Results.Keeping) command
+) -> (Exit, HostHandles<M, O>)
+    ensures { CarriedOut (program M.HostFiles O.Os P.ResultsHost P.Results.StoreSpec) command
         (state platform.old outside) (state platform.new result.1)
         (record { out = line_state W.contents out.old; errors = E.contents errors.old })
         (record { out = line_state W.contents out.new; errors = E.contents errors.new })

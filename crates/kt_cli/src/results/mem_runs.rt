@@ -1,6 +1,6 @@
 use crate::results::copies::{copy_of_entry, copy_of_outputs, outlined_all};
 use kt_base::{Entry, Items, NoMemory, Run, Variables};
-use kt_store::{CaseOutputs, Keeping, ResultStore, RunHead, StoreFault};
+use kt_store::{CaseOutputs, ResultStore, RunHead, StoreFault, StoreSpec};
 use std::alloc::Global;
 use std::marker::Model;
 use std::mem;
@@ -166,7 +166,7 @@ impl MemRuns {
     }
 }
 
-impl Keeping for MemRuns {
+impl StoreSpec for MemRuns {
     ghost use Rattle.std.specs.Prelude.{◌≡◌, ⊤};
     ghost use Rattle.kt_cli.specs.Common.{AreNumbered, AreOrdered};
 

@@ -32,7 +32,7 @@ pub record AreSound {Z : Type 0} (entries : List (String Z × Given)) : Type 0 w
   pub settled : pairs_in entries ≡ last_values (pairs_in entries)
   pub read : AreRead entries
 
--- `beneath program`: the pairs of the layer `program`, or none without a layer.
-abbrev pub beneath : {Z : Type 0} → Option (Rc (List Variable) Z) → List Variable
-beneath None = []
-beneath (Some layer) = rc_value layer
+-- `program_layer program`: the pairs of the layer `program`, or none without a layer.
+abbrev pub program_layer : {Z : Type 0} → Option (Rc (List Variable) Z) → List Variable
+program_layer None = []
+program_layer (Some layer) = rc_value layer

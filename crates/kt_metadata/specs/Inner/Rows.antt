@@ -2,8 +2,8 @@
 use Rattle.std.specs.Prelude.{ℕ, List, chars}
 use Rattle.std.specs.Borrow.{Bor}
 use Rattle.kt_metadata.specs.declared.form.Form.{Form}
-use Rattle.kt_metadata.specs.Properties.{Row}
+use Rattle.kt_metadata.specs.Properties.{PropertyRow}
 
 -- `row_in r`: the row that the code's row `r` represents.
-abbrev pub row_in : Bor (List ℕ) × Bor (List ℕ) × Form → Row
+abbrev pub row_in : Bor (List ℕ) × Bor (List ℕ) × Form → PropertyRow
 row_in r = record { name = chars r.0.now; key = chars r.1.now; form = r.2 }

@@ -7,9 +7,9 @@ use crate::cases::choosing::choose;
 use crate::cases::offering::offered;
 use crate::options::configuring::settle;
 use crate::{Chosen, Picked, Settings, Stop, World};
+use kt_args::CaseOptions;
 use kt_base::{Items, NoMemory, Text};
 use kt_suite::{Program, SuiteCause, SuiteFault, Tree, load, split_path};
-use kt_words::CaseOptions;
 use std::alloc::Global;
 
 /// Creates the error of a suite for which an allocation failed.

@@ -3,10 +3,10 @@ ghost use Rattle.kt_plan.specs.Common.{IsIdle, Answered, unread_stop, Configured
 
 use crate::options::case_filters::read_filters;
 use crate::{Settings, Stop, World};
+use kt_args::CaseOptions;
 use kt_base::{NoMemory, Text, Variables};
 use kt_config::{Config, ConfigFault};
 use kt_suite::ReadFault;
-use kt_words::CaseOptions;
 use std::alloc::Global;
 
 /// Returns a copy of the variables of a suite, empty if the configuration has none for the suite.

@@ -1,7 +1,7 @@
 -- The transitions of the parser, by one token at a time.
 use Rattle.std.specs.Prelude.{◌≡◌, ℕ, true, false, List, [], ◌∷◌, ◌++◌, Option, Some, None, if◌then◌else◌, option_map, option_and_then}
 use Rattle.std.specs.Option.{option_to_list}
-use Rattle.kt_script.specs.Types.{Assign, Call, CloseBrace, CloseBracket, CloseParen, Comma, Dot, Equals, Kind, Literal, Name, Number, OpenBrace, OpenBracket, OpenParen, Place, Quoted, Semicolon, Start, Stmt, Token, Truth, Whole, Within}
+use Rattle.kt_script.specs.Types.{Assign, Call, CloseBrace, CloseBracket, CloseParen, Comma, Dot, Equals, TokenKind, Literal, Name, Number, OpenBrace, OpenBracket, OpenParen, ScriptState, Quoted, Semicolon, Start, Stmt, Token, Truth, Whole, Within}
 use Rattle.kt_script.specs.declared.syntax.Literal.TheVariants as literal
 use Rattle.kt_script.specs.declared.syntax.Arg.TheVariants as arg
 use Rattle.kt_script.specs.declared.state.Table.{Table}
@@ -12,7 +12,7 @@ use Rattle.kt_script.specs.declared.state.Step.{Step}
 use Rattle.kt_script.specs.declared.state.Step.TheVariants.{To, Ends}
 
 -- `value_of kind`: the literal that a token of `kind` represents, or nothing.
-abbrev pub value_of : Kind → Option Literal
+abbrev pub value_of : TokenKind → Option Literal
 value_of (Quoted t) = Some (literal.Text t)
 value_of (Number n) = Some (literal.Number n)
 value_of (Truth b) = Some (literal.Truth b)
@@ -27,7 +27,7 @@ abbrev pub with_pair : Table → List ℕ → Literal → Table
 with_pair t key v = record t { pairs = t.pairs ++ pair key v ∷ [] }
 
 -- `step q kind`: the transition of a token of `kind` in the state `q`, or nothing.
-abbrev pub step : State → Kind → Option Step
+abbrev pub step : State → TokenKind → Option Step
 step (Named n) (Quoted t) = Some (Ends (Call n (arg.Value (literal.Text t))))
 step (Named n) OpenParen = Some (To (Opened n))
 step (Named n) OpenBrace = Some (To (Pairs (record { name = n; in_parens = false; pairs = [] })))
@@ -59,51 +59,51 @@ step (PathEquals path) k = option_map (λ v. Ends (Assign path v)) (value_of k)
 step _ _ = None
 
 -- `begin line kind`: the transition of a token of `kind` on `line` before a statement.
-abbrev pub begin : ℕ → Kind → Option (Place × Option Stmt)
+abbrev pub begin : ℕ → TokenKind → Option (ScriptState × Option Stmt)
 begin line (Name n) = Some (Within line (Named n), None)
 begin line _ = None
 
 -- `go_on line kind`: the transition of a token of `kind` on `line` after a statement, where a
 -- semicolon is allowed.
-abbrev pub go_on : ℕ → Kind → Option (Place × Option Stmt)
+abbrev pub go_on : ℕ → TokenKind → Option (ScriptState × Option Stmt)
 go_on line Semicolon = Some (Start, None)
 go_on line kind = begin line kind
 
 -- `landed line s`: the position after the step `s` in the statement on `line`, and the statement
 -- that it completes.
-abbrev pub landed : ℕ → Step → Place × Option Stmt
+abbrev pub landed : ℕ → Step → ScriptState × Option Stmt
 landed line (To q) = (Within line q, None)
 landed line (Ends a) = (Whole, Some (record { line = line; action = a }))
 
 -- `next p t`: the position after the token `t` at the position `p`, and the statement that `t`
 -- completes.
-abbrev pub next : Place → Token → Option (Place × Option Stmt)
+abbrev pub next : ScriptState → Token → Option (ScriptState × Option Stmt)
 next Start t = begin t.line t.kind
 next Whole t = go_on t.line t.kind
 next (Within line q) t = option_map (landed line) (step q t.kind)
 
 -- `place_of to`: the position after the transition `to`.
-abbrev pub place_of : Option (Place × Option Stmt) → Option Place
+abbrev pub place_of : Option (ScriptState × Option Stmt) → Option ScriptState
 place_of to = option_map (λ x. x.0) to
 
 -- `ended_by to`: the statement that the transition `to` completes, or no statement.
-abbrev pub ended_by : Option (Place × Option Stmt) → List Stmt
+abbrev pub ended_by : Option (ScriptState × Option Stmt) → List Stmt
 ended_by None = []
 ended_by (Some to) = option_to_list to.1
 
 -- `run p ts`: the position after the tokens `ts` from the position `p`, and the statements that
 -- they complete.
-abbrev pub run : Place → List Token → Option (Place × List Stmt)
+abbrev pub run : ScriptState → List Token → Option (ScriptState × List Stmt)
 run p [] = Some (p, [])
 run p (t ∷ ts) = option_and_then (λ to. option_map (λ end. (end.0, option_to_list to.1 ++ end.1)) (run to.0 ts)) (next p t)
 
 -- `IsWithin p line`: the position `p` is within the statement that begins on `line`.
-abbrev pub IsWithin : Place → ℕ → Type 0
+abbrev pub IsWithin : ScriptState → ℕ → Type 0
 IsWithin (Within line q) n = line ≡ n
 IsWithin _ n = ⊥
 
 -- `IsResting p`: the position `p` is not within a statement.
-abbrev pub IsResting : Place → Type 0
+abbrev pub IsResting : ScriptState → Type 0
 IsResting Start = Unit {0}
 IsResting Whole = Unit {0}
 IsResting (Within line q) = ⊥

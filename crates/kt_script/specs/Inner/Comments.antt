@@ -1,7 +1,7 @@
 -- Comments.
 use Rattle.std.specs.Prelude.{ℕ, suc, ◌+◌, ◌&&◌, not, nat_eq, codes, List, [], ◌∷◌, drop, Option, Some, None, option_map, if◌then◌else◌}
 use Rattle.std.specs.List.{starts_with, prefix_len}
-use Rattle.kt_script.specs.Types.{Bad, Endless, Leveled, Piece}
+use Rattle.kt_script.specs.Types.{Bad, Endless, Leveled, Lexeme}
 use Rattle.kt_base.specs.Lines.{is_newline}
 use Rattle.kt_script.specs.TokenRules.{is_level}
 use Rattle.kt_script.specs.Inner.Pieces.{blank, broken}
@@ -13,13 +13,13 @@ closes_at (c ∷ cs) = if starts_with nat_eq (c ∷ cs) (codes "]]") then Some 2
 
 -- `long_comment text n`: the comment at the beginning of `text` whose `]]` ends `n` bytes after its
 -- `--[[`. Without `n`, a broken token.
-abbrev pub long_comment : List ℕ → Option ℕ → Piece
+abbrev pub long_comment : List ℕ → Option ℕ → Lexeme
 long_comment text None = broken text Endless
 long_comment text (Some n) = blank (n + 4)
 
 -- `comment_at text`: the comment at the beginning of `text`, in long brackets or to the end of its
 -- line.
-abbrev pub comment_at : List ℕ → Piece
+abbrev pub comment_at : List ℕ → Lexeme
 comment_at text =
     if starts_with nat_eq text (codes "--[[") then long_comment text (closes_at (drop 4 text))
     else if starts_with nat_eq text (codes "--[") && is_level (drop 3 text) then broken text Leveled

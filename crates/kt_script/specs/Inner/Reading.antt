@@ -1,17 +1,17 @@
 -- The tokens that a parser has read.
 use Rattle.std.specs.Prelude.{◌≡◌, ℕ, List, [], Option, Some, None}
-use Rattle.kt_script.specs.Types.{Kind, Place, ScriptFault, Start, Token}
+use Rattle.kt_script.specs.Types.{TokenKind, ScriptState, ScriptFault, Start, Token}
 use Rattle.kt_script.specs.declared.parser.Parser.{Parser}
 use Rattle.kt_script.specs.Inner.Automaton.{run, next}
 use Rattle.kt_script.specs.Faults.{open_lines, own_fault}
 
 -- `HasRead place parser tokens`: `parser` has read `tokens` and is at the position `place`.
-pub record HasRead (place : Place) (parser : Parser) (tokens : List Token) : Type 0 where
+pub record HasRead (place : ScriptState) (parser : Parser) (tokens : List Token) : Type 0 where
   pub runs : run Start tokens ≡ Some (place, parser.statements)
   pub brackets : parser.brackets.items ≡ open_lines [] tokens
 
 -- `IsMisfit place line kind fault`: the grammar does not allow a token of `kind` at `place`, and
 -- `fault` is the token's fault.
-abbrev pub IsMisfit : Place → ℕ → Option Kind → ScriptFault → Type 0
+abbrev pub IsMisfit : ScriptState → ℕ → Option TokenKind → ScriptFault → Type 0
 IsMisfit place line None fault = ⊥
 IsMisfit place line (Some kind) fault = (fault ≡ own_fault line kind) × (next place (record { line = line; kind = kind }) ≡ None)

@@ -1,8 +1,8 @@
 -- Strings.
 use Rattle.std.specs.Prelude.{ℕ, ◌+◌, ◌==◌, Bool, true, false, List, [], ◌∷◌, ◌++◌, drop, Option, Some, None, Result, Ok, Err, chars, if◌then◌else◌}
-use Rattle.kt_script.specs.Types.{Bad, Endless, Flaw, Piece, Quoted}
-use Rattle.kt_script.specs.declared.token.Stop.{Stop}
-use Rattle.kt_script.specs.declared.token.Stop.TheVariants as stop
+use Rattle.kt_script.specs.Types.{Bad, Endless, Flaw, Lexeme, Quoted}
+use Rattle.kt_script.specs.declared.token.StringStop.{StringStop}
+use Rattle.kt_script.specs.declared.token.StringStop.TheVariants as stop
 use Rattle.kt_script.specs.Letters.{escape_of}
 use Rattle.kt_script.specs.Inner.Pieces.{token, broken}
 
@@ -33,25 +33,25 @@ decoded (Ok x) = Ok (chars x.0, x.1)
 decoded (Err flaw) = Err flaw
 
 -- `quoted text r`: the token of the result `r`. A broken token extends to the end of `text`.
-abbrev pub quoted : List ℕ → Result (List ℕ × ℕ) Flaw → Piece
+abbrev pub quoted : List ℕ → Result (List ℕ × ℕ) Flaw → Lexeme
 quoted text (Ok x) = token (x.1 + 1) (Quoted x.0)
 quoted text (Err flaw) = broken text flaw
 
 -- `quoted_at quote text`: the string at the beginning of `text`, whose first byte is `quote`.
-abbrev pub quoted_at : ℕ → List ℕ → Piece
+abbrev pub quoted_at : ℕ → List ℕ → Lexeme
 quoted_at quote text = quoted text (decoded (string_at quote false (drop 1 text)))
 
 -- `escape_stop c`: the stop at an escape that represents `c`. Without `c`, the escape is unknown.
-abbrev pub escape_stop : Option ℕ → Stop
+abbrev pub escape_stop : Option ℕ → StringStop
 escape_stop None = stop.Flawed Bad
 escape_stop (Some c) = stop.Escape c
 
 -- `escape_at bytes`: the stop at a backslash that is followed by `bytes`.
-abbrev pub escape_at : List ℕ → Stop
+abbrev pub escape_at : List ℕ → StringStop
 escape_at [] = stop.Flawed Bad
 escape_at (c ∷ cs) = escape_stop (escape_of c)
 
 -- `stop_at quote text`: the stop at the beginning of `text`, where the plain bytes of a string end.
-abbrev pub stop_at : ℕ → List ℕ → Stop
+abbrev pub stop_at : ℕ → List ℕ → StringStop
 stop_at quote [] = stop.Flawed Endless
 stop_at quote (c ∷ cs) = if c == quote then stop.Quote else if c == 92 then escape_at cs else stop.Flawed Endless

@@ -1,7 +1,7 @@
 -- The tokens of a text, with their lines.
 use Rattle.std.specs.Prelude.{ℕ, zero, suc, ◌-◌, ◌==◌, ◌||◌, List, [], ◌∷◌, ◌++◌, Option, Some, None, if◌then◌else◌}
 use Rattle.std.specs.List.{prefix_len}
-use Rattle.kt_script.specs.Types.{Bad, Kind, Piece, Token}
+use Rattle.kt_script.specs.Types.{Bad, TokenKind, Lexeme, Token}
 use Rattle.kt_base.specs.Characters.{is_space}
 use Rattle.kt_script.specs.Letters.{is_letter}
 use Rattle.kt_script.specs.TokenRules.{mark_of, line_after}
@@ -12,12 +12,12 @@ use Rattle.kt_script.specs.Inner.Strings.{quoted_at}
 use Rattle.kt_script.specs.Inner.Comments.{comment_at}
 
 -- `marked text kind`: a punctuation token of `kind`. Without `kind`, a broken token.
-abbrev pub marked : List ℕ → Option Kind → Piece
+abbrev pub marked : List ℕ → Option TokenKind → Lexeme
 marked text None = broken text Bad
 marked text (Some kind) = token 1 kind
 
 -- `piece_at text`: the piece at the beginning of `text`.
-unfoldable pub piece_at : List ℕ → Piece
+unfoldable pub piece_at : List ℕ → Lexeme
 piece_at [] = blank 0
 piece_at (c ∷ cs) =
     if is_space c then blank (prefix_len is_space (c ∷ cs))
@@ -28,7 +28,7 @@ piece_at (c ∷ cs) =
     else marked (c ∷ cs) (mark_of c)
 
 -- `tokens_in line kind`: the token of `kind` on `line`, or no token.
-abbrev pub tokens_in : ℕ → Option Kind → List Token
+abbrev pub tokens_in : ℕ → Option TokenKind → List Token
 tokens_in line None = []
 tokens_in line (Some kind) = record { line = line; kind = kind } ∷ []
 

@@ -1,14 +1,14 @@
 -- Names and numbers.
 use Rattle.std.specs.Prelude.{ℕ, Bool, false, List, [], ◌∷◌, take, drop, Option, Some}
 use Rattle.std.specs.List.{prefix_len}
-use Rattle.kt_script.specs.Types.{Bad, Number, Piece}
+use Rattle.kt_script.specs.Types.{Bad, Number, Lexeme}
 use Rattle.kt_script.specs.Letters.{is_letter, is_word}
 use Rattle.kt_base.specs.Digits.{is_digit, decimal_from, fits}
 use Rattle.kt_script.specs.TokenRules.{word}
 use Rattle.kt_script.specs.Inner.Pieces.{token, broken}
 
 -- `name_at text`: the longest name at the beginning of `text`, or a truth value.
-abbrev pub name_at : List ℕ → Piece
+abbrev pub name_at : List ℕ → Lexeme
 name_at text = token (prefix_len is_word text) (word (take (prefix_len is_word text) text))
 
 -- `begins_with_letter text`: `text` begins with a letter or an underscore.
@@ -18,10 +18,10 @@ begins_with_letter (c ∷ cs) = is_letter c
 
 -- `number text n lettered v`: the number `v` of `n` digits. A broken token if a letter follows or
 -- the number is too large.
-abbrev pub number : List ℕ → ℕ → Bool → Option ℕ → Piece
+abbrev pub number : List ℕ → ℕ → Bool → Option ℕ → Lexeme
 number text n false (Some v) = token n (Number v)
 number text n lettered v = broken text Bad
 
 -- `number_at text`: the longest number at the beginning of `text`.
-abbrev pub number_at : List ℕ → Piece
+abbrev pub number_at : List ℕ → Lexeme
 number_at text = let n = prefix_len is_digit text in number text n (begins_with_letter (drop n text)) (fits (decimal_from 0 (take n text)))

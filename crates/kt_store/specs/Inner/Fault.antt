@@ -13,25 +13,25 @@ use Rattle.sqlite_rules.specs.declared.error.WriteError.{WriteError}
 use Rattle.sqlite_rules.specs.declared.error.WriteError.TheVariants as write
 use Rattle.sqlite_trees.specs.declared.error.StoreError.{StoreError}
 use Rattle.sqlite_trees.specs.declared.error.StoreError.TheVariants.{OutOfMemory}
-use Rattle.kt_store.specs.declared.store_fault.Trouble.{Trouble}
-use Rattle.kt_store.specs.declared.store_fault.Trouble.TheVariants.{NoMemory, Failed}
+use Rattle.kt_store.specs.declared.store_fault.StoreFailure.{StoreFailure}
+use Rattle.kt_store.specs.declared.store_fault.StoreFailure.TheVariants.{NoMemory, Failed}
 
 -- memory ran out
-abbrev pub IsShort : Trouble → Type 0
+abbrev pub IsShort : StoreFailure → Type 0
 IsShort (NoMemory shortage) = ⊤
 IsShort (Failed statement) = ⊥
 
 -- a statement or a tree failed
-abbrev pub IsFailure : Trouble → Type 0
+abbrev pub IsFailure : StoreFailure → Type 0
 IsFailure (NoMemory shortage) = ⊥
 IsFailure (Failed statement) = ⊤
 
 -- an error means that memory ran out if SQLite says so, and else that a statement failed
-abbrev pub IsOfError : Error → Trouble → Type 0
+abbrev pub IsOfError : Error → StoreFailure → Type 0
 IsOfError error trouble = (IsShort trouble × (error ≡ SqliteFailure code.OutOfMemory)) ⊎ (IsFailure trouble × (error ≢ SqliteFailure code.OutOfMemory))
 
 -- an error of a tree means that memory ran out if the tree says so, and else that a statement failed
-abbrev pub IsOfTreeError : StoreError → Trouble → Type 0
+abbrev pub IsOfTreeError : StoreError → StoreFailure → Type 0
 IsOfTreeError error trouble = (IsShort trouble × (error ≡ OutOfMemory)) ⊎ (IsFailure trouble × (error ≢ OutOfMemory))
 
 -- `IsOutOfMemory error`: an open failed with `error` because memory ran out
@@ -42,9 +42,9 @@ IsOutOfMemory opening.Busy = ⊥
 IsOutOfMemory opening.HotJournal = ⊥
 
 -- `IsOfRecoverError error trouble`: a failed recovery means that memory ran out if its error says so, and else that a statement failed
-abbrev pub IsOfRecoverError : RecoverError → Trouble → Type 0
+abbrev pub IsOfRecoverError : RecoverError → StoreFailure → Type 0
 IsOfRecoverError error trouble = (IsShort trouble × (error ≡ recovery.OutOfMemory)) ⊎ (IsFailure trouble × (error ≢ recovery.OutOfMemory))
 
 -- an error of a write means that memory ran out only if a tree says so
-abbrev pub IsOfWriteError : WriteError → Trouble → Type 0
+abbrev pub IsOfWriteError : WriteError → StoreFailure → Type 0
 IsOfWriteError error trouble = IsShort trouble → error ≡ write.Failed OutOfMemory

@@ -1,13 +1,13 @@
 -- What a call leaves as it was, what it changes, and which databases have a number.
 use Rattle.std.specs.Prelude.{ℤ, List, ⊤}
 use Rattle.kt_store.specs.Ask.{Rests}
-use Rattle.kt_store.specs.Attaching.{Was, Blank}
+use Rattle.kt_store.specs.Attaching.{DatabaseBefore, Blank}
 use Rattle.kt_store.specs.Runs.{Keeps}
 use Rattle.kt_store.specs.Stands.{StandsFor, SaysSchema, HasTables, Leaves}
 use Rattle.kt_store.specs.Types.{Ghosts, HasCleanDisk, Held, IsUnchanged, Run, Survives, state}
 
 -- the database was not blank: its tables say a number
-abbrev pub HasNumber : Was → Type 0
+abbrev pub HasNumber : DatabaseBefore → Type 0
 HasNumber Blank = ⊥
 HasNumber _ = ⊤
 

@@ -2,7 +2,7 @@
 use Rattle.std.specs.Prelude.{◌≡◌, false, List, ℕ, suc, [], ◌∷◌, ⊤, Some}
 use Rattle.kt_store.specs.Runs.{AreNumbered, AreOrdered, Keeps, KeepsOne}
 use Rattle.kt_store.specs.Seeks.{HasCommitted}
-use Rattle.kt_store.specs.declared.result_store.Keeping as store
+use Rattle.kt_store.specs.declared.result_store.StoreSpec as store
 use Rattle.sqlite_schema.specs.Names.{column_named}
 use Rattle.sqlite_schema.specs.declared.schema.Table.{Table}
 use Rattle.kt_store.specs.declared.places.Places.{Places}

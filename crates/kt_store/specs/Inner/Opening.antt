@@ -10,11 +10,11 @@ use Rattle.sqlite_store.specs.Listing.{file_trees, IsOurs}
 use Rattle.sqlite_store.specs.Unopened.{state_of, wanted_by, image}
 use Rattle.sqlite.specs.Opening.{HoldsAt}
 use Rattle.kt_store.specs.Runs.{Keeps, SaysIn}
-use Rattle.kt_store.specs.Attaching.{Was, IsOf, TakesTables}
+use Rattle.kt_store.specs.Attaching.{DatabaseBefore, IsOf, TakesTables}
 use Rattle.kt_store.specs.Files.{Follows, IsReadAs}
 use Rattle.kt_store.specs.Seeks.{HasCommitted, HoldsRuns}
 use Rattle.kt_store.specs.Stands.{StandsFor}
-use Rattle.kt_store.specs.Supposed.{ListsObjects}
+use Rattle.kt_store.specs.TrustedContents.{ListsObjects}
 use Rattle.kt_store.specs.Types.{FileStore, Ghosts as StoreGhosts, HasCleanDisk, Held, Image, IsClean, PageMap, Recovers, Run, Trees, file_state, recovers, state, view}
 
 module _ {D : Type 0} {g : Ghosts D} (image : Image) (store : FileStore D g) where
@@ -60,11 +60,11 @@ module _ {D : Type 0} {g : Ghosts D} (old new : Unopened D g) where
 
 -- the tables of a connection were taken, and a store has the last commit of the results; a crash leaves what it left of them
 abbrev pub IsTaken : {S : Type 0} → StoreGhosts S → Held S → S → Type 0
-IsTaken g conn it = (results : Held _) × ((was : Was) → IsOf was (state g conn) → TakesTables was (state g conn) (state g results))
+IsTaken g conn it = (results : Held _) × ((was : DatabaseBefore) → IsOf was (state g conn) → TakesTables was (state g conn) (state g results))
     × ((runs : List Run) → StandsFor (state g results) runs → HasCommitted (g.view it) runs)
     × (IsClean (g.view it) → HasCleanDisk (state g results)) × ((trees : Trees) → g.recovers it trees → (state g results).may_leave trees)
     × (IsClean (g.view it) → IsTrue (g.view it).is_numbered)
 
 -- the same of a store over files
 abbrev pub IsTakenOf : {D : Type 0} {g : Ghosts D} → Held (FileStore D g) → FileStore D g → Type 0
-IsTakenOf conn it = (results : Held _) × ((was : Was) → IsOf was (file_state conn) → TakesTables was (file_state conn) (file_state results)) × Follows results it
+IsTakenOf conn it = (results : Held _) × ((was : DatabaseBefore) → IsOf was (file_state conn) → TakesTables was (file_state conn) (file_state results)) × Follows results it

@@ -1,7 +1,7 @@
 -- What is supposed of files holds of files without a byte.
 use Rattle.std.proofs.Math.Nat.{lt_irrefl}
 use Rattle.std.specs.Prelude.{[]}
-use Rattle.kt_store.specs.Supposed.{IsOfRuns}
+use Rattle.kt_store.specs.TrustedContents.{IsOfRuns}
 
 -- they list nothing
 pub of_nothing : IsOfRuns (record { log = []; db = [] })

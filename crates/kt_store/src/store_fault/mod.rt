@@ -51,27 +51,27 @@ impl StoreFault {
 
 /// Why a part of a call fails. A call of the store has refusals of its own beside these.
 #[derive(Clone, Copy)]
-pub(crate) enum Trouble {
+pub(crate) enum StoreFailure {
     NoMemory(Shortage),
     Failed(FailedStatement),
 }
 
-impl From<Trouble> for StoreFault {
+impl From<StoreFailure> for StoreFault {
     ghost use Rattle.kt_store.specs.Ask.{IsStoreFault};
 
     ghost from_gives = { λ _ fault. IsStoreFault fault };
 
-    fn from(trouble: Trouble) -> StoreFault {
+    fn from(trouble: StoreFailure) -> StoreFault {
         match trouble {
-            Trouble::NoMemory(shortage) => StoreFault::NoMemory(shortage),
-            Trouble::Failed(failed) => StoreFault::Store(failed),
+            StoreFailure::NoMemory(shortage) => StoreFault::NoMemory(shortage),
+            StoreFailure::Failed(failed) => StoreFault::Store(failed),
         }
     }
 }
 
 /// Memory ran out. Only a refusal of the allocator, or of SQLite, makes this value.
 #[derive(Clone, Copy, Debug)]
-pub struct Shortage(Refusal);
+pub struct Shortage(SqliteRefusal);
 
 /// A statement failed, a value of a row could not be read, the file could not be opened or closed, or the connection
 /// is in a transaction, a tree is damaged, or a row does not obey the schema. Only the
@@ -83,8 +83,8 @@ pub struct FailedStatement {
 }
 
 /// What those functions make of every other failure.
-const FAULTY: Trouble = Trouble::Failed(FailedStatement { is_in_use: false });
+const FAULTY: StoreFailure = StoreFailure::Failed(FailedStatement { is_in_use: false });
 
 /// A type of this module, of `rules`, of `statements` and of `trees`, so that no other can write a `Shortage`.
 #[derive(Clone, Copy, Debug)]
-struct Refusal;
+struct SqliteRefusal;

@@ -4,7 +4,7 @@ ghost use Rattle.sqlite_schema.specs.Catalog.{IsCatalogOf};
 ghost use Rattle.sqlite_trees.specs.View.{IsClean, IsQuiet};
 
 use crate::store_fault::trees::sure;
-use crate::store_fault::{FAULTY, Trouble};
+use crate::store_fault::{FAULTY, StoreFailure};
 use kt_base::NoMemory;
 use sqlite_exec::work::Workspace;
 use sqlite_items::Items;
@@ -28,12 +28,12 @@ pub(crate) struct TableEdit<'a> {
     pub(crate) sources: &'a [Row],
 }
 
-impl From<WriteError> for Trouble {
+impl From<WriteError> for StoreFailure {
     ghost from_gives = { IsOfWriteError };
 
-    fn from(error: WriteError) -> Trouble {
+    fn from(error: WriteError) -> StoreFailure {
         match error {
-            WriteError::Failed(error) => Trouble::from(error),
+            WriteError::Failed(error) => StoreFailure::from(error),
             WriteError::Refused(_) => FAULTY,
         }
     }
@@ -64,7 +64,7 @@ fn put_with<S: Alter>(
     schema: &Schema,
     indexes: &[Index<'_>],
     edit: TableEdit<'_>,
-) -> Result<(), Trouble>
+) -> Result<(), StoreFailure>
     requires obeys { IsClean (S.Store.view store.old) → Obeys (S.Store.view store.old) schema.now }
     requires short { edit.from ≡ 0 ⊎ edit.from ≡ 1 }
     requires indexes { IsCatalogOf schema.now indexes.now }
@@ -117,7 +117,7 @@ pub(crate) fn put_rows<S: Alter>(
     alloc: Global,
     schema: &Schema,
     edit: TableEdit<'_>,
-) -> Result<(), Trouble>
+) -> Result<(), StoreFailure>
     requires obeys { IsClean (S.Store.view store.old) → Obeys (S.Store.view store.old) schema.now }
     requires short { edit.from ≡ 0 ⊎ edit.from ≡ 1 }
     ensures puts { IsClean (S.Store.view store.new)

@@ -5,7 +5,7 @@ ghost use Rattle.sqlite_std_file.specs.File.{file_is_usable, IsFresh};
 
 use crate::StoreFault;
 use crate::batch::Batch;
-use crate::store_fault::{FAULTY, FailedStatement, Refusal, Shortage, Trouble};
+use crate::store_fault::{FAULTY, FailedStatement, Shortage, SqliteRefusal, StoreFailure};
 use kt_base::{NoMemory, Text};
 use sqlite::types::FromSql;
 use sqlite::{
@@ -23,31 +23,33 @@ impl From<NoMemory> for StoreFault {
     ghost from_gives = { λ _ fault. IsNoMemory fault };
 
     fn from(_refusal: NoMemory) -> StoreFault {
-        StoreFault::NoMemory(Shortage(Refusal))
+        StoreFault::NoMemory(Shortage(SqliteRefusal))
     }
 }
 
-impl From<NoMemory> for Trouble {
+impl From<NoMemory> for StoreFailure {
     ghost from_gives = { λ _ trouble. IsShort trouble };
 
-    fn from(_refusal: NoMemory) -> Trouble {
-        Trouble::NoMemory(Shortage(Refusal))
+    fn from(_refusal: NoMemory) -> StoreFailure {
+        StoreFailure::NoMemory(Shortage(SqliteRefusal))
     }
 }
 
-impl From<SqlError> for Trouble {
+impl From<SqlError> for StoreFailure {
     ghost from_gives = { IsOfError };
 
-    fn from(error: SqlError) -> Trouble {
+    fn from(error: SqlError) -> StoreFailure {
         match error {
-            SqlError::SqliteFailure(ErrorCode::OutOfMemory) => Trouble::NoMemory(Shortage(Refusal)),
+            SqlError::SqliteFailure(ErrorCode::OutOfMemory) => StoreFailure::NoMemory(Shortage(
+                SqliteRefusal,
+            )),
             _ => FAULTY,
         }
     }
 }
 
 /// Reads a value from a column of a row. Fails for a value of another type, and for a number out of range.
-pub(crate) fn value_in<T: FromSql>(row: &Row, at: usize) -> Result<T, Trouble>
+pub(crate) fn value_in<T: FromSql>(row: &Row, at: usize) -> Result<T, StoreFailure>
     requires { at < length row.now }
     ensures value { IfOk result (T.FromSql.reads_as (column row.now at)) }
 {
@@ -56,7 +58,7 @@ pub(crate) fn value_in<T: FromSql>(row: &Row, at: usize) -> Result<T, Trouble>
 }
 
 /// Checks that the connection is open and that SQLite can prepare a statement over its tables.
-pub(crate) fn probe<S: Alter>(conn: &mut Connection<S>, sql: &str) -> Result<(), Trouble>
+pub(crate) fn probe<S: Alter>(conn: &mut Connection<S>, sql: &str) -> Result<(), StoreFailure>
     requires { IsPlain (understood schema_2 sql.now) }
     ensures same { HasCleanDisk (state S.Store conn.new)
         → OnOk result (IsUnchanged (state S.Store conn.old) (state S.Store conn.new)) }
@@ -75,7 +77,7 @@ pub(crate) fn ask<S: Alter>(
     conn: &mut Connection<S>,
     sql: &str,
     params: &[ValueRef<'_>],
-) -> Result<Vec<Row>, Trouble>
+) -> Result<Vec<Row>, StoreFailure>
     requires { IsPlain (understood schema_2 sql.now) }
     ensures rows { HasCleanDisk (state S.Store conn.new)
         → IfOk result (λ rows. Asked S.Store sql.now
@@ -91,7 +93,7 @@ pub(crate) fn ask<S: Alter>(
 }
 
 /// Checks that each row has a number of columns.
-fn have_columns(rows: &[Row], width: usize) -> Result<(), Trouble>
+fn have_columns(rows: &[Row], width: usize) -> Result<(), StoreFailure>
     requires { 0 < width }
     ensures wide { OnOk result (AreWide width rows.now) }
 {
@@ -109,7 +111,7 @@ pub(crate) fn query<S: Alter>(
     sql: &str,
     width: usize,
     params: &[ValueRef<'_>],
-) -> Result<Vec<Row>, Trouble>
+) -> Result<Vec<Row>, StoreFailure>
     requires plain { IsPlain (understood schema_2 sql.now) }
     requires width { HasColumns width (understood schema_2 sql.now) }
     ensures shown { OnRuns S.Store conn.old conn.new (λ runs.
@@ -127,7 +129,7 @@ pub(crate) fn execute<S: Alter>(
     conn: &mut Connection<S>,
     sql: &str,
     params: &[ValueRef<'_>],
-) -> Result<(), Trouble>
+) -> Result<(), StoreFailure>
     requires { IsPlain (understood schema_2 sql.now) }
     ensures executed { HasCleanDisk (state S.Store conn.new)
         → OnOk result (Executed S.Store sql.now (bound params.now) conn.old conn.new) }
@@ -146,7 +148,7 @@ pub(crate) fn step<S: Alter>(
     tx: &mut Transaction<'_, S>,
     sql: &str,
     params: &[ValueRef<'_>],
-) -> Result<(), Trouble>
+) -> Result<(), StoreFailure>
     requires { IsOurs sql.now }
     ensures same_reference { tx.new.conn.ghost_name ≡ tx.old.conn.ghost_name }
     ensures runs { OnOk result (RunsOne S.Store (sql.now, bound params.now, [])
@@ -158,7 +160,10 @@ pub(crate) fn step<S: Alter>(
 }
 
 /// Runs statements in one transaction and commits them. Fails if the connection is in a transaction.
-pub(crate) fn commit<S: Alter, B: Batch>(conn: &mut Connection<S>, batch: &B) -> Result<(), Trouble>
+pub(crate) fn commit<S: Alter, B: Batch>(
+    conn: &mut Connection<S>,
+    batch: &B,
+) -> Result<(), StoreFailure>
     requires { B.is_ready batch.now }
     ensures done { HasCleanDisk (state S.Store conn.new)
         → OnOk result (Commits S.Store (B.statements batch.now) conn.old conn.new) }
@@ -177,29 +182,29 @@ pub(crate) fn commit<S: Alter, B: Batch>(conn: &mut Connection<S>, batch: &B) ->
 }
 
 /// Returns the fault of files that can't be opened.
-fn unopened(error: &OpenError) -> Trouble
+fn unopened(error: &OpenError) -> StoreFailure
     ensures short { IsShort result → IsOutOfMemory error.now }
 {
     let is_short = match error {
         OpenError::OutOfMemory => true,
         OpenError::Io(error) => error.kind() == ErrorKind::OutOfMemory,
-        OpenError::Busy => return Trouble::Failed(FailedStatement { is_in_use: true }),
+        OpenError::Busy => return StoreFailure::Failed(FailedStatement { is_in_use: true }),
         OpenError::HotJournal => false,
     };
     if is_short {
-        Trouble::NoMemory(Shortage(Refusal))
+        StoreFailure::NoMemory(Shortage(SqliteRefusal))
     } else {
         FAULTY
     }
 }
 
 /// Returns the value of a call. If the call failed, what it gives back is dropped.
-fn done<T, L: Drop>(returned: Result<T, (SqlError, L)>) -> Result<T, Trouble>
+fn done<T, L: Drop>(returned: Result<T, (SqlError, L)>) -> Result<T, StoreFailure>
     ensures ok { IfOk result (λ it. returned ≡ Ok it) }
 {
     match returned {
         Ok(it) => Ok(it),
-        Err((error, _left)) => Err(Trouble::from(error)),
+        Err((error, _left)) => Err(StoreFailure::from(error)),
     }
 }
 
@@ -214,7 +219,7 @@ pub(crate) fn open_both<S: Start>(
     rt: &HostRuntime,
     file: &Text,
     start: S,
-) -> Result<Files<FileFrom<S>>, (Trouble, NotOpened<S>)>
+) -> Result<Files<FileFrom<S>>, (StoreFailure, NotOpened<S>)>
     ensures log { IfOk result (λ files. IsTrue (file_is_usable S.Start files.log)) }
     ensures db { IfOk result (λ files. IsTrue (file_is_usable S.Start files.db)) }
     ensures fresh { IfOk result (λ files. IsFresh true files.log × IsFresh false files.db) }
@@ -235,7 +240,7 @@ pub(crate) fn connect<D: Disk + Drop>(
     alloc: Global,
     files: Files<D>,
     options: Options,
-) -> Result<Connection<FileStore<D>>, Trouble>
+) -> Result<Connection<FileStore<D>>, StoreFailure>
     requires log { IsTrue (D.Disk.is_usable files.log) }
     requires db { IsTrue (D.Disk.is_usable files.db) }
     ensures opened { IfOk result (λ conn. HasCleanDisk (file_state conn)

@@ -10,7 +10,7 @@ ghost use Rattle.sqlite_value.specs.Order.{Row as Values};
 
 use crate::StoreFault;
 use crate::heads::add;
-use crate::store_fault::{FAULTY, Refusal, Shortage, Trouble};
+use crate::store_fault::{FAULTY, Shortage, SqliteRefusal, StoreFailure};
 use crate::value::int;
 use kt_base::{Bytes, NoMemory};
 use sqlite::Row;
@@ -25,7 +25,7 @@ use std::alloc::Global;
 use std::cmp::Ordering;
 
 /// Fails with a damage unless a check of what was read holds.
-pub(crate) fn sure(is_sound: bool) -> Result<(), Trouble>
+pub(crate) fn sure(is_sound: bool) -> Result<(), StoreFailure>
     ensures sound { OnOk result (is_sound ≡ true) }
     ensures damaged { OnErr result (is_sound ≡ false) }
 {
@@ -33,7 +33,7 @@ pub(crate) fn sure(is_sound: bool) -> Result<(), Trouble>
 }
 
 /// Returns the value, and fails with a damage if there is none.
-pub(crate) fn present<T>(found: Option<T>) -> Result<T, Trouble>
+pub(crate) fn present<T>(found: Option<T>) -> Result<T, StoreFailure>
     ensures there { IfOk result (λ it. found ≡ Some it) }
     ensures damaged { OnErr result (found ≡ None) }
 {
@@ -52,23 +52,23 @@ pub(crate) struct Table<'a> {
     pub(crate) blobs: &'a [usize],
 }
 
-impl From<StoreError> for Trouble {
+impl From<StoreError> for StoreFailure {
     ghost from_gives = { IsOfTreeError };
 
-    fn from(error: StoreError) -> Trouble {
+    fn from(error: StoreError) -> StoreFailure {
         match error {
-            StoreError::OutOfMemory => Trouble::NoMemory(Shortage(Refusal)),
+            StoreError::OutOfMemory => StoreFailure::NoMemory(Shortage(SqliteRefusal)),
             _ => FAULTY,
         }
     }
 }
 
-impl From<OpenError> for Trouble {
+impl From<OpenError> for StoreFailure {
     ghost from_gives = { IsOfRecoverError };
 
-    fn from(error: OpenError) -> Trouble {
+    fn from(error: OpenError) -> StoreFailure {
         match error {
-            OpenError::OutOfMemory => Trouble::NoMemory(Shortage(Refusal)),
+            OpenError::OutOfMemory => StoreFailure::NoMemory(Shortage(SqliteRefusal)),
             _ => FAULTY,
         }
     }
@@ -78,12 +78,12 @@ impl From<StoreError> for StoreFault {
     ghost from_gives = { λ _ fault. IsStoreFault fault };
 
     fn from(error: StoreError) -> StoreFault {
-        StoreFault::from(Trouble::from(error))
+        StoreFault::from(StoreFailure::from(error))
     }
 }
 
 /// Copies the bytes in a column of a stored row. This is the one copy of an output.
-pub(crate) fn stored_bytes(alloc: Global, row: &row::Row, at: usize) -> Result<Bytes, Trouble>
+pub(crate) fn stored_bytes(alloc: Global, row: &row::Row, at: usize) -> Result<Bytes, StoreFailure>
     ensures bytes { (b : List ℕ) → column row.now at ≡ Blob b → IfOk result (λ x. x ≡ b) }
 {
     match row.get(at) {
@@ -96,7 +96,7 @@ pub(crate) fn stored_bytes(alloc: Global, row: &row::Row, at: usize) -> Result<B
 }
 
 /// Returns the rowid of a row. Fails unless it is above 0.
-pub(crate) fn number_of(row: &row::Row) -> Result<u64, Trouble>
+pub(crate) fn number_of(row: &row::Row) -> Result<u64, StoreFailure>
     ensures { (n : ℕ) → rowid row.now ≡ Int (pos n) → IfOk result (λ number. number ≡ n) }
 {
     match row.get(0) {
@@ -193,7 +193,7 @@ pub(crate) fn next_row<S: Store>(
     key: &row::Row,
     place: &mut row::Row,
     row: &mut row::Row,
-) -> Result<bool, Trouble>
+) -> Result<bool, StoreFailure>
     requires cursor { IsSome ((S.Store.view store.old).cursors 0) }
     requires table { (S.Store.view store.old).shape table.now.tree ≡ kind.Table }
     ensures goes { IfOk result (λ is_ours. IsClean (S.Store.view store.new)
@@ -223,7 +223,7 @@ pub(crate) fn row_behind<S: Store>(
     alloc: Global,
     table: &Table,
     key: &row::Row,
-) -> Result<Option<row::Row>, Trouble>
+) -> Result<Option<row::Row>, StoreFailure>
     ensures found { IfOk result (λ found. IsClean (S.Store.view store.new)
         → FindsUnder table.now.tree table.now.index key.now
         (S.Store.view store.old).trees found) }
@@ -249,7 +249,7 @@ fn rows_behind<S: Store>(
     table: &Table,
     key: &row::Row,
     columns: &[usize],
-) -> Result<Vec<Row>, Trouble>
+) -> Result<Vec<Row>, StoreFailure>
     ensures all { IfOk result (λ rows. IsClean (S.Store.view store.new)
         → ShowsUnder table.now.tree table.now.index key.now columns.now
         (S.Store.view store.old).trees rows.items) }
@@ -283,7 +283,7 @@ pub(crate) fn rows_after<S: Store>(
     before: &row::Row,
     key: &row::Row,
     columns: &[usize],
-) -> Result<Vec<Row>, Trouble>
+) -> Result<Vec<Row>, StoreFailure>
     ensures all { IfOk result (λ rows. IsClean (S.Store.view store.new)
         → ShowsUnder table.now.tree table.now.index key.now columns.now
         (S.Store.view store.old).trees rows.items) }
@@ -306,7 +306,7 @@ pub(crate) fn count_under<S: Store>(
     alloc: Global,
     table: &Table,
     key: &row::Row,
-) -> Result<u64, Trouble>
+) -> Result<u64, StoreFailure>
     ensures counted { IfOk result (λ n. IsClean (S.Store.view store.new)
         → CountsUnder table.now.tree table.now.index key.now
         (S.Store.view store.old).trees n) }

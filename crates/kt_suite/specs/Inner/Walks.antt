@@ -3,8 +3,8 @@ use Rattle.std.specs.Prelude.{ℕ, Bool, true, List, [], ◌∷◌, ◌++◌, �
 use Rattle.kt_suite.specs.Types.{Meaning, NoSyntax, Program, ReadFault, Stmt, SuiteCause, SuiteFault, TooMany}
 use Rattle.kt_script.specs.Spelling.{Spells}
 use Rattle.kt_suite.specs.declared.loader.Registry.{Registry}
-use Rattle.kt_suite.specs.declared.loader.Step.{Step}
-use Rattle.kt_suite.specs.declared.loader.Step.TheVariants.{Next, Enter}
+use Rattle.kt_suite.specs.declared.loader.LoadStep.{LoadStep}
+use Rattle.kt_suite.specs.declared.loader.LoadStep.TheVariants.{Next, Enter}
 use Rattle.kt_base.specs.Chains.{Chain}
 use Rattle.kt_suite.specs.Answers.{Asked, Read, Exists}
 use Rattle.kt_suite.specs.Faults.{fault_at, IsNoMemory}
@@ -64,13 +64,13 @@ pub data Enters (at : Site) (r : Registry) (path : List ℕ) : Result Registry S
   scant : (fault : SuiteFault) → IsNoMemory fault → Enters at r path (Err fault)
 
 -- `Entered at r path step`: the file at `path` was counted in `r`, and `step` reads it next.
-abbrev pub Entered : Site → Registry → List ℕ → Step → Type 0
+abbrev pub Entered : Site → Registry → List ℕ → LoadStep → Type 0
 Entered at r path step = (next : Registry) × Enters at r path (Ok next) × (step ≡ Enter next path)
 
 -- `Stepped leads old new r at meaning result`: the statement at `at` was executed, or executed as
 -- far as the file that it includes.
 pub data Stepped {S : Type 0} (leads : S → Asked → S → Type 0) (old new : S) (r : Registry) (at : Site)
-    (meaning : Meaning) : Result Step SuiteFault → Type 0 where
+    (meaning : Meaning) : Result LoadStep SuiteFault → Type 0 where
   goes : (after : Registry) → Walked leads old new (MeaningGives r.reading at meaning) r (Ok after)
       → Stepped leads old new r at meaning (Ok (Next after))
   enters : (path : List ℕ) → said at true meaning ≡ Includes at path ∷ []

@@ -6,14 +6,14 @@ use Rattle.kt_report.proofs.pairs.write_pairs.Goals as goal
 pub loop-pair-init : goal.loop-pair-init
 loop-pair-init g c = shows_none
 
-pub returns-in_err-write_pair : goal.returns-in_err-write_pair
-returns-in_err-write_pair g c =
-    let cut = shows_as (ap pair_bytes c.pair-item.is) c.in_err-write_pair.ensures in
+pub returns-in_err-write_property : goal.returns-in_err-write_property
+returns-in_err-write_property g c =
+    let cut = shows_as (ap pair_bytes c.pair-item.is) c.in_err-write_property.ensures in
     shows_error _ _ c.from_residual.ensures.1 (shows_cut_off pair_bytes c.args.pairs.now c.loop-pair.pair-index _ c.loop-pair-test.true c.loop-pair.invariant cut)
 
 pub loop-pair-preserved : goal.loop-pair-preserved
 loop-pair-preserved g c =
-    let next = shows_as (ap pair_bytes c.pair-item.is) c.in_ok-write_pair.ensures in
+    let next = shows_as (ap pair_bytes c.pair-item.is) c.in_ok-write_property.ensures in
     shows_next pair_bytes c.args.pairs.now c.loop-pair.pair-index _ c.loop-pair-test.true c.loop-pair.invariant next
 
 pub returns : goal.returns

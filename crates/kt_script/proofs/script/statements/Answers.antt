@@ -1,5 +1,5 @@
 use Rattle.std.proofs.Common.{◌≡◌, List, take, arith, length, ap, subst, sym, ◌∙◌, IsUtf8}
-use Rattle.kt_script.proofs.Common.{nil_from_length, IsUtf8-drop, line_past, Place, Stmt}
+use Rattle.kt_script.proofs.Common.{nil_from_length, IsUtf8-drop, line_past, ScriptState, Stmt}
 use Rattle.std.proofs.lemmas.Result.{err_from_is_err_and}
 use Rattle.kt_script.proofs.PieceCuts.{piece_cut}
 use Rattle.kt_script.proofs.Going.{goes_on, stops, ends_ok, ends_fault}
@@ -12,7 +12,7 @@ pub returns-in_err-place-clause-fault : goal.returns-in_err-place-clause-fault
 returns-in_err-place-clause-fault c =
     let p = err_from_is_err_and c.from_residual-in_err-place.result c.from_residual-in_err-place.ensures.1 in
     let cut = piece_cut c.in_ok-piece.piece c.loop-rest.rest.now c.loop-rest.invariant.1 (grind arith) c.in_ok-piece.ensures in
-    rw (p.1, p.2) (stops Place (List Stmt) c.in_err-place.field-0.0 c.loop-rest.place c.loop-rest.parser c.loop-rest.line c.loop-rest.rest.now c.args.text.now c.in_ok-piece.piece c.loop-rest.invariant.0
+    rw (p.1, p.2) (stops ScriptState (List Stmt) c.in_err-place.field-0.0 c.loop-rest.place c.loop-rest.parser c.loop-rest.line c.loop-rest.rest.now c.args.text.now c.in_ok-piece.piece c.loop-rest.invariant.0
     c.in_ok-piece.ensures cut.some cut.boundary.0 c.in_err-place.ensures.fault)
 
 pub loop-rest-smaller : goal.loop-rest-smaller

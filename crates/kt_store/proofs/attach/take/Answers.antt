@@ -10,18 +10,18 @@ returns-in_err-is_old-clause-refused g c was has is =
     (look_refuses g.S.Store c.args.conn.now c.is_old.new.conn (λ db opened may. g.met.S.Store.settled c.args.conn.now.store db opened may) c.lives.ensures (c.is_old.ensures.asks.crash (number_of was) says)
     c.in_err-is_old.field-0.0 (c.is_old.ensures.asks.rests (number_of was) says) was (λ clean. known_due was c.in_err-is_old.field-0.0 has (λ which. c.in_err-is_old.ensures.taken (number_of was) says which clean)) is)
 
-pub returns-in_err-renew-clause-refused : goal.returns-in_err-renew-clause-refused
-returns-in_err-renew-clause-refused g c was has is =
+pub returns-in_err-migrate-clause-refused : goal.returns-in_err-migrate-clause-refused
+returns-in_err-migrate-clause-refused g c was has is =
     let says = says_of was (state g.S.Store c.args.conn.now) has is in
-    if_same _ c.from_residual-in_err-renew.result c.in_err-renew.field-0.0 c.from_residual-in_err-renew.ensures.1
-    (renew_refuses (state g.S.Store c.args.conn.now) (state g.S.Store c.is_old.new.conn) (state g.S.Store c.renew.new.conn) (c.is_old.ensures.asks.crash (number_of was) says) (λ clean. c.in_ok-is_old.ensures.same (number_of was) says clean)
-    (λ clean. c.renew.ensures.earlier clean) c.in_err-renew.field-0.0 (λ runs held. c.in_err-renew.ensures.refused runs held) was has (λ clean. (c.in_ok-is_old.ensures.number (number_of was) says clean).0 c.if-branch.true) is)
+    if_same _ c.from_residual-in_err-migrate.result c.in_err-migrate.field-0.0 c.from_residual-in_err-migrate.ensures.1
+    (renew_refuses (state g.S.Store c.args.conn.now) (state g.S.Store c.is_old.new.conn) (state g.S.Store c.migrate.new.conn) (c.is_old.ensures.asks.crash (number_of was) says) (λ clean. c.in_ok-is_old.ensures.same (number_of was) says clean)
+    (λ clean. c.migrate.ensures.earlier clean) c.in_err-migrate.field-0.0 (λ runs held. c.in_err-migrate.ensures.refused runs held) was has (λ clean. (c.in_ok-is_old.ensures.number (number_of was) says clean).0 c.if-branch.true) is)
 
-pub returns-in_ok-renew-clause-taken : goal.returns-in_ok-renew-clause-taken
-returns-in_ok-renew-clause-taken g c was has is =
+pub returns-in_ok-migrate-clause-taken : goal.returns-in_ok-migrate-clause-taken
+returns-in_ok-migrate-clause-taken g c was has is =
     let says = says_of was (state g.S.Store c.args.conn.now) has is in
-    renew_takes (state g.S.Store c.args.conn.now) (state g.S.Store c.is_old.new.conn) (state g.S.Store c.renew.new.conn) (c.is_old.ensures.asks.crash (number_of was) says) (λ clean. c.in_ok-is_old.ensures.same (number_of was) says clean)
-    (λ clean. c.renew.ensures.earlier clean) (λ runs held. c.in_ok-renew.ensures.taken runs held) was has (λ clean. (c.in_ok-is_old.ensures.number (number_of was) says clean).0 c.if-branch.true)
+    renew_takes (state g.S.Store c.args.conn.now) (state g.S.Store c.is_old.new.conn) (state g.S.Store c.migrate.new.conn) (c.is_old.ensures.asks.crash (number_of was) says) (λ clean. c.in_ok-is_old.ensures.same (number_of was) says clean)
+    (λ clean. c.migrate.ensures.earlier clean) (λ runs held. c.in_ok-migrate.ensures.taken runs held) was has (λ clean. (c.in_ok-is_old.ensures.number (number_of was) says clean).0 c.if-branch.true)
     (λ clean. c.in_ok-is_old.ensures.tables (number_of was) says clean) is
 
 pub returns-else-branch-clause-taken : goal.returns-else-branch-clause-taken

@@ -13,7 +13,7 @@ returns-in-Ok-clause-lists g c done late =
     let cat = c.in_ok-listed.ensures.ok clean in
     let rows = c.in_ok-rows.rows.items in
     let read : rows ≡ map unrooted (rows_at size (in_use size cat.pages) Table 1) = c.in_ok-rows.ensures ∙ ap (map unrooted) (c.as_slice.ensures.value ∙ cat.lists) in
-    let objects : rows ≡ objects_2 = sym c.as_slice-2.ensures.value ∙ c.if-not-are_objects.ensures refl in
+    let objects : rows ≡ objects_2 = sym c.as_slice-2.ensures.value ∙ c.if-not-is_schema_2.ensures refl in
     let numbered : map rowid rows ≡ ids = ap (map rowid) objects in
     let listed : listed_from 0 (wanted_by new) ≡ joined rows layouts = (rw done at c.in-Ok.ensures.ok) ∙ ap (λ l. joined l layouts) c.as_slice-3.ensures.value in
     record {

@@ -7,12 +7,12 @@ returns-in-Err g c = adds_unasked g.T.Tree.asks _ _ c.args.registry _ _ (c.in-Er
 
 pub returns-then-not-exists : goal.returns-then-not-exists
 returns-then-not-exists g c =
-    rw (sym c.in-Ok.ensures) (adds_missing g.T.Tree.asks _ _ (record { file = c.args.file.now; line = c.args.line }) _ _ _ _ c.exists.ensures (search rules) c.blame.ensures)
+    rw (sym c.in-Ok.ensures) (adds_missing g.T.Tree.asks _ _ (record { file = c.args.file.now; line = c.args.line }) _ _ _ _ c.exists.ensures (search rules) c.fault_at.ensures)
 
 pub returns-then-len-ge-PROGRAM_LIMIT : goal.returns-then-len-ge-PROGRAM_LIMIT
 returns-then-len-ge-PROGRAM_LIMIT g c =
     rw (sym c.in-Ok.ensures)
-    (adds_too_many g.T.Tree.asks _ _ (record { file = c.args.file.now; line = c.args.line }) _ _ _ _ c.exists.ensures (search rules) (search rules) c.blame-then-len-ge-PROGRAM_LIMIT.ensures)
+    (adds_too_many g.T.Tree.asks _ _ (record { file = c.args.file.now; line = c.args.line }) _ _ _ _ c.exists.ensures (search rules) (search rules) c.fault_at-then-len-ge-PROGRAM_LIMIT.ensures)
 
 pub returns-in-Err-push : goal.returns-in-Err-push
 returns-in-Err-push g c = rw (sym c.in-Ok.ensures) (adds_short g.T.Tree.asks _ _ _ _ _ _ _ c.exists.ensures (c.in-Err-push.refusal, c.no_memory-in-Err-push.ensures))

@@ -10,7 +10,7 @@ returns-in-Err-clause-step g c = step_short g.T.Tree.asks _ _ _ _ _ (c.in-Err.re
 pub returns-in-Ok-Wrong-clause-step : goal.returns-in-Ok-Wrong-clause-step
 returns-in-Ok-Wrong-clause-step g c =
     let e : meaning.Wrong c.in-Ok-Wrong.cause ≡ meaning_of c.args.suite.now c.args.stmt.now.action = search rules in
-    step_wrong g.T.Tree.asks _ _ _ _ _ _ e c.blame.ensures
+    step_wrong g.T.Tree.asks _ _ _ _ _ _ e c.fault_at.ensures
 
 pub returns-in-Ok-Suite-clause-step : goal.returns-in-Ok-Suite-clause-step
 returns-in-Ok-Suite-clause-step g c =

@@ -1,6 +1,6 @@
 use Rattle.std.proofs.Common.{rules, ◌≡◌, ◌∙◌, List, ap, refl, sym, take, Ok, Err, true}
 use Rattle.kt_cli.proofs.Common.{Candidate, nothing_to_debug, world_of}
-use Rattle.kt_words.specs.declared.command.Command.TheVariants as command
+use Rattle.kt_args.specs.declared.command.Command.TheVariants as command
 use Rattle.kt_cli.proofs.Testings.{stopped_only, picked_only, short_only, printed_as, debug_only, debug_short}
 use Rattle.kt_cli.proofs.commands.debugging.debug.Goals as goal
 use Rattle.std.proofs.lemmas.List.{nil_from_length}

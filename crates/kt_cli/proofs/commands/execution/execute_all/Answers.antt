@@ -18,9 +18,9 @@ loop-command-preserved g c =
     let mid = scene c.loop-command.world c.loop-command.results (g.O.Write.contents c.loop-command.out) in
     let next = scene c.execute-exit.new.world c.execute-exit.new.results (g.O.Write.contents c.execute-exit.new.out) in
     record {
-      goes = subst (λ (xs : List Exit). GoesOn (world_of g.W.Tree g.W.Launcher g.W.World) g.R.Keeping c.args.commands.now later old next xs) (sym more)
-          (goes_more (world_of g.W.Tree g.W.Launcher g.W.World) g.R.Keeping _ _ _ _ _ _ _ _
-          (subst (λ (cs : List Command). GoesOn (world_of g.W.Tree g.W.Launcher g.W.World) g.R.Keeping c.args.commands.now cs old mid c.loop-command.exits.items) e i.goes)
+      goes = subst (λ (xs : List Exit). GoesOn (world_of g.W.Tree g.W.Launcher g.W.World) g.R.StoreSpec c.args.commands.now later old next xs) (sym more)
+          (goes_more (world_of g.W.Tree g.W.Launcher g.W.World) g.R.StoreSpec _ _ _ _ _ _ _ _
+          (subst (λ (cs : List Command). GoesOn (world_of g.W.Tree g.W.Launcher g.W.World) g.R.StoreSpec c.args.commands.now cs old mid c.loop-command.exits.items) e i.goes)
           c.execute-exit.ensures.did);
       idle = c.execute-exit.ensures.idle;
       room = omega (arith, i.room, shorter, longer, kept);
@@ -32,6 +32,6 @@ returns-clause-did g c =
     let none : length rest ≡ 0 = grind (arith, common_steps) in
     let old = scene c.args.world.now c.args.results.now (g.O.Write.contents c.args.out.now) in
     let new = scene c.loop-command.world c.loop-command.results (g.O.Write.contents c.loop-command.out) in
-    goes_all (world_of g.W.Tree g.W.Launcher g.W.World) g.R.Keeping _ _ _ _
-    (subst (λ (cs : List Command). GoesOn (world_of g.W.Tree g.W.Launcher g.W.World) g.R.Keeping c.args.commands.now cs old new c.loop-command.exits.items)
+    goes_all (world_of g.W.Tree g.W.Launcher g.W.World) g.R.StoreSpec _ _ _ _
+    (subst (λ (cs : List Command). GoesOn (world_of g.W.Tree g.W.Launcher g.W.World) g.R.StoreSpec c.args.commands.now cs old new c.loop-command.exits.items)
     (nil_from_length rest none) c.loop-command.invariant.goes)

@@ -6,7 +6,7 @@ use Rattle.kt_cli.proofs.commands.execution.execute_all.Given as goal
 -- executing the rest completes the execution, and the list has capacity for each exit status
 abbrev pub invariant-loop-command : goal.invariant-loop-command
 invariant-loop-command g l = record {
-  goes : GoesOn (world_of g.W.Tree g.W.Launcher g.W.World) g.R.Keeping l.commands (drop l.command-index l.commands) (scene l.fn.world l.fn.results (g.O.Write.contents l.fn.out)) (scene l.world l.results (g.O.Write.contents l.out)) l.exits.items;
+  goes : GoesOn (world_of g.W.Tree g.W.Launcher g.W.World) g.R.StoreSpec l.commands (drop l.command-index l.commands) (scene l.fn.world l.fn.results (g.O.Write.contents l.fn.out)) (scene l.world l.results (g.O.Write.contents l.out)) l.exits.items;
   idle : IsIdle (g.W.Launcher.running l.world) (g.W.Launcher.pending l.world);
   room : vec_len l.exits + length (drop l.command-index l.commands) ≤ vec_capacity l.exits;
 }

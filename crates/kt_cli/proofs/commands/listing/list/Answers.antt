@@ -1,6 +1,6 @@
 use Rattle.std.proofs.Common.{false, refl}
 use Rattle.kt_cli.proofs.Common.{listed, world_of}
-use Rattle.kt_words.specs.declared.command.Command.TheVariants as command
+use Rattle.kt_args.specs.declared.command.Command.TheVariants as command
 use Rattle.kt_cli.proofs.Testings.{printed_as, picked_only, stopped_only}
 use Rattle.kt_cli.proofs.commands.listing.list.Goals as goal
 

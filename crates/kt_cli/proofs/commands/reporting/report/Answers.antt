@@ -5,31 +5,31 @@ use Rattle.kt_cli.proofs.commands.reporting.report.Goals as goal
 
 pub returns-in-Err : goal.returns-in-Err
 returns-in-Err g c =
-    did_not_show g.R.Keeping c.args.number _ _ _ _ _ (Reported c.args.number c.args.kinds.now c.args.verbose)
+    did_not_show g.R.StoreSpec c.args.number _ _ _ _ _ (Reported c.args.number c.args.kinds.now c.args.verbose)
     (TextOrUnread c.args.number c.args.kinds.now c.args.verbose) c.in-Err.why _ (no_run c.args.verbose) (λ calls bytes u. inl u)
     c.in-Err.ensures c.write_not_shown.ensures c.ended.ensures
 
 pub returns-then-not-verbose : goal.returns-then-not-verbose
 returns-then-not-verbose g c =
     let off : c.args.verbose ≡ false = search rules in
-    did_show g.R.Keeping c.args.number _ _ _ _ _ c.args.kinds.now c.args.verbose _ c.in-Ok.run' _ off c.in-Ok.ensures.stored c.in-Ok.ensures.finds
+    did_show g.R.StoreSpec c.args.number _ _ _ _ _ c.args.kinds.now c.args.verbose _ c.in-Ok.run' _ off c.in-Ok.ensures.stored c.in-Ok.ensures.finds
     c.text.ensures c.ended-then-not-verbose.ensures
 
 pub returns-in-Ok-write_text : goal.returns-in-Ok-write_text
 returns-in-Ok-write_text g c =
     let on : c.args.verbose ≡ true = search rules in
-    did_show_pairs g.R.Keeping c.args.number _ _ _ _ _ c.args.kinds.now c.args.verbose _ _ c.in-Ok.run' on c.in-Ok.ensures.stored c.in-Ok.ensures.finds
+    did_show_pairs g.R.StoreSpec c.args.number _ _ _ _ _ c.args.kinds.now c.args.verbose _ _ c.in-Ok.run' on c.in-Ok.ensures.stored c.in-Ok.ensures.finds
     c.in-Ok-write_text.ensures refl
 
 pub returns-in-Err-NoPairs : goal.returns-in-Err-NoPairs
 returns-in-Err-NoPairs g c =
     let on : c.args.verbose ≡ true = search rules in
-    did_refuse_pairs g.R.Keeping c.args.number _ _ _ _ _ c.args.kinds.now c.args.verbose _ _ c.in-Ok.run' _ _ c.in-Err-NoPairs.fault on
+    did_refuse_pairs g.R.StoreSpec c.args.number _ _ _ _ _ c.args.kinds.now c.args.verbose _ _ c.in-Ok.run' _ _ c.in-Err-NoPairs.fault on
     c.in-Ok.ensures.stored c.in-Ok.ensures.finds (rw c.in-Err-NoPairs.field-0-is at c.in-Err-NoPairs.ensures)
     c.write_refusal.ensures c.ended-in-Err-NoPairs.ensures
 
 pub returns : goal.returns
 returns g c =
     let on : c.args.verbose ≡ true = search rules in
-    did_stop_pairs g.R.Keeping c.args.number _ _ _ _ _ c.args.kinds.now c.args.verbose _ _ c.in-Ok.run' _ on c.in-Ok.ensures.stored c.in-Ok.ensures.finds
+    did_stop_pairs g.R.StoreSpec c.args.number _ _ _ _ _ c.args.kinds.now c.args.verbose _ _ c.in-Ok.run' _ on c.in-Ok.ensures.stored c.in-Ok.ensures.finds
     (rw c.in-Err-Output.field-0-is at c.in-Err-Output.ensures) refl

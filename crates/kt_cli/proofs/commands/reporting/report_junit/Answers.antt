@@ -6,24 +6,24 @@ use Rattle.kt_cli.proofs.commands.reporting.report_junit.Goals as goal
 
 pub returns-in-Err : goal.returns-in-Err
 returns-in-Err g c =
-    did_not_show g.R.Keeping c.args.number _ _ _ _ _ (ReportedJunit c.args.number) (JunitOrUnread c.args.number) c.in-Err.why _ no_run
+    did_not_show g.R.StoreSpec c.args.number _ _ _ _ _ (ReportedJunit c.args.number) (JunitOrUnread c.args.number) c.in-Err.why _ no_run
     (λ calls bytes u. inl u) c.in-Err.ensures c.write_not_shown.ensures c.ended.ensures
 
 pub returns-in-Ok-write_junit : goal.returns-in-Ok-write_junit
 returns-in-Ok-write_junit g c =
-    did_show_junit g.R.Keeping c.args.number _ _ _ _ _ _ _ c.in-Ok.run' c.in-Ok.ensures.stored c.in-Ok.ensures.finds c.in-Ok-write_junit.ensures refl
+    did_show_junit g.R.StoreSpec c.args.number _ _ _ _ _ _ _ c.in-Ok.run' c.in-Ok.ensures.stored c.in-Ok.ensures.finds c.in-Ok-write_junit.ensures refl
 
 pub returns-in-Err-Refused : goal.returns-in-Err-Refused
 returns-in-Err-Refused g c =
-    did_refuse g.R.Keeping c.args.number _ _ _ _ _ _ _ c.in-Ok.run' _ _ c.in-Err-Refused.fault c.in-Ok.ensures.stored c.in-Ok.ensures.finds
+    did_refuse g.R.StoreSpec c.args.number _ _ _ _ _ _ _ c.in-Ok.run' _ _ c.in-Err-Refused.fault c.in-Ok.ensures.stored c.in-Ok.ensures.finds
     (rw c.in-Err-Refused.field-0-is at c.in-Err-Refused.ensures) c.write_refusal.ensures c.ended-in-Err-Refused.ensures
 
 pub returns-in-Err-Report-Output : goal.returns-in-Err-Report-Output
 returns-in-Err-Report-Output g c =
-    did_stop g.R.Keeping c.args.number _ _ _ _ _ _ _ c.in-Ok.run' _ c.in-Ok.ensures.stored c.in-Ok.ensures.finds
+    did_stop g.R.StoreSpec c.args.number _ _ _ _ _ _ _ c.in-Ok.run' _ c.in-Ok.ensures.stored c.in-Ok.ensures.finds
     (rw c.in-Err-Report-Output.field-0-is at c.in-Err-Report-Output.ensures) refl
 
 pub returns : goal.returns
 returns g c =
-    did_cut g.R.Keeping c.args.number _ _ _ _ _ _ _ c.in-Ok.run' _ _ _ c.in-Ok.ensures.stored c.in-Ok.ensures.finds
+    did_cut g.R.StoreSpec c.args.number _ _ _ _ _ _ _ c.in-Ok.run' _ _ _ c.in-Ok.ensures.stored c.in-Ok.ensures.finds
     (rw c.in-Err-Report-NoMemory.field-0-is at c.in-Err-Report-NoMemory.ensures) c.write_memory.ensures c.ended-in-Err-Report-NoMemory.ensures

@@ -13,10 +13,10 @@ returns-in_err-last g c =
     let items = c.as_slice-entry-items in
     let chosen : c.is_chosen.result ≡ true = search rules in
     let one = if_of_is single kind c.entry-item.result _ c.entry-item.is (ap (same_kind kind) (sym c.kind.ensures) ∙ sym c.if-same_kind.ensures) in
-    error_is (WritesEntries g.R.Keeping _ _ _ _ number _ _) _ _ c.from_residual.ensures.1
-    (entries_as g.R.Keeping number (all_chosen c.args.kinds.now kind items.result.now c.args.run.now.entries _ items.ensures c.is_chosen.ensures chosen)
-    (item_cut g.R.Keeping number (if_of single kind) items.result.now c.loop-entry.entry-index _ c.loop-entry-test.true c.loop-entry.invariant
-    (entries_as g.R.Keeping number one c.in_err-last.ensures)))
+    error_is (WritesEntries g.R.StoreSpec _ _ _ _ number _ _) _ _ c.from_residual.ensures.1
+    (entries_as g.R.StoreSpec number (all_chosen c.args.kinds.now kind items.result.now c.args.run.now.entries _ items.ensures c.is_chosen.ensures chosen)
+    (item_cut g.R.StoreSpec number (if_of single kind) items.result.now c.loop-entry.entry-index _ c.loop-entry-test.true c.loop-entry.invariant
+    (entries_as g.R.StoreSpec number one c.in_err-last.ensures)))
 
 pub loop-entry-preserved : goal.loop-entry-preserved
 loop-entry-preserved g c =
@@ -28,13 +28,13 @@ loop-entry-preserved g c =
       | then-same_kind+in_ok-last w ↦
           let one = if_of_is single kind c.entry-item.result _ c.entry-item.is (ap (same_kind kind) (sym c.kind.ensures) ∙ sym w.if-same_kind.ensures) in
           rw (w.results-is, w.out-is, w.last-is)
-          (item_next g.R.Keeping number (if_of single kind) items c.loop-entry.entry-index c.entry-item.result low c.loop-entry.invariant
-          (entries_as g.R.Keeping number one w.in_ok-last.ensures))
+          (item_next g.R.StoreSpec number (if_of single kind) items c.loop-entry.entry-index c.entry-item.result low c.loop-entry.invariant
+          (entries_as g.R.StoreSpec number one w.in_ok-last.ensures))
       | else-same_kind w ↦
           let none = if_of_not single kind c.entry-item.result _ c.entry-item.is (ap (same_kind kind) (sym c.kind.ensures) ∙ sym w.if-same_kind.ensures) in
           rw (w.results-is, w.out-is, w.last-is)
-          (item_next g.R.Keeping number (if_of single kind) items c.loop-entry.entry-index c.entry-item.result low c.loop-entry.invariant
-          (entries_as g.R.Keeping number none (entries_none g.R.Keeping number)))
+          (item_next g.R.StoreSpec number (if_of single kind) items c.loop-entry.entry-index c.entry-item.result low c.loop-entry.invariant
+          (entries_as g.R.StoreSpec number none (entries_none g.R.StoreSpec number)))
     ]
 
 pub returns : goal.returns
@@ -42,6 +42,6 @@ returns g c =
     let number = c.args.run.now.number in
     let items = c.as_slice-entry-items in
     let chosen : c.is_chosen.result ≡ true = search rules in
-    entries_as g.R.Keeping number
+    entries_as g.R.StoreSpec number
     (all_chosen c.args.kinds.now c.args.kind items.result.now c.args.run.now.entries _ items.ensures c.is_chosen.ensures chosen)
-    (items_all g.R.Keeping number (if_of single c.args.kind) items.result.now c.loop-entry.entry-index c.loop-entry-test.false c.loop-entry.invariant)
+    (items_all g.R.StoreSpec number (if_of single c.args.kind) items.result.now c.loop-entry.entry-index c.loop-entry-test.false c.loop-entry.invariant)

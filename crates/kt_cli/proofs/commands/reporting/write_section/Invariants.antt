@@ -7,5 +7,5 @@ use Rattle.kt_cli.proofs.commands.reporting.write_section.Given as goal
 -- the entries of the kind so far are written
 abbrev pub invariant-loop-entry : goal.invariant-loop-entry
 invariant-loop-entry g l =
-    WritesEntries g.R.Keeping l.fn.results l.results (g.O.Write.contents l.fn.out) (g.O.Write.contents l.out) l.fn.run.number l.fn.before
+    WritesEntries g.R.StoreSpec l.fn.results l.results (g.O.Write.contents l.fn.out) (g.O.Write.contents l.out) l.fn.run.number l.fn.before
     (flat_map (if_of single l.kind) (take l.entry-index l.entry-items)) (Ok l.last)

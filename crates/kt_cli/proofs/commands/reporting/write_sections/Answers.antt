@@ -9,12 +9,12 @@ returns-in_err-last g c =
     let number = c.args.run.now.number in
     let due = chosen_of c.args.kinds.now c.args.run.now.entries in
     let items = c.text_order-kind-items in
-    error_is (WritesEntries g.R.Keeping _ _ _ _ number _ _) _ _ c.from_residual.ensures.1 (entries_as g.R.Keeping number (ap (flat_map due) items.ensures)
-    (item_cut g.R.Keeping number due items.result.now c.loop-kind.kind-index _ c.loop-kind-test.true c.loop-kind.invariant c.in_err-last.ensures))
+    error_is (WritesEntries g.R.StoreSpec _ _ _ _ number _ _) _ _ c.from_residual.ensures.1 (entries_as g.R.StoreSpec number (ap (flat_map due) items.ensures)
+    (item_cut g.R.StoreSpec number due items.result.now c.loop-kind.kind-index _ c.loop-kind-test.true c.loop-kind.invariant c.in_err-last.ensures))
 
 pub loop-kind-preserved : goal.loop-kind-preserved
 loop-kind-preserved g c =
-    item_next g.R.Keeping c.args.run.now.number (chosen_of c.args.kinds.now c.args.run.now.entries) c.text_order-kind-items.result.now
+    item_next g.R.StoreSpec c.args.run.now.number (chosen_of c.args.kinds.now c.args.run.now.entries) c.text_order-kind-items.result.now
     c.loop-kind.kind-index _ c.loop-kind-test.true c.loop-kind.invariant c.in_ok-last.ensures
 
 pub returns : goal.returns
@@ -22,5 +22,5 @@ returns g c =
     let number = c.args.run.now.number in
     let due = chosen_of c.args.kinds.now c.args.run.now.entries in
     let items = c.text_order-kind-items in
-    entries_as g.R.Keeping number (ap (flat_map due) items.ensures)
-    (items_all g.R.Keeping number due items.result.now c.loop-kind.kind-index c.loop-kind-test.false c.loop-kind.invariant)
+    entries_as g.R.StoreSpec number (ap (flat_map due) items.ensures)
+    (items_all g.R.StoreSpec number due items.result.now c.loop-kind.kind-index c.loop-kind-test.false c.loop-kind.invariant)

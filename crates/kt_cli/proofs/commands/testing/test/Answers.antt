@@ -1,18 +1,18 @@
 use Rattle.std.proofs.Common.{rules, refl}
 use Rattle.kt_cli.proofs.Common.{world_of}
-use Rattle.kt_words.specs.declared.command.Command.TheVariants as command
+use Rattle.kt_args.specs.declared.command.Command.TheVariants as command
 use Rattle.kt_cli.proofs.Testings.{idle_after, short_only, stopped_only, did_asked, did_test, printed_as}
 use Rattle.kt_cli.proofs.commands.testing.test.Goals as goal
 
 pub returns-in-Err-clause-did : goal.returns-in-Err-clause-did
 returns-in-Err-clause-did g c =
-    did_asked (world_of g.W.Tree g.W.Launcher g.W.World) g.R.Keeping _ _ _ _ _ _ _
+    did_asked (world_of g.W.Tree g.W.Launcher g.W.World) g.R.StoreSpec _ _ _ _ _ _ _
     (stopped_only (world_of g.W.Tree g.W.Launcher g.W.World) (command.Test c.args.options.now c.args.file.now) c.args.options.now _ _ _ _ _
     c.in-Err.fault refl c.in-Err.ensures.selects c.stopped.ensures)
 
 pub returns-in-Err-prepare-clause-did : goal.returns-in-Err-prepare-clause-did
 returns-in-Err-prepare-clause-did g c =
-    did_asked (world_of g.W.Tree g.W.Launcher g.W.World) g.R.Keeping _ _ _ _ _ _ _
+    did_asked (world_of g.W.Tree g.W.Launcher g.W.World) g.R.StoreSpec _ _ _ _ _ _ _
     (short_only (world_of g.W.Tree g.W.Launcher g.W.World) (command.Test c.args.options.now c.args.file.now) c.args.options.now _ _ _ _ _ _ c.in-Ok.picked
     c.as_slice-cases.result.now refl c.in-Ok.ensures.selects (search rules) c.in-Err-prepare.ensures.planned
     (printed_as _ _ _ _ _ _ _ c.write_memory.ensures refl c.ended.ensures))
@@ -23,5 +23,5 @@ run_plan-requires-clause-idle g c =
 
 pub returns-clause-did : goal.returns-clause-did
 returns-clause-did g c =
-    did_test (world_of g.W.Tree g.W.Launcher g.W.World) g.R.Keeping _ _ c.args.options.now c.args.file.now _ _ _ c.in-Ok.picked c.as_slice-cases.result.now
+    did_test (world_of g.W.Tree g.W.Launcher g.W.World) g.R.StoreSpec _ _ c.args.options.now c.args.file.now _ _ _ c.in-Ok.picked c.as_slice-cases.result.now
     c.in-Ok-prepare.plan _ _ c.in-Ok.ensures.selects (search rules) c.in-Ok-prepare.ensures.planned c.now-moment.ensures.reply c.run_plan.ensures.ran

@@ -1,11 +1,11 @@
 use Rattle.std.proofs.Common.{◌≡◌, ◌∙◌, List, [], ◌∷◌, ap, subst, refl}
 use Rattle.kt_cli.proofs.Common.{Chain, ChildrenState, idle_state, Question, OfTree, OfHost, leads_by, HostWorld, IsHostAnswer, IsLook, host_world, look_kept, running_kept, Course, Seen}
 use Rattle.kt_cli.proofs.Refusing.{none_asked}
-use Rattle.kt_child.specs.Driving.Board.{board_of}
+use Rattle.kt_child.specs.Driving.DriverState.{driver_state_of}
 use Rattle.kt_child.specs.Driving.Runs.{RunsFrom}
 use Rattle.kt_child.proofs.TraceRuns.{ends_follow}
 use Rattle.kt_child.specs.declared.system.os.Os as system
-use Rattle.kt_cli.specs.declared.host.machine.Machine as machine
+use Rattle.kt_cli.specs.declared.host.host_files.HostFiles as machine
 use Rattle.kt_cli.proofs.host.host_execution.execute_over_cases.Goals as goal
 
 module _ {M O : Type 0} (m : machine.Ghosts M) (o : system.Ghosts O) where
@@ -17,10 +17,10 @@ module _ {M O : Type 0} (m : machine.Ghosts M) (o : system.Ghosts O) where
 
   -- from a driver without running children, each end in the trace is that of a child
   courses_by_trace : (seen : Seen) (old new : HostWorld M O) (course : Course (host_world m o) seen old new) → old.driver.running ≡ idle_state
-      → RunsFrom o.leads seen.plan seen.trace (board_of idle_state course.begun.driver.next) course.begun.driver new.driver
+      → RunsFrom o.leads seen.plan seen.trace (driver_state_of idle_state course.begun.driver.next) course.begun.driver new.driver
   courses_by_trace seen old new course none =
       let d = course.begun.driver in
-      let P : ChildrenState → Type 0 = λ b. RunsFrom o.leads seen.plan seen.trace (board_of b d.next) d new.driver in
+      let P : ChildrenState → Type 0 = λ b. RunsFrom o.leads seen.plan seen.trace (driver_state_of b d.next) d new.driver in
       subst P (all_running_kept seen.questions old course.begun course.asked ∙ none)
       (ends_follow o.leads (λ (w : HostWorld M O). w.driver) _ _ (λ d e job role answer h. h.0) (λ d e ended h. h.0) seen.plan seen.trace course.begun new course.ran)
 
@@ -39,7 +39,7 @@ returns-clause-did g c =
       directory = c.in-Ok.ensures.directory;
       around_it = refl;
       did = did;
-      by_trace = courses_by_trace g.M.Machine g.O.Os did.seen _ _ did.course c.in-Ok-driver_of.ensures.made.none_runs;
+      by_trace = courses_by_trace g.M.HostFiles g.O.Os did.seen _ _ did.course c.in-Ok-driver_of.ensures.made.none_runs;
       left = refl;
       closed = c.close-os.ensures;
     }

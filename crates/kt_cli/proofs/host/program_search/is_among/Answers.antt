@@ -5,13 +5,13 @@ use Rattle.kt_cli.proofs.host.program_search.is_among.Goals as goal
 pub returns-then-is_in : goal.returns-then-is_in
 returns-then-is_in g c =
     let at = c.in-Some.ensures.byte (omega arith) (λ w o f. f) in
-    c.loop-directory.invariant.0 true _ (goes_here g.M.Machine.answers c.args.name.now c.loop-directory.rest.now c.in-Some.directory.now _ _ at.2 at.0 c.if-is_in.ensures)
+    c.loop-directory.invariant.0 true _ (goes_here g.M.HostFiles.answers c.args.name.now c.loop-directory.rest.now c.in-Some.directory.now _ _ at.2 at.0 c.if-is_in.ensures)
 
 pub loop-directory-preserved : goal.loop-directory-preserved
 loop-directory-preserved g c =
     let at = c.in-Some.ensures.byte (omega arith) (λ w o f. f) in
     let parts = c.in-Some.ensures.cases in (
-      goes_on g.M.Machine.answers c.args.name.now c.args.among.now c.loop-directory.rest.now c.in-Some.directory.now c.in-Some.behind.now c.args.machine.now c.loop-directory.machine c.is_in.new.machine
+      goes_on g.M.HostFiles.answers c.args.name.now c.args.among.now c.loop-directory.rest.now c.in-Some.directory.now c.in-Some.behind.now c.args.machine.now c.loop-directory.machine c.is_in.new.machine
           at.2 at.0 at.1 c.if-is_in.ensures c.loop-directory.invariant.0,
       behind_text c.loop-directory.rest.now c.in-Some.behind.now parts.0 parts.1 c.loop-directory.invariant.1 parts.2 parts.4,
     )
@@ -19,4 +19,4 @@ loop-directory-preserved g c =
 pub returns : goal.returns
 returns g c =
     c.loop-directory.invariant.0 c.is_in-2.result c.is_in-2.new.machine
-    (goes_last g.M.Machine.answers c.args.name.now c.loop-directory.rest.now c.is_in-2.result _ _ (c.in_default.ensures.byte (omega arith) (λ w o f. f)) c.is_in-2.ensures)
+    (goes_last g.M.HostFiles.answers c.args.name.now c.loop-directory.rest.now c.is_in-2.result _ _ (c.in_default.ensures.byte (omega arith) (λ w o f. f)) c.is_in-2.ensures)

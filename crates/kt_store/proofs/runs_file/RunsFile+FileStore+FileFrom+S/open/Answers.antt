@@ -6,7 +6,7 @@ use Rattle.kt_store.proofs.runs_file.RunsFile+FileStore+FileFrom+S.open.Goals as
 -- what is assumed of the first contents is assumed of the files
 pub over_files-requires-clause-held : goal.over_files-requires-clause-held
 over_files-requires-clause-held g c =
-    subst IsOfRuns (sym (as_found g.S.Start.log g.S.Start.db c.in_ok-files.ensures.fresh)) g.met.S.Supposed.holds
+    subst IsOfRuns (sym (as_found g.S.Start.log g.S.Start.db c.in_ok-files.ensures.fresh)) g.met.S.TrustedContents.holds
 
 pub returns-clause-opened : goal.returns-clause-opened
 returns-clause-opened g c =

@@ -1,11 +1,11 @@
 use Rattle.std.proofs.Common.{◌≡◌, ◌∙◌, ℕ, List, refl, subst, ap}
-use Rattle.kt_child.proofs.Common.{Chain, ChildrenState, Job, Case, Spawning, Call, Begun, state_after_start, job_purpose, limit_of, case_of, spawning_for, spawning_of, want_of, shown_in, spawned}
+use Rattle.kt_child.proofs.Common.{Chain, ChildrenState, Job, CaseAttempt, Spawning, Call, Begun, state_after_start, job_purpose, limit_of, case_of, spawning_for, spawning_of, want_of, shown_in, spawned}
 use Rattle.kt_child.specs.declared.planning.Want.{Want}
 use Rattle.kt_child.proofs.StateWaits.{shown_started}
 use Rattle.kt_child.proofs.driving.driver.Driver.begin.Goals as goal
 
 -- The plan with this purpose and timeout is the plan of the job's child.
-planned : (source : List ℕ) (job : Job) (c : Case) (want : Want) (limit : ℕ) → want ≡ want_of c.role → limit ≡ limit_of job c.role
+planned : (source : List ℕ) (job : Job) (c : CaseAttempt) (want : Want) (limit : ℕ) → want ≡ want_of c.role → limit ≡ limit_of job c.role
     → spawning_for source (record (job_purpose job c.role) { want = want; limit = limit }) c ≡ spawning_of source job c
 planned source job c want limit e f = rw (e, f) refl
 

@@ -1,5 +1,5 @@
 use Rattle.std.proofs.Common.{◌≡◌, ℕ, ◌∙◌, List, ap, arith, inr}
-use Rattle.kt_child.proofs.Common.{Body, Case, Paths, cases_of, count_at, case_of, is_among, paths_of}
+use Rattle.kt_child.proofs.Common.{Body, CaseAttempt, Paths, cases_of, count_at, case_of, is_among, paths_of}
 use Rattle.kt_child.proofs.BoardSteps.{board_started}
 use Rattle.kt_child.proofs.CaseCounts.{none_among, none_shown}
 use Rattle.kt_child.proofs.driving.driver.Driver.start_body.Goals as goal
@@ -29,5 +29,5 @@ returns-in-Ok g c =
       );
       moment = c.begin.ensures.moment;
       running = c.begin.ensures.running;
-      pending = λ j. ap (λ (cases : List Case). is_among cases j) after.1;
+      pending = λ j. ap (λ (cases : List CaseAttempt). is_among cases j) after.1;
     }

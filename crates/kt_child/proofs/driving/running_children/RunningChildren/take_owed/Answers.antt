@@ -1,5 +1,5 @@
 use Rattle.std.proofs.Common.{◌≡◌, ◌∙◌, ◌<◌, List, slice_get, Some, ap, sym, arith, length}
-use Rattle.kt_child.proofs.Common.{slice_get-get_or, Case, ChildrenState, cases_of}
+use Rattle.kt_child.proofs.Common.{slice_get-get_or, CaseAttempt, ChildrenState, cases_of}
 use Rattle.kt_child.proofs.StateWaits.{free_taken, state_taken}
 use Rattle.kt_child.proofs.OwedCases.{among_remove}
 use Rattle.kt_child.proofs.driving.running_children.RunningChildren.take_owed.Goals as goal
@@ -23,7 +23,7 @@ invariant_of-self c = (
 
 pub returns-clause-taken : goal.returns-clause-taken
 returns-clause-taken c =
-    let F : List Case → ChildrenState = λ t. record { children = c.self.inside.children.items; pending = t } in
+    let F : List CaseAttempt → ChildrenState = λ t. record { children = c.self.inside.children.items; pending = t } in
     rw (← c.self.view_is) (c.place_of-place.result, at c, ap F c.remove.ensures.items)
 
 pub returns-clause-position : goal.returns-clause-position

@@ -46,23 +46,23 @@ old g c = record { children = c.self.inside.children.items; pending = c.self.ins
 abbrev new : (g : _) → goal.After-forget g → ChildrenState
 new g c = record { children = c.forget.new.children.items; pending = c.forget.new.pending.items }
 
-waited : (g : _) (c : goal.After-forget g) → (calls : List Call) × Chain g.O.Os.leads c.args.os.now calls c.leave-ended.new.os × ((w : Left (old g c) calls c.leave-ended.result (new g c)) × (w.over ≡ c.index.result.now))
+waited : (g : _) (c : goal.After-forget g) → (calls : List Call) × Chain g.O.Os.leads c.args.os.now calls c.finish_child-ended.new.os × ((w : Left (old g c) calls c.finish_child-ended.result (new g c)) × (w.over ≡ c.index.result.now))
 waited g c =
-    waited_all g.O.Os.leads c.args.os.now c.first_over-first.new.os c.leave-ended.new.os (old g c) (new g c) c.deref_mut.result.now c.first_over-first.new.children
-    c.first_over-first.result.place c.first_over-first.result.outcome c.index.result.now c.leave-ended.result
-    c.first_over-first.ensures.waited c.leave-ended.ensures.left c.deref_mut.ensures.value (at g c) (still g c) (owed g c)
+    waited_all g.O.Os.leads c.args.os.now c.first_over-first.new.os c.finish_child-ended.new.os (old g c) (new g c) c.deref_mut.result.now c.first_over-first.new.children
+    c.first_over-first.result.place c.first_over-first.result.outcome c.index.result.now c.finish_child-ended.result
+    c.first_over-first.ensures.waited c.finish_child-ended.ensures.left c.deref_mut.ensures.value (at g c) (still g c) (owed g c)
 
 pub returns-clause-waited : goal.returns-clause-waited
 returns-clause-waited g c =
-    let e = c.leave-ended.result in
+    let e = c.finish_child-ended.result in
     let w = waited g c in
     rw (← c.self.view_is) (w.0, w.1, waited_ends (old g c) (new g c) w.0 e c.self.invariant.0.on w.2.0)
 
 pub returns-clause-one_that_ran : goal.returns-clause-one_that_ran
 returns-clause-one_that_ran g c =
-    let e = c.leave-ended.result in
+    let e = c.finish_child-ended.result in
     let w = waited g c in
-    rw (← c.self.view_is) (waited_one (old g c) (new g c) w.0 e c.self.invariant.0.once w.2.0 (rw w.2.1 c.leave-ended.ensures.evidence))
+    rw (← c.self.view_is) (waited_one (old g c) (new g c) w.0 e c.self.invariant.0.once w.2.0 (rw w.2.1 c.finish_child-ended.ensures.evidence))
 
 pub returns-clause-running : goal.returns-clause-running
 returns-clause-running g c = rw (← c.self.view_is) (waited_running _ _ _ _ c.self.invariant.0.once (waited g c).2.0)

@@ -1,0 +1,28 @@
+-- Results of the private functions that read a command line.
+use Rattle.std.specs.Prelude.{◌≡◌, ◌==◌, ⊤, ℕ, Bool, not, List, Option, Some, None, Result, Ok, Err}
+use Rattle.kt_base.specs.declared.verdict.Kind.{Kind}
+use Rattle.kt_args.specs.declared.command_fault.CommandFault.{CommandFault}
+use Rattle.kt_args.specs.declared.command_fault.CommandFault.TheVariants as fault
+
+-- `is_inside c`: `c` is not a comma.
+abbrev pub is_inside : ℕ → Bool
+is_inside c = not (c == 44)
+
+-- `ReadsRun right result`: `result` is the run `right`, or `BadRun` if `right` is `None`.
+abbrev pub ReadsRun : Option (Option ℕ) → Result (Option ℕ) CommandFault → Type 0
+ReadsRun right (Ok run') = right ≡ Some run'
+ReadsRun right (Err fault.BadRun) = right ≡ None
+ReadsRun right other = ⊥
+
+-- `ReadsKinds right result`: `result` is `right`, or `BadKind` if `right` is `None`. Memory may run
+-- out.
+abbrev pub ReadsKinds : Option (List Kind) → Result (List Kind) CommandFault → Type 0
+ReadsKinds right (Ok kinds) = right ≡ Some kinds
+ReadsKinds right (Err fault.BadKind) = right ≡ None
+ReadsKinds right (Err (fault.NoMemory shortage)) = ⊤
+ReadsKinds right (Err other) = ⊥
+
+-- `Answers right result`: `result` is `right`, unless memory ran out.
+abbrev pub Answers : {A : Type 0} → Result A CommandFault → Result A CommandFault → Type 0
+Answers right (Err (fault.NoMemory shortage)) = ⊤
+Answers right result = right ≡ result

@@ -1,0 +1,125 @@
+-- Commands, by the values that `clap` finds on a command line. A row has the values of one option.
+use Rattle.std.specs.Prelude.{◌≡◌, ◌≢◌, ⊤, ℕ, Bool, false, List, [], Option, Some, None, Result, Ok, Err, map, unwrap_or, option_map, bytes_eq, codes, if◌then◌else◌}
+use Rattle.std.specs.Str.{chars}
+use Rattle.clap.specs.Words.{Row, Text, all_of, fault_of, first_of, matches_of, subcommand_of}
+use Rattle.kt_base.specs.declared.verdict.Kind.{Kind}
+use Rattle.kt_args.specs.declared.options.CaseOptions.{CaseOptions}
+use Rattle.kt_args.specs.declared.command.Command.{Command}
+use Rattle.kt_args.specs.declared.command.Command.TheVariants as command
+use Rattle.kt_args.specs.declared.command_fault.CommandFault.{CommandFault}
+use Rattle.kt_args.specs.declared.command_fault.CommandFault.TheVariants as fault
+use Rattle.kt_args.specs.declared.options.ReportOptions.{ReportOptions}
+use Rattle.kt_args.specs.Words.{comma_words, default_kinds, kinds_named, run_named}
+use Rattle.kt_args.specs.Grammar.{kyua_app}
+
+-- ---- values by the names of their options
+
+-- `text_given id rows`: the first value of option `id` in `rows`, if any.
+abbrev pub text_given : Text → List Row → Option (List ℕ)
+text_given id rows = option_map chars (first_of id rows)
+
+-- `text_or instead id rows`: the first value of option `id` in `rows`, else `instead`.
+abbrev pub text_or : Text → Text → List Row → List ℕ
+text_or instead id rows = chars (unwrap_or (first_of id rows) instead)
+
+-- `texts_given id rows`: all values of option `id` in `rows`, in order.
+abbrev pub texts_given : Text → List Row → List (List ℕ)
+texts_given id rows = map chars (unwrap_or (all_of id rows) [])
+
+-- `is_true value`: `value` is the text `true`.
+abbrev pub is_true : Option Text → Bool
+is_true None = false
+is_true (Some word) = bytes_eq word (codes "true")
+
+-- `results_in rows`: the path of the results file in `rows`, else the default.
+abbrev pub results_in : List Row → List ℕ
+results_in rows = text_or (codes "kyua.db") (codes "results") rows
+
+-- `run_of value`: without `value` no run, else the run number that `value` spells, if any.
+abbrev pub run_of : Option Text → Option (Option ℕ)
+run_of None = Some None
+run_of (Some word) = option_map Some (run_named word)
+
+-- `kinds_of value`: without `value` the default kinds, else the kinds that `value` names, if it is
+-- a filter.
+abbrev pub kinds_of : Option Text → Option (List Kind)
+kinds_of None = Some default_kinds
+kinds_of (Some word) = kinds_named (comma_words word)
+
+-- ---- commands
+
+-- `options_in before own`: the options of a command over test cases, with `before` the values
+-- before its name and `own` those after it.
+abbrev pub options_in : List Row → List Row → CaseOptions
+options_in before own = record {
+  config = text_given (codes "config") before;
+  variables = texts_given (codes "variables") before;
+  kyuafile = text_or (codes "Kyuafile") (codes "kyuafile") own;
+  work = text_or (codes "/tmp") (codes "work") own;
+  filters = texts_given (codes "filters") own;
+}
+
+-- `report_options before own run'`: the options of a report of `run'`, with `before` the values
+-- before its name and `own` those after it.
+abbrev pub report_options : List Row → List Row → Option ℕ → ReportOptions
+report_options before own run' = record {
+  config = text_given (codes "config") before;
+  variables = texts_given (codes "variables") before;
+  results = results_in own;
+  run = run';
+}
+
+-- `report_with before own kinds run'`: the result of `report`. A wrong filter is rejected before a
+-- wrong run number.
+abbrev pub report_with : List Row → List Row → Option (List Kind) → Option (Option ℕ) → Result Command CommandFault
+report_with before own None run' = Err fault.BadKind
+report_with before own (Some kinds) None = Err fault.BadRun
+report_with before own (Some kinds) (Some run') =
+    Ok (command.Report (report_options before own run') kinds (is_true (first_of (codes "verbose") own)))
+
+-- `junit_with before own run'`: the result of `report-junit`. A wrong run number is rejected.
+abbrev pub junit_with : List Row → List Row → Option (Option ℕ) → Result Command CommandFault
+junit_with before own None = Err fault.BadRun
+junit_with before own (Some run') = Ok (command.ReportJunit (report_options before own run'))
+
+-- `report_in before own`: the result of `report` with the values `before` and `own`.
+abbrev pub report_in : List Row → List Row → Result Command CommandFault
+report_in before own = report_with before own (kinds_of (first_of (codes "kinds") own)) (run_of (first_of (codes "run") own))
+
+-- `junit_in before own`: the result of `report-junit` with the values `before` and `own`.
+abbrev pub junit_in : List Row → List Row → Result Command CommandFault
+junit_in before own = junit_with before own (run_of (first_of (codes "run") own))
+
+-- `command_named before name own`: the command `name`, with `before` the values before it and `own`
+-- those after it.
+abbrev pub command_named : List Row → Text → List Row → Result Command CommandFault
+command_named before name own =
+    if bytes_eq name (codes "list") then Ok (command.List (options_in before own))
+    else if bytes_eq name (codes "test") then Ok (command.Test (options_in before own) (results_in own))
+    else if bytes_eq name (codes "debug") then Ok (command.Debug (options_in before own))
+    else if bytes_eq name (codes "report") then report_in before own
+    else if bytes_eq name (codes "report-junit") then junit_in before own
+    else Err (fault.Usage [])
+
+-- `command_in before entered`: the command `entered`, a name with its values, or a usage fault
+-- without it.
+abbrev pub command_in : List Row → Option (Text × List Row) → Result Command CommandFault
+command_in before None = Err (fault.Usage [])
+command_in before (Some entered) = command_named before entered.0 entered.1
+
+-- ---- results
+
+-- `Reads words result`: `result` is the parse of the arguments `words`. It is `Usage` if `clap`
+-- rejects them, else the command of the values that `clap` finds, or its fault. `NoMemory` is
+-- always possible.
+abbrev pub Reads : List Text → Result Command CommandFault → Type 0
+Reads words (Err (fault.NoMemory shortage)) = ⊤
+Reads words (Err (fault.Usage message)) = fault_of kyua_app words ≢ []
+Reads words result =
+    (fault_of kyua_app words ≡ []) × (result ≡ command_in (matches_of kyua_app words) (subcommand_of kyua_app words))
+
+-- `RefusesWords short fault`: `fault` is `Usage` or `NoMemory`, and is `NoMemory` if `short` holds.
+abbrev pub RefusesWords : Type 0 → CommandFault → Type 0
+RefusesWords short (fault.NoMemory shortage) = ⊤
+RefusesWords short (fault.Usage message) = short → ⊥
+RefusesWords short other = ⊥

@@ -1,0 +1,80 @@
+ghost use Rattle.std.specs.Prelude.{◌≡◌, chars};
+ghost use Rattle.clap.specs.Words.{kind_of};
+ghost use Rattle.clap.specs.declared.error.kind.ErrorKind.TheVariants.{OutOfMemory};
+ghost use Rattle.kt_args.specs.FaultWords.{command_words};
+ghost use Rattle.kt_args.specs.Reading.{RefusesWords};
+ghost use Rattle.kt_args.specs.declared.command_fault.CommandFault.TheVariants as fault;
+
+use clap::error::ErrorKind;
+use kt_base::{NoMemory, OUT_OF_MEMORY, Text};
+use std::alloc::Global;
+use thiserror::Error;
+
+/// A failed allocation while arguments were parsed.
+///
+/// Only a failed allocation, here or in `clap`, creates this value.
+#[derive(Clone, Copy, Debug)]
+pub struct ParserOutOfMemory {
+    refusal: RefusedAllocation,
+}
+
+/// A private type, so that no other module can construct a `ParserOutOfMemory`.
+#[derive(Clone, Copy, Debug)]
+struct RefusedAllocation;
+
+/// Errors returned by [`read_command`](crate::read_command) and [`read_words`](crate::read_words).
+#[derive(Debug, Drop, Error)]
+#[error("{}", self.words())]
+pub enum CommandFault {
+    /// An allocation failed.
+    NoMemory(ParserOutOfMemory),
+    /// The arguments are not a command line, or `--help` is given. The text is `clap`'s message or
+    /// help.
+    Usage(Text),
+    /// An element of a results filter is not `passed`, `skipped`, `xfail`, `broken` or `failed`.
+    BadKind,
+    /// The run number is not decimal digits of 1 to 1,000,000.
+    BadRun,
+}
+
+impl From<NoMemory> for CommandFault {
+    ghost from_gives = { λ _ e. e ≡ fault.NoMemory (record { refusal = record {} }) };
+
+    fn from(_refusal: NoMemory) -> CommandFault {
+        CommandFault::NoMemory(ParserOutOfMemory {
+            refusal: RefusedAllocation,
+        })
+    }
+}
+
+impl CommandFault {
+    /// Returns the text of the error line (this profile), or the whole message of `clap`.
+    ///
+    /// `Display` prints the same text.
+    #[tactic(auto, unfolding(crate::proofs::Common::chars))]
+    pub fn words(&self) -> &str
+        ensures { chars result.now ≡ command_words self.now }
+    {
+        match self {
+            CommandFault::NoMemory(_) => OUT_OF_MEMORY,
+            CommandFault::Usage(text) => text.as_str(),
+            CommandFault::BadKind => "bad results filter",
+            CommandFault::BadRun => "bad run number",
+        }
+    }
+
+    /// Converts an error of `clap` to `Usage` with its message, or to `NoMemory` if memory ran out.
+    pub(crate) fn of_words(alloc: Global, error: clap::Error) -> CommandFault
+        ensures { RefusesWords (kind_of error ≡ OutOfMemory) result }
+    {
+        if error.kind() == ErrorKind::OutOfMemory {
+            return CommandFault::NoMemory(ParserOutOfMemory {
+                refusal: RefusedAllocation,
+            });
+        }
+        match error.to_string(alloc) {
+            Ok(text) => CommandFault::Usage(Text::from_string(text)),
+            Err(refusal) => CommandFault::from(NoMemory::from(refusal)),
+        }
+    }
+}

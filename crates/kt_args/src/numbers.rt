@@ -1,0 +1,31 @@
+ghost use Rattle.std.specs.Prelude.{◌≡◌};
+ghost use Rattle.kt_args.specs.Common.{is_number, from_one, run_named};
+
+use kt_base::{decimal_up_to, is_digit};
+
+/// The greatest run number.
+const LAST_RUN: u64 = 1_000_000;
+
+/// Returns `true` if `word` is one or more decimal digits.
+fn is_number(word: &[u8]) -> bool
+    ensures { result ≡ is_number word.now }
+{
+    !word.is_empty() && word.iter().all(|c| is_digit(*c))
+}
+
+/// Returns `number` unless it is 0.
+fn from_one(number: u64) -> Option<u64>
+    ensures { result ≡ from_one number }
+{
+    if number == 0 { None } else { Some(number) }
+}
+
+/// Parses a run number, or returns `None` if `word` is not decimal digits of 1 to 1,000,000.
+pub fn run_number(word: &[u8]) -> Option<u64>
+    ensures { result ≡ run_named word.now }
+{
+    if !is_number(word) {
+        return None;
+    }
+    from_one(decimal_up_to(LAST_RUN, word)?)
+}

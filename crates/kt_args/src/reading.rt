@@ -1,0 +1,371 @@
+ghost use Rattle.std.specs.Prelude.{◌≡◌, drop, map, chars, codes, option_map, IfOk, IfErr, IsErrAnd};
+ghost use Rattle.kt_args.specs.Common.{string_bytes, into_iter_items, all_of, first_of, found_of, rows_of, subcommand_rows_of, error_kind, OutOfMemory, HasRunNumber, Reads, RefusesWords, command_in, command_named, is_true, junit_in, kinds_of, options_in, report_in, report_options, results_in, run_of, text_given, text_or, texts_given, Answers, ReadsRun, ReadsKinds};
+
+use crate::arguments::{KYUAFILE, RESULTS, WORK, all_words};
+use crate::filter::{default_kinds, kinds_in};
+use crate::numbers::run_number;
+use crate::{CaseOptions, Command, CommandFault, ReportOptions};
+use clap::ArgMatches;
+use clap::error::ErrorKind;
+use kt_base::{Items, Kind, NoMemory, Text};
+use std::alloc::Global;
+use std::env::Args;
+use std::io;
+
+/// The message for arguments that are not UTF-8, as `clap` prints it.
+const UNREADABLE: &str = "invalid UTF-8 was detected in one or more arguments";
+
+/// Returns the first value of the option `name`, if it has any.
+fn word_of<'a>(matches: &ArgMatches<'a>, name: &str) -> Option<&'a str>
+    ensures { option_map (λ word. word.now) result ≡ first_of name.now (rows_of (found_of matches.now)) }
+{
+    matches.get_str(name)
+}
+
+/// Returns all values of the option or argument `name`, or `None` if it has no entry.
+fn words_of<'b, 'a>(matches: &'b ArgMatches<'a>, name: &str) -> Option<&'b [&'a str]>
+    ensures { option_map (λ words. map (λ word. word.now) words.now) result
+        ≡ all_of name.now (rows_of (found_of matches.now)) }
+{
+    matches.get_strs(name)
+}
+
+/// Returns a copy of the value of the option `name`, or of `instead` if it has no value.
+///
+/// `clap` has the same default: it prints the default in its help, and fills it in. That `clap`
+/// fills it in for each option is not proved, so this function applies the default too.
+fn text_or<'a>(
+    alloc: Global,
+    matches: &ArgMatches<'a>,
+    name: &str,
+    instead: &str,
+) -> Result<Text, NoMemory>
+    ensures { IfOk result (λ text.
+        text ≡ text_or instead.now name.now (rows_of (found_of matches.now))) }
+{
+    match word_of(matches, name) {
+        None => Text::from_str(alloc, instead),
+        Some(word) => Text::from_str(alloc, word),
+    }
+}
+
+/// Returns a copy of the value of the option `name`, if it has any.
+fn text_given<'a>(
+    alloc: Global,
+    matches: &ArgMatches<'a>,
+    name: &str,
+) -> Result<Option<Text>, NoMemory>
+    ensures { IfOk result (λ text. text ≡ text_given name.now (rows_of (found_of matches.now))) }
+{
+    match word_of(matches, name) {
+        None => Ok(None),
+        Some(word) => Ok(Some(Text::from_str(alloc, word)?)),
+    }
+}
+
+/// Copies each argument into a `Text`, in order.
+fn texts(alloc: Global, words: &[&str]) -> Result<Items<Text>, NoMemory>
+    ensures { IfOk result (λ texts. texts ≡ map (λ word. chars word.now) words.now) }
+{
+    let mut texts = Items::new(alloc);
+    for word in words {
+        texts.push(Text::from_str(alloc, word)?)?;
+    }
+    Ok(texts)
+}
+
+/// Returns copies of all values of the repeatable option or argument `name`, in order.
+fn texts_given<'a>(
+    alloc: Global,
+    matches: &ArgMatches<'a>,
+    name: &str,
+) -> Result<Items<Text>, NoMemory>
+    ensures { IfOk result (λ texts. texts ≡ texts_given name.now (rows_of (found_of matches.now))) }
+{
+    match words_of(matches, name) {
+        None => Ok(Items::new(alloc)),
+        Some(words) => texts(alloc, words),
+    }
+}
+
+/// Parses the run number of `--run`, or returns `None` if the option is not given.
+///
+/// Fails with `BadRun` if the value is not a run number.
+fn run_of<'a>(matches: &ArgMatches<'a>) -> Result<Option<u64>, CommandFault>
+    ensures { ReadsRun (run_of (first_of (codes "run") (rows_of (found_of matches.now)))) result }
+{
+    let Some(word) = word_of(matches, "run") else {
+        return Ok(None);
+    };
+    match run_number(word.as_bytes()) {
+        Some(number) => Ok(Some(number)),
+        None => Err(CommandFault::BadRun),
+    }
+}
+
+/// Returns the result kinds that `--results-filter` names, or the default kinds without the option.
+///
+/// Fails with `BadKind` if an element does not name a kind.
+fn kinds_of<'a>(alloc: Global, matches: &ArgMatches<'a>) -> Result<Items<Kind>, CommandFault>
+    ensures { ReadsKinds (kinds_of (first_of (codes "kinds") (rows_of (found_of matches.now)))) result }
+{
+    match word_of(matches, "kinds") {
+        Some(words) => {
+            let kinds = kinds_in(alloc, words.as_bytes())?;
+            Ok(kinds)
+        }
+        None => Ok(default_kinds(alloc)?),
+    }
+}
+
+/// Returns `true` if `--verbose` is given.
+fn is_verbose<'a>(matches: &ArgMatches<'a>) -> bool
+    ensures { result ≡ is_true (first_of (codes "verbose") (rows_of (found_of matches.now))) }
+{
+    match word_of(matches, "verbose") {
+        None => false,
+        Some(word) => word == "true",
+    }
+}
+
+/// Returns the options of `list`, `test` or `debug`.
+///
+/// `before` has the options before the command (`-c` and `-v`), `own` those after it.
+fn case_options<'a>(
+    alloc: Global,
+    before: &ArgMatches<'a>,
+    own: &ArgMatches<'a>,
+) -> Result<CaseOptions, NoMemory>
+    ensures { IfOk result (λ options.
+        options ≡ options_in (rows_of (found_of before.now)) (rows_of (found_of own.now))) }
+{
+    let config = text_given(alloc, before, "config")?;
+    let variables = texts_given(alloc, before, "variables")?;
+    let kyuafile = text_or(alloc, own, "kyuafile", KYUAFILE)?;
+    let work = text_or(alloc, own, "work", WORK)?;
+    let filters = texts_given(alloc, own, "filters")?;
+    Ok(CaseOptions {
+        config,
+        variables,
+        kyuafile,
+        work,
+        filters,
+    })
+}
+
+/// Returns the path of the results file (`-r`), or its default.
+fn results_of<'a>(alloc: Global, own: &ArgMatches<'a>) -> Result<Text, NoMemory>
+    ensures { IfOk result (λ text. text ≡ results_in (rows_of (found_of own.now))) }
+{
+    text_or(alloc, own, "results", RESULTS)
+}
+
+/// Returns the options of `report` or `report-junit`, with the run number `run`.
+///
+/// `before` has the options before the command (`-c` and `-v`), `own` those after it.
+fn report_options<'a>(
+    alloc: Global,
+    before: &ArgMatches<'a>,
+    own: &ArgMatches<'a>,
+    run: Option<u64>,
+) -> Result<ReportOptions, NoMemory>
+    ensures { IfOk result (λ options.
+        options ≡ report_options (rows_of (found_of before.now)) (rows_of (found_of own.now)) run) }
+{
+    let config = text_given(alloc, before, "config")?;
+    let variables = texts_given(alloc, before, "variables")?;
+    let results = results_of(alloc, own)?;
+    Ok(ReportOptions {
+        config,
+        variables,
+        results,
+        run,
+    })
+}
+
+/// Returns the command `report` with the values of its options.
+///
+/// A wrong results filter is reported before a wrong run number.
+fn read_report<'a>(
+    alloc: Global,
+    before: &ArgMatches<'a>,
+    own: &ArgMatches<'a>,
+) -> Result<Command, CommandFault>
+    ensures { Answers (report_in (rows_of (found_of before.now)) (rows_of (found_of own.now)))
+        result }
+{
+    let kinds = kinds_of(alloc, own)?;
+    let run = run_of(own)?;
+    let options = report_options(alloc, before, own, run)?;
+    Ok(Command::Report {
+        options,
+        kinds,
+        verbose: is_verbose(own),
+    })
+}
+
+/// Returns the command `report-junit` with the values of its options.
+fn read_junit<'a>(
+    alloc: Global,
+    before: &ArgMatches<'a>,
+    own: &ArgMatches<'a>,
+) -> Result<Command, CommandFault>
+    ensures { Answers (junit_in (rows_of (found_of before.now)) (rows_of (found_of own.now)))
+        result }
+{
+    let run = run_of(own)?;
+    let options = report_options(alloc, before, own, run)?;
+    Ok(Command::ReportJunit(options))
+}
+
+/// Returns the command `name` with the values of its options.
+///
+/// Fails with `Usage` if `name` is not a command.
+fn read_named<'a>(
+    alloc: Global,
+    before: &ArgMatches<'a>,
+    name: &str,
+    own: &ArgMatches<'a>,
+) -> Result<Command, CommandFault>
+    ensures { Answers (command_named (rows_of (found_of before.now)) name.now
+        (rows_of (found_of own.now))) result }
+{
+    if name == "list" {
+        let options = case_options(alloc, before, own)?;
+        return Ok(Command::List(options));
+    }
+    if name == "test" {
+        let options = case_options(alloc, before, own)?;
+        let results = results_of(alloc, own)?;
+        return Ok(Command::Test { options, results });
+    }
+    if name == "debug" {
+        let options = case_options(alloc, before, own)?;
+        return Ok(Command::Debug(options));
+    }
+    if name == "report" {
+        return read_report(alloc, before, own);
+    }
+    if name == "report-junit" {
+        return read_junit(alloc, before, own);
+    }
+    Err(CommandFault::Usage(Text::new(alloc)))
+}
+
+/// Returns the command name that `clap` found, with the values after the name, if there is any.
+fn entered_in<'b, 'a>(matches: &'b ArgMatches<'a>) -> Option<(&'a str, &'b ArgMatches<'a>)>
+    ensures { option_map (λ entered. (entered.0.now, rows_of (found_of entered.1.now))) result
+        ≡ subcommand_rows_of matches.now }
+{
+    matches.subcommand()
+}
+
+/// Returns the command that `clap` found, with the values of its options.
+///
+/// Fails with `Usage` if there is no command.
+fn read_matches<'a>(alloc: Global, matches: &ArgMatches<'a>) -> Result<Command, CommandFault>
+    ensures { Answers (command_in (rows_of (found_of matches.now))
+        (subcommand_rows_of matches.now)) result }
+{
+    match entered_in(matches) {
+        None => Err(CommandFault::Usage(Text::new(alloc))),
+        Some((name, own)) => read_named(alloc, matches, name, own),
+    }
+}
+
+/// Parses the arguments after the program's own name as a command of kyua(1).
+///
+/// Values are not interpreted here, not even empty ones: the command parses its variables, filters
+/// and paths when it runs. A missing option gets its default (this profile). A report without
+/// `--run` has no run number, because the last run is known only when the results file is open.
+///
+/// # Errors
+///
+/// `Usage` is checked first, then `BadKind`, then `BadRun`.
+///
+/// - `Usage`: the arguments are not a command line of kyua(1), or `--help` is given.
+/// - `BadKind`: an element of the results filter is not `passed`, `skipped`, `xfail`, `broken` or
+///   `failed`.
+/// - `BadRun`: the run number is not decimal digits of 1 to 1,000,000.
+/// - `NoMemory`: an allocation fails.
+pub fn read_command<'a>(alloc: Global, words: &'a [String]) -> Result<Command, CommandFault>
+    ensures value { Reads (map (λ word. string_bytes word) words.entry.now) result }
+    ensures range { IfOk result HasRunNumber }
+{
+    let line = all_words(alloc)?;
+    match line.try_get_matches_from(words) {
+        Ok(matches) => read_matches(alloc, &matches),
+        Err(error) => Err(CommandFault::of_words(alloc, error)),
+    }
+}
+
+/// Creates the fault for arguments that are not UTF-8, with a message in the form of `clap`'s.
+fn refuse_words(alloc: Global) -> Result<CommandFault, NoMemory>
+    ensures { IfOk result (λ fault. RefusesWords ⊥ fault) }
+{
+    let mut command = all_words(alloc)?;
+    let error = command.error(ErrorKind::ValueValidation, UNREADABLE)?;
+    Ok(CommandFault::of_words(alloc, error))
+}
+
+/// Creates the fault for arguments that are not UTF-8, or `NoMemory` if an allocation fails.
+fn unreadable_words(alloc: Global) -> CommandFault
+    ensures { RefusesWords ⊥ result }
+{
+    match refuse_words(alloc) {
+        Ok(fault) => fault,
+        Err(refusal) => CommandFault::from(refusal),
+    }
+}
+
+/// Converts the error of reading the process's arguments to a fault.
+///
+/// The fault is `NoMemory` if memory ran out. Otherwise an argument is not UTF-8.
+fn refused_words(alloc: Global, error: &io::Error) -> CommandFault
+    ensures { RefusesWords (error_kind error.now ≡ OutOfMemory) result }
+{
+    match NoMemory::in_error(error) {
+        Some(refusal) => CommandFault::from(refusal),
+        None => unreadable_words(alloc),
+    }
+}
+
+/// Parses the arguments of the process as a command of kyua(1).
+///
+/// The first argument, the program's own name, is skipped.
+///
+/// # Errors
+///
+/// - `Usage`: an argument is not UTF-8, the arguments are not a command line of kyua(1), or
+///   `--help` is given.
+/// - `BadKind`: an element of the results filter is not `passed`, `skipped`, `xfail`, `broken` or
+///   `failed`.
+/// - `BadRun`: the run number is not decimal digits of 1 to 1,000,000.
+/// - `NoMemory`: an allocation fails.
+pub fn read_words(alloc: Global, words: io::Result<Args>) -> Result<Command, CommandFault>
+    ensures value { IfOk words (λ all.
+        Reads (map (λ word. string_bytes word) (drop 1 (into_iter_items all))) result) }
+    ensures refused { IfErr words (λ e.
+        IsErrAnd result (λ fault. RefusesWords (error_kind e ≡ OutOfMemory) fault)) }
+    ensures range { IfOk result HasRunNumber }
+{
+    let words = match words {
+        Ok(words) => words,
+        Err(error) => return Err(refused_words(alloc, &error)),
+    };
+    let words = match collected(alloc, words) {
+        Ok(words) => words,
+        Err(refusal) => return Err(CommandFault::from(refusal)),
+    };
+    match words.as_slice().split_first() {
+        None => read_command(alloc, words.as_slice()),
+        Some((_, own)) => read_command(alloc, own),
+    }
+}
+
+/// Collects the remaining arguments of an iterator, in order.
+fn collected(alloc: Global, words: Args) -> Result<Vec<String>, NoMemory>
+    ensures { IfOk result (λ all. all.items ≡ into_iter_items words) }
+{
+    Ok(words.collect(alloc)?)
+}

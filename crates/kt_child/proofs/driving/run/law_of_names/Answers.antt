@@ -1,5 +1,0 @@
-use Rattle.kt_child.proofs.NumberSteps.{numbers_differ}
-use Rattle.kt_child.proofs.driving.run.law_of_names.Goals as goal
-
-pub returns : goal.returns
-returns c = numbers_differ

@@ -1,5 +1,0 @@
-use Rattle.kt_child.proofs.NumberSteps.{attempts_differ}
-use Rattle.kt_child.proofs.driving.run.law_of_numbers.Goals as goal
-
-pub returns : goal.returns
-returns g c = attempts_differ g.O.Os.leads

@@ -1,0 +1,46 @@
+use kt_base::Bytes;
+use kt_suite::ReadFault;
+
+/// An interface to the files and the clock of the host. Links are followed.
+///
+/// An implementation may return any result that the contracts allow. The contracts of commands are
+/// about the results that were returned.
+pub trait HostFiles {
+    ghost use Rattle.std.specs.Prelude.{◌≤◌, IfOk, length};
+    ghost use Rattle.kt_base.specs.Moments.{IsMoment};
+    ghost use Rattle.kt_cli.specs.Machines.{HostResponse, FrontOf, IsFile, IsThere, IsProgram, HasMoment, read_limit};
+
+    /// A relation: a call with its result leads from the first state to the second.
+    ghost answers: { Self → HostResponse → Self → Type 0 };
+
+    /// Reads a regular file, or its first 1,048,577 bytes, one more than a script may have.
+    ///
+    /// # Errors
+    ///
+    /// - `Missing`: there is no such file.
+    /// - `Failed`: the path is not a regular file, or the read fails.
+    /// - `Memory`: an allocation fails.
+    fn front(&mut self, path: &str) -> Result<Bytes, ReadFault>
+        ensures answered { answers self.old (FrontOf path.now result) self.new }
+        ensures short { IfOk result (λ bytes. length bytes ≤ read_limit) };
+
+    /// Returns `true` if the path is that of a regular file.
+    fn is_file(&mut self, path: &str) -> bool
+        ensures { answers self.old (IsFile path.now result) self.new };
+
+    /// Returns `true` if the path exists.
+    fn is_there(&mut self, path: &str) -> bool
+        ensures { answers self.old (IsThere path.now result) self.new };
+
+    /// Returns `true` if the path is that of a regular file that someone may execute.
+    ///
+    /// It is enough if the owner, the group or others may execute the file.
+    fn is_program(&mut self, path: &str) -> bool
+        ensures { answers self.old (IsProgram path.now result) self.new };
+
+    /// Returns the current time in milliseconds since 1970 in UTC, or 0 if the clock fails or is
+    /// out of range.
+    fn moment(&mut self) -> u64
+        ensures answered { answers self.old (HasMoment result) self.new }
+        ensures moment { IsMoment result };
+}

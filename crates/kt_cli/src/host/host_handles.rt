@@ -1,0 +1,12 @@
+use std::alloc::Global;
+
+/// A set of handles through which a command reaches the host.
+#[derive(Drop)]
+pub struct HostHandles<M: Drop, O: Drop> {
+    /// The allocator.
+    pub alloc: Global,
+    /// The files and the clock that the command reads.
+    pub machine: M,
+    /// The system that runs test programs.
+    pub os: O,
+}

@@ -1,0 +1,92 @@
+ghost use Rattle.std.specs.Prelude.{◌≡◌, ◌≤◌, IfOk, length};
+ghost use Rattle.kt_cli.specs.Common.{may_execute, read_limit};
+
+use crate::HostFiles;
+use kt_base::{Bytes, LATEST_MOMENT, NoMemory};
+use kt_child::read_start;
+use kt_suite::ReadFault;
+use std::fs::File;
+use std::io::ErrorKind;
+use std::os::unix::fs::PermissionsExt;
+use std::rt::{Clock, Files};
+use std::time::SystemTime;
+use std::{fs, io};
+
+/// The maximum number of bytes that are read of a file: one more than a script may have.
+const READ_LIMIT: usize = 1_048_577;
+
+/// The permission bits for execution by the owner, the group and others.
+const EXECUTE_RIGHTS: u32 = 0o111;
+
+/// A `HostFiles` that reads the files and the clock of the host.
+#[derive(Drop)]
+pub struct OsFiles<'a, R> {
+    /// The runtime, through which files and the clock are read.
+    pub rt: &'a R,
+}
+
+/// Converts an error of a system call to a fault of reading a file.
+fn fault_of(error: io::Error) -> ReadFault {
+    if let Some(refusal) = NoMemory::in_error(&error) {
+        return ReadFault::Memory(refusal);
+    }
+    match error.kind() {
+        ErrorKind::NotFound => ReadFault::Missing,
+        _ => ReadFault::Failed,
+    }
+}
+
+/// Returns `true` if the owner, the group or others may execute a file with this mode.
+fn may_execute(mode: u32) -> bool
+    ensures { result ≡ may_execute mode }
+{
+    mode & EXECUTE_RIGHTS != 0
+}
+
+impl<R: Files<File = File> + Clock + AllocGlobal> HostFiles for OsFiles<'_, R> {
+    // Only the contracts of the trait restrict the results of the host.
+    ghost answers = { λ _ _ _. Unit {0} };
+
+    fn front(&mut self, path: &str) -> Result<Bytes, ReadFault> {
+        match fs::metadata(self.rt, path) {
+            Ok(metadata) if metadata.is_file() => {}
+            Ok(_) => return Err(ReadFault::Failed),
+            Err(error) => return Err(fault_of(error)),
+        }
+        match File::open(self.rt, path) {
+            Ok(mut file) => read_start(self.rt.alloc(), &mut file, READ_LIMIT),
+            Err(error) => Err(fault_of(error)),
+        }
+    }
+
+    fn is_file(&mut self, path: &str) -> bool {
+        match fs::metadata(self.rt, path) {
+            Ok(metadata) => metadata.is_file(),
+            Err(_) => false,
+        }
+    }
+
+    fn is_there(&mut self, path: &str) -> bool {
+        fs::metadata(self.rt, path).is_ok()
+    }
+
+    fn is_program(&mut self, path: &str) -> bool {
+        match fs::metadata(self.rt, path) {
+            Ok(metadata) => metadata.is_file() && may_execute(metadata.permissions().mode()),
+            Err(_) => false,
+        }
+    }
+
+    fn moment(&mut self) -> u64 {
+        let Ok(now) = SystemTime::now(self.rt) else {
+            return 0;
+        };
+        let Ok(since) = now.duration_since(SystemTime::UNIX_EPOCH) else {
+            return 0;
+        };
+        match u64::try_from(since.as_millis()) {
+            Ok(millis) if millis <= LATEST_MOMENT => millis,
+            _ => 0,
+        }
+    }
+}

@@ -1,0 +1,129 @@
+ghost use Rattle.std.specs.Prelude.{◌≡◌, ◌≤◌, ℕ, Result, IfOk, length};
+ghost use Rattle.std.specs.Path.{path_buf_bytes};
+ghost use Rattle.std.specs.Result.{result_map_both};
+ghost use Rattle.std.specs.declared.env.FillError.{FillError as FillFault};
+ghost use Rattle.kt_cli.specs.Around.{IsFound, IsWorkingDirectory, IsAnswered, IsVariable};
+ghost use Rattle.kt_cli.specs.Inner.HostAnswers.{longest_variable};
+
+use kt_base::{NoMemory, Text};
+use kt_child::DriverFault;
+use std::alloc::Global;
+use std::env::FillError;
+use std::path::PathBuf;
+use std::rt::Env;
+use std::{env, io};
+
+/// The maximum length of an environment variable in bytes: Linux takes no longer one.
+const LONGEST_VARIABLE: usize = 131_072;
+
+/// A copy of the working directory of a command's process, and of its variables `PATH` and `USER`.
+#[derive(Drop)]
+pub struct ProcessEnv {
+    /// The absolute path of the working directory.
+    pub here: Text,
+    /// The value of `PATH`, if it is set and is UTF-8: the directories in which programs are looked
+    /// up.
+    pub path: Option<Text>,
+    /// The value of `USER`, if it is set and is UTF-8. It decides whether the user is root.
+    pub user: Option<Text>,
+}
+
+/// Copies the value of a variable out of the buffer that the system filled.
+///
+/// Returns `None` if the variable is not set or is not UTF-8.
+fn value_of(
+    alloc: Global,
+    answer: Result<usize, FillError>,
+    room: &[u8],
+) -> Result<Option<Text>, NoMemory>
+    requires { IfOk answer (λ count. count ≤ length room.now) }
+    ensures { IsVariable answer room.now result }
+{
+    let Ok(count) = answer else {
+        return Ok(None);
+    };
+    match str::from_utf8(&room[..count]) {
+        Ok(value) => Ok(Some(Text::from_str(alloc, value)?)),
+        Err(_) => Ok(None),
+    }
+}
+
+/// Reads an environment variable through the buffer `room`.
+///
+/// Returns `None` if the variable is not set or is not UTF-8.
+fn variable<R: Env + AllocGlobal>(
+    rt: &R,
+    name: &str,
+    room: &mut [u8],
+) -> Result<Option<Text>, NoMemory>
+    requires { length room.old ≡ longest_variable }
+    ensures room { length room.new ≡ length room.old }
+    ensures value { (answer : Result ℕ FillFault) × IsVariable answer room.new result }
+{
+    let answer = rt.var(name, room);
+    value_of(rt.alloc(), answer, room)
+}
+
+/// Copies the path of the working directory out of the system's result.
+///
+/// Fails with `NoWorkDirectory` if the system returned an error other than out of memory.
+fn here_of(alloc: Global, answer: io::Result<PathBuf>) -> Result<Text, DriverFault>
+    ensures { IsWorkingDirectory (result_map_both path_buf_bytes (λ error. error) answer) result }
+{
+    match answer {
+        Ok(here) => Text::from_str(alloc, here.as_str()).map_err(DriverFault::NoMemory),
+        Err(error) => match NoMemory::in_error(&error) {
+            Some(refusal) => Err(DriverFault::NoMemory(refusal)),
+            None => Err(DriverFault::NoWorkDirectory),
+        },
+    }
+}
+
+impl ProcessEnv {
+    ghost use Rattle.kt_cli.specs.HostAnswers.{is_root};
+
+    /// Reads `PATH` and `USER` from the environment.
+    ///
+    /// A variable that is not UTF-8 counts as not set.
+    ///
+    /// # Errors
+    ///
+    /// - `NoMemory`: an allocation fails.
+    pub fn new<R: Env + AllocGlobal>(rt: &R, here: Text) -> Result<ProcessEnv, NoMemory>
+        ensures here { IfOk result (λ around. around.here ≡ here) }
+        ensures path { IfOk result (λ around. IsAnswered around.path) }
+        ensures user { IfOk result (λ around. IsAnswered around.user) }
+    {
+        let mut room = vec![in rt.alloc(); 0u8; LONGEST_VARIABLE]?;
+        let path = variable(rt, "PATH", &mut room)?;
+        let user = variable(rt, "USER", &mut room)?;
+        Ok(ProcessEnv { here, path, user })
+    }
+
+    /// Reads the working directory and the environment of this process.
+    ///
+    /// # Errors
+    ///
+    /// - `NoWorkDirectory`: the working directory is not known.
+    /// - `NoMemory`: an allocation fails.
+    pub fn of_process<R: Env + AllocGlobal>(rt: &R) -> Result<ProcessEnv, DriverFault>
+        ensures { IsFound result }
+    {
+        let here = here_of(rt.alloc(), env::current_dir(rt))?;
+        match ProcessEnv::new(rt, here) {
+            Ok(around) => Ok(around),
+            Err(refusal) => Err(DriverFault::NoMemory(refusal)),
+        }
+    }
+
+    /// Returns `true` if the value of `USER` is `root`.
+    #[tactic(auto, unfolding(crate::proofs::Common::chars))]
+    pub fn is_root(&self) -> bool
+        ensures { result ≡ is_root self.now.user }
+    {
+        match &self.user {
+            Some(user) => user.is_word("root"),
+            None => false,
+        }
+    }
+}

@@ -1,0 +1,82 @@
+//! The children of a scripted launcher: an array with the state of each case.
+
+ghost use Rattle.std.specs.Prelude.{◌≡◌, ◌==◌, ◌<◌, ℕ, None, Some, IfSome, if◌then◌else◌, slice_index_or};
+ghost use Rattle.kt_base.specs.declared.child.Role.{Role};
+ghost use Rattle.kt_sched.specs.Children.{Child};
+ghost use Rattle.kt_doubles.specs.declared.children.ChildSlot.TheVariants.{Free as TheFree};
+ghost use Rattle.kt_doubles.specs.Children.{shown};
+
+use kt_base::{Interface, Role};
+
+/// The number of positions of a scripted launcher. Cases at later positions can't be started.
+pub const PLACES: u32 = 2_048;
+
+/// The state of a case in a scripted launcher.
+#[derive(Clone, Copy)]
+pub enum ChildSlot {
+    /// No child runs, and no cleanup is pending.
+    Free,
+    /// The body runs. The fields are its interface, and `true` if the case declares a cleanup.
+    Running(Interface, bool),
+    /// The body has ended, and its cleanup is pending.
+    Owed,
+    /// The cleanup runs. The fields are its interface, and `true` if the case declares a cleanup.
+    Cleaning(Interface, bool),
+}
+
+/// The states of all cases, by position.
+pub type ChildSlots = [ChildSlot; 2048];
+
+/// A running child: its role, its interface, and `true` if its case declares a cleanup.
+pub type Known = (Role, Interface, bool);
+
+/// Creates states in which no child runs and no cleanup is pending.
+pub fn no_children() -> ChildSlots
+    ensures { (k : ℕ) → slice_index_or result k TheFree ≡ TheFree }
+{
+    [ChildSlot::Free; 2048]
+}
+
+/// Stores `place` as the state of the case at position `at`.
+pub fn write(places: &mut ChildSlots, at: u32, place: ChildSlot)
+    requires { at < 2048 }
+    ensures { (k : ℕ) → slice_index_or places.new k TheFree
+        ≡ (if k == at then place else slice_index_or places.old k TheFree) }
+{
+    places[at as usize] = place;
+}
+
+/// Returns the running child of the case at position `at`, or `None`.
+fn child_at(places: &ChildSlots, at: u32) -> Option<Known>
+    requires { at < 2048 }
+    ensures none { result ≡ None → (role : Role) → shown places.now at role ≡ None }
+    ensures runs { IfSome result (λ c. shown places.now at c.0
+        ≡ Some (record { interface = c.1; cleanup = c.2 })) }
+{
+    match places[at as usize] {
+        ChildSlot::Free | ChildSlot::Owed => None,
+        ChildSlot::Running(interface, cleanup) => Some((Role::Body, interface, cleanup)),
+        ChildSlot::Cleaning(interface, cleanup) => Some((Role::Cleanup, interface, cleanup)),
+    }
+}
+
+/// Returns the running child at position `named`, or else the first running child.
+pub fn next_child(places: &ChildSlots, named: u32) -> (u32, Known)
+    requires { (i : ℕ) × (role : Role) × (child : Child)
+        × (shown places.now i role ≡ Some child) }
+    ensures within { result.0 < 2048 }
+    ensures runs { shown places.now result.0 result.1.0
+        ≡ Some (record { interface = result.1.1; cleanup = result.1.2 }) }
+{
+    if named < PLACES {
+        if let Some(child) = child_at(places, named) {
+            return (named, child);
+        }
+    }
+    for k in 0..PLACES {
+        if let Some(child) = child_at(places, k) {
+            return (k, child);
+        }
+    }
+    unreachable!()
+}

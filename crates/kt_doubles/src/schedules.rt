@@ -1,0 +1,90 @@
+use crate::memory_sink::MemorySink;
+use crate::plans::plan_of;
+use crate::scripted_launcher::ScriptedLauncher;
+use kt_base::{Entry, Variables};
+use kt_examples::{Example, ExampleOutput, Result, both, number_to, numbers_of, push_entries};
+use kt_sched::{MAX_WIDTH, RunFault, Totals, run_cases};
+
+/// Appends the calls of the launcher, and a line with the positions of the entries in put order.
+fn push_long(out: &mut ExampleOutput, log: &str, entries: &[Entry]) {
+    for call in log.lines() {
+        out.separate(", ");
+        out.push(call);
+    }
+    out.push("\nput");
+    for entry in entries {
+        write!(out, " {}", entry.position);
+    }
+}
+
+/// Returns the numbers of start calls for bodies and for cleanups, and the maximum number of
+/// children at once. A start that fails counts as a child that never ends.
+fn counts(log: &str) -> (usize, usize, usize) {
+    let (mut bodies, mut cleanups, mut ended, mut most) = (0usize, 0usize, 0usize, 0usize);
+    for call in log.lines() {
+        if call.starts_with("end ") {
+            ended = ended.saturating_add(1);
+        } else if call.starts_with("start cleanup ") {
+            cleanups = cleanups.saturating_add(1);
+        } else {
+            bodies = bodies.saturating_add(1);
+        }
+        most = most.max(bodies.saturating_add(cleanups).saturating_sub(ended));
+    }
+    (bodies, cleanups, most)
+}
+
+/// Appends a summary of a run: `20 bodies, 10 cleanups, at most 4 at once; 20 entries by position`.
+fn push_brief(out: &mut ExampleOutput, log: &str, entries: &[Entry]) {
+    let (bodies, cleanups, most) = counts(log);
+    write!(out, "{bodies} bodies, {cleanups} cleanups, ");
+    write!(out, "at most {most} at once; {} entries ", entries.len());
+    let are_by_position = entries.is_sorted_by(|one, next| one.position < next.position);
+    out.push(if are_by_position {
+        "by position"
+    } else {
+        "in another order"
+    });
+}
+
+/// Appends the totals of a run, as `3 good, 1 bad of 4`, or its error. The line `moments` of an
+/// example adds the entries with their times.
+fn push_end(
+    out: &mut ExampleOutput,
+    row: &Example<'_>,
+    end: Result<Totals, RunFault>,
+    entries: &[Entry],
+) {
+    match end {
+        Ok(Totals { good, bad, total }) => write!(out, ": {good} good, {bad} bad of {total}"),
+        Err(fault) => write!(out, ": {fault}"),
+    }
+    if row.text("moments").is_some() {
+        out.line("");
+        push_entries(out, "cases", entries);
+    }
+}
+
+/// Executes a plan over a scripted launcher and a sink in memory, and appends the calls and totals.
+/// The line `brief` replaces the calls and puts by a summary.
+pub fn answer(out: &mut ExampleOutput, row: &Example<'_>) -> Result<()> {
+    let alloc = out.alloc;
+    let width = number_to(row.text("width"), MAX_WIDTH)?;
+    let failing = row.number("failing", 0)? as usize;
+    let letters = row.due_bytes(alloc, "plan", "no plan");
+    let ends = numbers_of(alloc, row.text("ends").unwrap_or(""));
+    let moments = numbers_of(alloc, row.text("moments").unwrap_or(""));
+    let (letters, (ends, moments)) = both(letters, both(ends, moments))?;
+    let plan = plan_of(alloc, "p", &letters, 300, &Variables::new(alloc))?;
+    let mut launcher = ScriptedLauncher::new(alloc, &letters, &ends, &moments);
+    let mut sink = MemorySink::new(alloc, failing);
+    let end = run_cases(alloc, plan, width, &mut launcher, &mut sink);
+    let (log, entries) = (launcher.log.so_far()?, sink.entries.as_slice());
+    if row.text("brief").is_some() {
+        push_brief(out, log, entries);
+    } else {
+        push_long(out, log, entries);
+    }
+    push_end(out, row, end, entries);
+    Ok(())
+}

@@ -1,0 +1,149 @@
+ghost use Rattle.std.specs.Prelude.{◌≡◌, ℕ, None, false};
+ghost use Rattle.kt_base.specs.declared.child.Role.{Role};
+ghost use Rattle.kt_sched.specs.Children.{IsEvidence, IsIdle};
+ghost use Rattle.kt_doubles.specs.Children.{shown, owed};
+
+use crate::children::{ChildSlot, ChildSlots, PLACES, next_child, no_children, write};
+use crate::plans::is_refused;
+use kt_base::{Bytes, Interface, LATEST_MOMENT, Outcome, Output, Refused, Role};
+use kt_claim::{Claim, Evidence, Tap};
+use kt_examples::ExampleOutput;
+use kt_sched::{Ended, Job, Launcher, StartAnswer};
+use std::alloc::Global;
+
+/// A `Launcher` that starts no process, and whose children end in a scripted order with exit status
+/// 0. Starts at positions from 2,048 on fail.
+#[derive(Drop)]
+pub struct ScriptedLauncher<'a> {
+    /// The letters of the plan, which select the starts that fail.
+    pub letters: &'a [u8],
+    /// The positions whose children end, in order. At a position without a child, and after the
+    /// last position, the first running child ends.
+    pub ends: &'a [u64],
+    /// The timestamps of the calls, in milliseconds since 1970 in UTC. The last timestamp is
+    /// repeated.
+    pub moments: &'a [u64],
+    /// The calls, one per line: `start 1`, `start cleanup 1`, `end 1`.
+    pub log: ExampleOutput,
+    /// The states of the cases, by position.
+    pub places: ChildSlots,
+}
+
+/// Returns the evidence of a child that passed.
+fn evidence_of(interface: Interface, role: Role) -> Evidence
+    ensures { IsEvidence interface role result }
+{
+    match role {
+        Role::Cleanup => Evidence::Plain,
+        Role::Body => match interface {
+            Interface::Atf => Evidence::Atf(Claim::Passed),
+            Interface::Tap => Evidence::Tap(Tap::Counted(0, 1)),
+            Interface::Plain => Evidence::Plain,
+        },
+    }
+}
+
+/// Returns the next timestamp, and removes it unless it is the last. Returns 0 without timestamps.
+fn next_moment(moments: &mut &[u64]) -> u64 {
+    match moments.split_first() {
+        None => 0,
+        Some((first, rest)) => {
+            if !rest.is_empty() {
+                *moments = rest;
+            }
+            *first
+        }
+    }
+}
+
+/// Removes and returns the next position whose child ends, or returns `PLACES` if none remains.
+fn next_end(ends: &mut &[u64]) -> u32 {
+    match ends.split_first() {
+        None => PLACES,
+        Some((first, rest)) => {
+            *ends = rest;
+            u32::try_from(*first).unwrap_or(PLACES)
+        }
+    }
+}
+
+/// Appends a line for a call to the log: `word`, and the role and the position of the child.
+fn note(log: &mut ExampleOutput, word: &str, position: u32, role: Role) {
+    let role = match role {
+        Role::Body => "",
+        Role::Cleanup => "cleanup ",
+    };
+    write!(log, "{word} {role}{position}\n");
+}
+
+impl<'a> ScriptedLauncher<'a> {
+    /// Creates a launcher without running children and pending cleanups.
+    #[tactic(auto, using(crate::proofs::EmptyPlaces::idle))]
+    pub fn new(
+        alloc: Global,
+        letters: &'a [u8],
+        ends: &'a [u64],
+        moments: &'a [u64],
+    ) -> ScriptedLauncher<'a>
+        ensures { IsIdle (shown result.places) (owed result.places) }
+    {
+        ScriptedLauncher {
+            letters,
+            ends,
+            moments,
+            log: ExampleOutput::new(alloc),
+            places: no_children(),
+        }
+    }
+}
+
+impl Launcher for ScriptedLauncher<'_> {
+    ghost running = { λ s. shown s.places };
+
+    ghost pending = { λ s. owed s.places };
+
+    ghost starts = { λ s job role a t. Unit {0} };
+
+    ghost waits = { λ s e t. Unit {0} };
+
+    fn start(&mut self, job: &Job, role: Role) -> StartAnswer {
+        let moment = next_moment(&mut self.moments);
+        note(&mut self.log, "start", job.position, role);
+        if job.position >= PLACES {
+            return StartAnswer::Refused(Refused::Spawn);
+        }
+        if is_refused(self.letters, job.position, role) {
+            write(&mut self.places, job.position, ChildSlot::Free);
+            return StartAnswer::Refused(Refused::Output);
+        }
+        let place = match role {
+            Role::Body => ChildSlot::Running(job.interface, job.cleanup),
+            Role::Cleanup => ChildSlot::Cleaning(job.interface, job.cleanup),
+        };
+        write(&mut self.places, job.position, place);
+        StartAnswer::Started(moment.min(LATEST_MOMENT))
+    }
+
+    fn wait(&mut self) -> Ended {
+        let next = next_end(&mut self.ends);
+        let (position, (role, interface, cleanup)) = next_child(&self.places, next);
+        note(&mut self.log, "end", position, role);
+        let moment = next_moment(&mut self.moments);
+        let left = match role {
+            Role::Body if cleanup => ChildSlot::Owed,
+            _ => ChildSlot::Free,
+        };
+        write(&mut self.places, position, left);
+        Ended {
+            position,
+            role,
+            outcome: Outcome::Exited(0),
+            evidence: evidence_of(interface, role),
+            output: Output {
+                out: Bytes::new(self.log.alloc),
+                err: Bytes::new(self.log.alloc),
+            },
+            moment: moment.min(LATEST_MOMENT),
+        }
+    }
+}

@@ -1,0 +1,226 @@
+ghost use Rattle.kt_child.specs.Ending.Reads.{IsReadWithin};
+
+use crate::Scene;
+use crate::scene::{Life, PartFault};
+use kt_base::{Bytes, Items, NoMemory, Role, Text};
+use kt_child::{Child, EnvPlan, FileRead, Os, OsFault, Polled};
+use kt_examples::ExampleOutput;
+
+/// An `Os` that follows a scene and logs each call in a line. The line of a failed call ends in
+/// `failed`. If the allocation for a line fails, the call is executed, and the log returns the
+/// error.
+#[derive(Drop)]
+pub struct ScriptedSystem<'a> {
+    /// The script.
+    scene: &'a Scene,
+    /// The number of calls so far that the scene can make fail.
+    calls: u32,
+    /// The children in the order of their starts, each with the number of polls that found it
+    /// running.
+    children: Vec<(Child, u32)>,
+    /// The number of the scene's timestamps that were returned.
+    told: usize,
+    /// The last timestamp that was returned, in milliseconds since 1970 in UTC.
+    moment: u64,
+    /// The calls, one per line.
+    pub log: ExampleOutput,
+    /// A line for each started program: path, arguments, directory, variables, and removed
+    /// variables.
+    pub spawned: ExampleOutput,
+}
+
+/// Returns the scripted life of the child with index `number` in the order of starts.
+fn life_of(lives: &[Life], number: usize) -> Life {
+    let ending = Polled::Exited(0);
+    let life = lives.get(number).or(lives.last());
+    life.copied().unwrap_or(Life { running: 0, ending })
+}
+
+/// Returns the status of a child in a poll, and counts the poll if the child runs. A child that
+/// wasn't started has exited with 99.
+fn status_of(lives: &[Life], children: &mut [(Child, u32)], child: Child) -> Polled {
+    for (number, (known, told)) in children.iter_mut().enumerate() {
+        if *known == child {
+            let life = life_of(lives, number);
+            if *told >= life.running {
+                return life.ending;
+            }
+            *told = told.saturating_add(1);
+            return Polled::Running;
+        }
+    }
+    Polled::Exited(99)
+}
+
+/// Returns at most `limit` bytes of a scripted file, from the byte at index `from` on. Parts after
+/// the first have the scene's `PartFault`.
+fn read(scene: &Scene, path: &Text, from: u64, limit: u64) -> Result<FileRead, OsFault>
+    ensures { IsReadWithin limit result }
+{
+    match scene.part_fault {
+        PartFault::EmptyPart if from > 0 => return Ok(FileRead::Part(
+            Bytes::new(scene.alloc),
+            true,
+        )),
+        PartFault::Gone if from > 0 => return Ok(FileRead::Missing),
+        _ => {}
+    }
+    let Some(bytes) = scene.bytes_at(path.as_str()) else {
+        return Ok(FileRead::Missing);
+    };
+    let rest = bytes.get(from as usize..).unwrap_or(&[]);
+    let count = rest.len().min(limit as usize);
+    match Bytes::from_slice(scene.alloc, &rest[..count]) {
+        Ok(part) => Ok(FileRead::Part(part, count < rest.len())),
+        Err(refusal) => Err(OsFault::Memory(refusal)),
+    }
+}
+
+/// Appends texts, each after a space.
+fn push_texts(line: &mut ExampleOutput, texts: &[Text]) {
+    for text in texts {
+        write!(line, " {}", text.as_str());
+    }
+}
+
+impl<'a> ScriptedSystem<'a> {
+    /// Creates a system that follows `scene`, without calls and children.
+    pub fn new(scene: &'a Scene) -> ScriptedSystem<'a> {
+        ScriptedSystem {
+            scene,
+            calls: 0,
+            children: Vec::new(scene.alloc),
+            told: 0,
+            moment: 0,
+            log: ExampleOutput::new(scene.alloc),
+            spawned: ExampleOutput::new(scene.alloc),
+        }
+    }
+
+    /// Ends the log line of a call, and fails if the scene makes this call fail.
+    fn end_call(&mut self) -> Result<(), OsFault> {
+        let call = self.calls;
+        self.calls = call.saturating_add(1);
+        let (first, below) = self.scene.failing;
+        if call < first || below <= call {
+            self.log.push("\n");
+            return Ok(());
+        }
+        self.log.push(" failed\n");
+        match self.scene.shortage {
+            Some(refusal) => Err(OsFault::Memory(refusal)),
+            None => Err(OsFault::Failed),
+        }
+    }
+
+    /// Logs a call with its path, and fails if the scene makes this call fail.
+    fn ask(&mut self, word: &str, path: &Text) -> Result<(), OsFault> {
+        write!(self.log, "{word} {}", path.as_str());
+        self.end_call()
+    }
+
+    /// Appends `word` and a child to the log: its attempt number, after `cleanup` for a cleanup.
+    fn push_child(&mut self, word: &str, child: Child) {
+        let role = match child.role {
+            Role::Body => "",
+            Role::Cleanup => "cleanup ",
+        };
+        write!(self.log, "{word} {role}{}", child.attempt);
+    }
+
+    /// Logs a call with its child, and fails if the scene makes this call fail.
+    fn ask_child(&mut self, word: &str, child: Child) -> Result<(), OsFault> {
+        self.push_child(word, child);
+        self.end_call()
+    }
+
+    /// Returns the scene's next timestamp, or the last one plus the scene's step if none remains.
+    fn next_moment(&mut self) -> u64 {
+        match self.scene.moments.get(self.told) {
+            Some(moment) => {
+                self.told = self.told.saturating_add(1);
+                self.moment = *moment;
+            }
+            None => self.moment = self.moment.saturating_add(self.scene.step),
+        }
+        self.moment
+    }
+}
+
+impl Os for ScriptedSystem<'_> {
+    ghost leads = { λ _ _ _. Unit {0} };
+
+    fn set_limit(&mut self, child: Child, limit: u64) {
+        self.push_child("limit", child);
+        write!(self.log, " {limit}\n");
+    }
+
+    fn make_dir(&mut self, path: &Text) -> Result<(), OsFault> {
+        self.ask("make", path)
+    }
+
+    fn remove_tree(&mut self, path: &Text) -> Result<(), OsFault> {
+        self.ask("remove", path)
+    }
+
+    fn open_output(&mut self, _child: Child, path: &Text) -> Result<(), OsFault> {
+        self.ask("open", path)
+    }
+
+    fn spawn(
+        &mut self,
+        child: Child,
+        program: &Text,
+        words: &Items<Text>,
+        env: &EnvPlan,
+        dir: &Text,
+    ) -> Result<(), OsFault> {
+        self.ask("spawn", program)?;
+        let line = &mut self.spawned;
+        line.push(program.as_str());
+        push_texts(line, words.as_slice());
+        write!(line, ", in {}, with", dir.as_str());
+        for variable in env.set.as_slice() {
+            line.pair(" ", variable, "=");
+        }
+        line.push(", without");
+        push_texts(line, env.removed.as_slice());
+        line.push("\n");
+        if let Err(refusal) = self.children.push((child, 0)) {
+            self.log.fail(NoMemory::from(refusal));
+        }
+        Ok(())
+    }
+
+    fn poll(&mut self, child: Child) -> Result<Polled, OsFault> {
+        let status = status_of(self.scene.lives.as_slice(), &mut self.children, child);
+        self.ask_child("poll", child)?;
+        Ok(status)
+    }
+
+    fn kill(&mut self, child: Child) -> Result<(), OsFault> {
+        self.ask_child("kill", child)
+    }
+
+    fn pause(&mut self) -> Result<(), OsFault> {
+        self.log.push("pause");
+        self.end_call()
+    }
+
+    fn read_file(&mut self, path: &Text, limit: u64) -> Result<FileRead, OsFault> {
+        self.ask("read", path)?;
+        read(self.scene, path, 0, limit)
+    }
+
+    fn read_part(&mut self, path: &Text, from: u64, limit: u64) -> Result<FileRead, OsFault> {
+        self.ask("part", path)?;
+        read(self.scene, path, from, limit)
+    }
+
+    fn now(&mut self) -> Result<u64, OsFault> {
+        let moment = self.next_moment();
+        self.log.push("now");
+        self.end_call()?;
+        Ok(moment)
+    }
+}

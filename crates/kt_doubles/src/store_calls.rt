@@ -1,0 +1,145 @@
+//! Calls on a results store, and the output of each call.
+
+use crate::RunCalls;
+use kt_base::LATEST_MOMENT;
+use kt_examples::{
+    ExampleFault, ExampleLine, ExampleOutput, Result, count, number, number_in, push_entries,
+    retried, storable_entry,
+};
+use kt_store::{RunHead, StoreFault};
+
+/// Appends `done`, or the name of the error of a call.
+fn push_done(out: &mut ExampleOutput, done: Result<(), StoreFault>) {
+    match done {
+        Ok(()) => out.push("done"),
+        Err(fault) => out.name(&fault),
+    }
+}
+
+/// Parses `TOTAL MOMENT`, begins `times` runs, and appends the number of the last run or the error.
+/// The default of MOMENT is 0, in milliseconds since 1970 in UTC.
+fn begin<R: RunCalls>(
+    out: &mut ExampleOutput,
+    results: &mut R,
+    text: &str,
+    times: u64,
+) -> Result<()> {
+    let (total, moment) = text.split_once(' ').unwrap_or((text, "0"));
+    let total = count(total)?;
+    let moment = number(moment)?.min(LATEST_MOMENT);
+    let mut last = Ok(0);
+    for _ in 0..times {
+        if last.is_ok() {
+            last = retried!(StoreFault, results.begin(total, moment));
+        }
+    }
+    match last {
+        Ok(number) => write!(out, "run {number}"),
+        Err(fault) => out.name(&fault),
+    }
+    Ok(())
+}
+
+/// Parses `RUN POSITION VERDICT`, and puts `times` entries from this position on. Appends `done` or
+/// the error of the first put that fails.
+fn put<R: RunCalls>(
+    out: &mut ExampleOutput,
+    results: &mut R,
+    text: &str,
+    content: &[ExampleLine<'_>],
+    times: u64,
+) -> Result<()> {
+    let (run, rest) = text.split_once(' ').unwrap_or((text, ""));
+    let (first, verdict) = rest.split_once(' ').unwrap_or((rest, "passed"));
+    let run = number(run)?;
+    let mut place = count(first)?;
+    let mut done = Ok(());
+    for _ in 0..times {
+        if done.is_ok() {
+            let entry = storable_entry(out.alloc, content, verdict, place)?;
+            done = retried!(StoreFault, results.put(run, &entry));
+            place = place.saturating_add(1);
+        }
+    }
+    push_done(out, done);
+    Ok(())
+}
+
+/// Returns `finished` or `unfinished`, the state of a run.
+pub fn state_text(head: &RunHead) -> &'static str {
+    if head.finished {
+        "finished"
+    } else {
+        "unfinished"
+    }
+}
+
+/// Appends a run with the number of its entries, as `run 1 at 500: 2 of 3, unfinished`.
+fn push_run<R: RunCalls>(out: &mut ExampleOutput, results: &mut R, head: &RunHead) {
+    match results.entries(head.number) {
+        Ok(entries) => {
+            let (count, state) = (entries.len(), state_text(head));
+            write!(out, "run {} at {}: ", head.number, head.started);
+            write!(out, "{count} of {}, {state}", head.total);
+        }
+        Err(fault) => out.name(&fault),
+    }
+}
+
+/// Appends the runs of a store, one per line, or their number if `is_brief` is set.
+pub fn push_runs<R: RunCalls>(out: &mut ExampleOutput, results: &mut R, is_brief: bool) {
+    let heads = match results.runs() {
+        Ok(heads) => heads,
+        Err(fault) => return out.name(&fault),
+    };
+    if is_brief {
+        return write!(out, "{} runs", heads.len());
+    }
+    let mut separator = "";
+    for head in heads.as_slice() {
+        out.push(separator);
+        push_run(out, results, head);
+        separator = "\n";
+    }
+}
+
+/// Appends the part of a run's entries that `word` selects, or their number if `word` is `count`.
+fn push_run_entries<R: RunCalls>(out: &mut ExampleOutput, results: &mut R, word: &str, run: u64) {
+    match results.entries(run) {
+        Ok(found) if word == "count" => write!(out, "{} entries", found.len()),
+        Ok(found) => push_entries(out, word, found.as_slice()),
+        Err(fault) => out.name(&fault),
+    }
+}
+
+/// Executes the call of a line on a results store, and appends its output. The lines `content`
+/// below it have the number of repetitions and describe the entry of a put. An error of the store
+/// is part of the output.
+///
+/// # Errors
+///
+/// - `Misspelled`: the line isn't a call on a store, or an argument is invalid.
+/// - `NoMemory`: an allocation outside the store failed.
+pub fn push_call<R: RunCalls>(
+    out: &mut ExampleOutput,
+    results: &mut R,
+    line: &ExampleLine<'_>,
+    content: &[ExampleLine<'_>],
+) -> Result<()> {
+    let times = number_in(content, "times", 1)?;
+    match line.word {
+        "begin" => return begin(out, results, line.text, times),
+        "put" => return put(out, results, line.text, content, times),
+        "finish" => {
+            let run = number(line.text)?;
+            push_done(out, retried!(StoreFault, results.finish(run)));
+        }
+        "runs" => push_runs(out, results, false),
+        "count-runs" => push_runs(out, results, true),
+        "cases" | "outputs" | "pairs" | "count" => {
+            push_run_entries(out, results, line.word, number(line.text)?);
+        }
+        _ => return Err(ExampleFault::Misspelled("there is no such call")),
+    }
+    Ok(())
+}

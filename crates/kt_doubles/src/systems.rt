@@ -1,0 +1,314 @@
+//! Examples of a scripted system: the cases of a plan, the list of a program, the bytes of a file.
+
+ghost use Rattle.kt_sched.specs.Plan.{IsPlan, IsWidth};
+
+use crate::endless_reader::EndlessReader;
+use crate::folds::push_folded;
+use crate::memory_sink::MemorySink;
+use crate::plans::plan_of;
+use crate::scene_reading::{failing_of, scene_of};
+use crate::{Scene, ScriptedSystem};
+use kt_atflist::{ListBytes, Listing};
+use kt_base::{Entry, Interface, Items, Kind, Text, Variables};
+use kt_child::{Driver, DriverFault, FileRead, Os, read_front, read_start, run_driver};
+use kt_examples::{
+    Example, ExampleFault, ExampleOutput, Result, both, number, number_to, pairs_of, push_entries,
+    push_verdict, unescaped,
+};
+use kt_metadata::Props;
+use kt_sched::{Job, MAX_TIMEOUT, MAX_WIDTH, RunFault, SinkFault};
+use kt_suite::Program;
+use std::alloc::Global;
+
+/// The maximum number of bytes that a machine reads of a file: one more than a script may have.
+const MACHINE_LIMIT: usize = 1_048_577;
+
+/// The result of a run over a driver.
+#[derive(Drop)]
+struct Driven<O: Drop> {
+    /// The system after the run.
+    os: O,
+    /// The recorded entries, in the order of their puts.
+    entries: Vec<Entry>,
+    /// The message of the error that ended the run early, if any.
+    fault: Option<&'static str>,
+}
+
+/// Returns the part of a log line that `shown` selects, or `None`. `words` selects the first word,
+/// `watching` the line of a poll, a kill or a pause, and any other value the whole line.
+fn call_of<'a>(shown: &str, line: &'a str) -> Option<&'a str> {
+    let (word, _) = line.split_once(' ').unwrap_or((line, ""));
+    match shown {
+        "words" => Some(word),
+        "watching" if !matches!(word, "poll" | "kill" | "pause") => None,
+        _ => Some(line),
+    }
+}
+
+/// Appends the calls of a log, with repetitions folded. `shown` is `calls` for whole lines, `words`
+/// for their first words, or `watching` for polls, kills and pauses.
+///
+/// # Errors
+///
+/// - `NoMemory`: an allocation failed.
+pub fn push_calls(out: &mut ExampleOutput, shown: &str, log: &str) -> Result<()> {
+    let mut lines = Vec::new(out.alloc);
+    for line in log.lines() {
+        if let Some(call) = call_of(shown, line) {
+            lines.push(call)?;
+        }
+    }
+    push_folded(out, &lines);
+    Ok(())
+}
+
+/// Appends the number of cases that passed, and the verdict of the first other case.
+fn push_totals(out: &mut ExampleOutput, entries: &[Entry]) {
+    let (mut passed, mut other) = (0usize, None);
+    for entry in entries {
+        match entry.verdict.kind() {
+            Kind::Passed => passed = passed.saturating_add(1),
+            _ => other = other.or(Some(entry)),
+        }
+    }
+    write!(out, "{passed} of {} passed", entries.len());
+    if let Some(entry) = other {
+        out.push(", ");
+        push_verdict(out, &entry.verdict);
+    }
+}
+
+/// Appends the number of kills, and the number of directories that were made but not removed, as
+/// `1 killed, 0 left`. A failed kill or removal counts as done. Directories with the name `work`
+/// don't count, because they are inside other directories.
+fn push_left(out: &mut ExampleOutput, log: &str) {
+    let (mut killed, mut left) = (0usize, 0usize);
+    for line in log.lines() {
+        if line.starts_with("kill ") {
+            killed = killed.saturating_add(1);
+        } else if line.starts_with("remove ") {
+            left = left.saturating_sub(1);
+        } else if line.starts_with("make ") && !line.ends_with(" failed") {
+            left = left.saturating_add(usize::from(!line.ends_with("/work")));
+        }
+    }
+    write!(out, "{killed} killed, {left} left");
+}
+
+/// Appends the part of a run that `word` selects.
+fn push_shown(out: &mut ExampleOutput, word: &str, run: &Driven<ScriptedSystem<'_>>) -> Result<()> {
+    let (log, spawned) = (run.os.log.so_far()?, run.os.spawned.so_far()?);
+    match word {
+        "calls" | "words" | "watching" => return push_calls(out, word, log),
+        "spawns" => out.push(spawned.trim()),
+        "spawned" => write!(out, "{} spawned", spawned.lines().count()),
+        "left" => push_left(out, log),
+        "totals" => push_totals(out, run.entries.as_slice()),
+        _ => push_entries(out, word, run.entries.as_slice()),
+    }
+    Ok(())
+}
+
+/// Copies two strings into `Text` values.
+fn texts_of(alloc: Global, first: &str, second: &str) -> Result<(Text, Text)> {
+    let first = Text::from_str(alloc, first)?;
+    Ok((first, Text::from_str(alloc, second)?))
+}
+
+/// Executes a plan by a new driver over `os`. Returns the system, the entries and the error.
+fn drive<O: Os + Drop>(
+    alloc: Global,
+    os: O,
+    plan: Items<Job>,
+    width: u32,
+    base: &Text,
+    source: Text,
+    mut sink: MemorySink,
+) -> Driven<O>
+    requires plan { IsPlan plan }
+    requires width { IsWidth width }
+{
+    let (os, fault) = match Driver::new(alloc, os, base, source) {
+        Err((DriverFault::NoMemory(_), os)) => (os, Some("out of memory")),
+        Err((DriverFault::NoWorkDirectory, os)) => (os, Some("failed")),
+        Ok(mut driver) => {
+            let fault = match run_driver(alloc, plan, width, &mut driver, &mut sink) {
+                Ok(_) => None,
+                Err(RunFault::NoMemory(_) | RunFault::SinkFailed(SinkFault::Memory)) => {
+                    Some("out of memory")
+                }
+                Err(_fault) => Some("failed"),
+            };
+            (driver.close(), fault)
+        }
+    };
+    Driven {
+        os,
+        entries: sink.entries,
+        fault,
+    }
+}
+
+/// Executes the plan of an example over a scripted system.
+fn run_plan<'a>(row: &Example<'_>, scene: &'a Scene) -> Result<Driven<ScriptedSystem<'a>>> {
+    let alloc = scene.alloc;
+    let width = number_to(row.text("width"), MAX_WIDTH)?;
+    let limit = number_to(row.text("limit"), MAX_TIMEOUT)?;
+    let failing = row.number("failing", 0)? as usize;
+    let variables = pairs_of(alloc, row.entries.as_slice(), "variable");
+    let letters = unescaped(alloc, row.text("plan").unwrap_or(""));
+    let (letters, variables) = both(letters, variables)?;
+    let base = row.text("base").unwrap_or("");
+    let source = row.text("source").unwrap_or("/t");
+    let (base, source) = texts_of(alloc, base, source)?;
+    let program = row.text("program").unwrap_or("d/p");
+    let plan = plan_of(alloc, program, &letters, limit, &variables)?;
+    let sink = MemorySink::new(alloc, failing);
+    let os = ScriptedSystem::new(scene);
+    Ok(drive(alloc, os, plan, width, &base, source, sink))
+}
+
+/// Executes the plan of an example once. Appends what `show WORDS` selects, by default the entries,
+/// and the error that ended the run early.
+fn push_run(out: &mut ExampleOutput, row: &Example<'_>, scene: &Scene) -> Result<()> {
+    let run = run_plan(row, scene)?;
+    for word in row.text("show").unwrap_or("entries").split_whitespace() {
+        out.separate("\n");
+        push_shown(out, word, &run)?;
+    }
+    if let Some(fault) = run.fault {
+        out.line(fault);
+    }
+    Ok(())
+}
+
+/// Executes the plan of an example once for each line `fails CALLS`, or once without such a line.
+fn plan(out: &mut ExampleOutput, row: &Example<'_>, mut scene: Scene) -> Result<()> {
+    if row.text("fails").is_none() {
+        return push_run(out, row, &scene);
+    }
+    for line in row.entries.as_slice() {
+        if line.word == "fails" {
+            scene.failing = failing_of(line.text)?;
+            push_run(out, row, &scene)?;
+        }
+    }
+    Ok(())
+}
+
+/// Lists the cases of a program by a new driver over `os`. Returns the system and the listing, or
+/// `None` if the driver can't be created.
+fn asked_for_list<O: Os + Drop>(
+    alloc: Global,
+    os: O,
+    base: &Text,
+    source: Text,
+    program: &Program,
+    variables: &Variables,
+) -> (O, Option<Listing>) {
+    match Driver::new(alloc, os, base, source) {
+        Err((_fault, os)) => (os, None),
+        Ok(mut driver) => {
+            let listing = driver.list(program, variables);
+            (driver.close(), Some(listing))
+        }
+    }
+}
+
+/// Appends the result of a listing: its outcome with the length of the list or the error, or the
+/// cause of a failed start.
+fn push_listing(out: &mut ExampleOutput, listing: &Option<Listing>) {
+    match listing {
+        None => out.push("no driver"),
+        Some(Listing::Refused(cause)) => write!(out, "Refused({cause:?})"),
+        Some(Listing::Ended(outcome, ListBytes::Read(bytes))) => {
+            write!(out, "{outcome:?}, {} bytes", bytes.len());
+        }
+        Some(Listing::Ended(how, bytes)) => write!(out, "{how:?}, {bytes:?}"),
+    }
+}
+
+/// Creates an ATF test program with the path `d/p`.
+fn program_of(alloc: Global) -> Result<Program> {
+    let (path, suite) = texts_of(alloc, "d/p", "s")?;
+    Ok(Program {
+        interface: Interface::Atf,
+        path,
+        suite,
+        props: Props::new(alloc),
+    })
+}
+
+/// Lists the cases of a program over a scripted system. The example has the directory of the driver
+/// (`base PATH`) and the variables of the configuration (`variable NAME=VALUE`).
+fn listed<'a>(
+    row: &Example<'_>,
+    scene: &'a Scene,
+) -> Result<(ScriptedSystem<'a>, Option<Listing>)> {
+    let alloc = scene.alloc;
+    let variables = pairs_of(alloc, row.entries.as_slice(), "variable");
+    let (program, variables) = both(program_of(alloc), variables)?;
+    let (base, source) = texts_of(alloc, row.text("base").unwrap_or(""), "/t")?;
+    let os = ScriptedSystem::new(scene);
+    Ok(asked_for_list(alloc, os, &base, source, &program, &variables))
+}
+
+/// Lists the cases of a program, and appends the first words of the calls and the result. With
+/// `show spawns`, also appends the programs that were started.
+fn list(out: &mut ExampleOutput, row: &Example<'_>, scene: &Scene) -> Result<()> {
+    let (os, listing) = listed(row, scene)?;
+    push_calls(out, "words", os.log.so_far()?)?;
+    if row.text("show") == Some("spawns") {
+        out.line(os.spawned.so_far()?.trim());
+    }
+    out.separate("\n");
+    push_listing(out, &listing);
+    Ok(())
+}
+
+/// Returns the number of bytes that are read of an endless file, and `true` if more bytes follow. A
+/// system reads up to `limit`; without a limit, a machine reads. Returns `None` if the read fails.
+fn front(alloc: Global, file: &mut EndlessReader, limit: Option<u64>) -> Option<(usize, bool)> {
+    let Some(limit) = limit else {
+        let bytes = read_start(alloc, file, MACHINE_LIMIT).ok()?;
+        return Some((bytes.len(), false));
+    };
+    match read_front(alloc, file, limit) {
+        Ok(FileRead::Part(bytes, follows)) => Some((bytes.len(), follows)),
+        _ => None,
+    }
+}
+
+/// Reads an endless file, and appends the result. The line `limit BYTES` makes a system read the
+/// file. Without that line, a machine reads the file.
+fn read(out: &mut ExampleOutput, row: &Example<'_>) -> Result<()> {
+    let mut file = EndlessReader {
+        piece: row.number("piece", 1)? as usize,
+        reads: row.number("reads", u64::MAX)?,
+        interrupted: row.text("interrupted").is_some(),
+        given: 0,
+        failed: 0,
+    };
+    let limit = row.text("limit").map(number).transpose()?;
+    let read = front(out.alloc, &mut file, limit);
+    let (given, failed) = (file.given, file.failed);
+    match read {
+        None => write!(out, "failed; {given} bytes given, {failed} reads failed"),
+        Some((length, follows)) => {
+            let more = if follows { " and more" } else { "" };
+            write!(out, "{length} bytes{more}; {given} given");
+        }
+    }
+    Ok(())
+}
+
+/// Executes an example of a scripted system. Its first line is `plan LETTERS`, `list` or `reader`.
+pub fn answer(out: &mut ExampleOutput, row: &Example<'_>) -> Result<()> {
+    let scene = scene_of(out.alloc, row)?;
+    match row.first()?.word {
+        "plan" => plan(out, row, scene),
+        "list" => list(out, row, &scene),
+        "reader" => read(out, row),
+        _ => Err(ExampleFault::Misspelled("nothing like that is asked of a system")),
+    }
+}

@@ -1,0 +1,121 @@
+use kt_base::{NoMemory, Text, Variable, Variables};
+use std::alloc::Global;
+use std::fmt::{Debug, Display};
+
+/// A text that is built piece by piece, such as the output of an example. `write!` appends to the
+/// text. After a failed allocation, pieces are ignored and `end` returns the error.
+#[derive(Drop)]
+pub struct ExampleOutput {
+    /// The allocator of the text.
+    pub alloc: Global,
+    text: String,
+    /// The first failed allocation, if any.
+    refusal: Option<NoMemory>,
+}
+
+impl ExampleOutput {
+    /// Creates an empty text.
+    pub fn new(alloc: Global) -> ExampleOutput {
+        ExampleOutput {
+            alloc,
+            text: String::new(alloc),
+            refusal: None,
+        }
+    }
+
+    /// Appends `text`, unless an earlier allocation failed.
+    pub fn push(&mut self, text: &str) {
+        if self.refusal.is_none() {
+            self.refusal = self.text.push_str(text).err().map(NoMemory::from);
+        }
+    }
+
+    /// Appends the text that `write!` formats.
+    pub fn write_fmt<D: Display + Drop>(&mut self, text: D) {
+        self.made(text.to_string(self.alloc));
+    }
+
+    /// Appends `separator`, unless the text is empty.
+    pub fn separate(&mut self, separator: &str) {
+        if !self.text.is_empty() {
+            self.push(separator);
+        }
+    }
+
+    /// Appends a newline, unless the text is empty, and then `text`.
+    pub fn line(&mut self, text: &str) {
+        self.separate("\n");
+        self.push(text);
+    }
+
+    /// Appends a newly allocated text, or records that its allocation failed.
+    fn made<E: Drop>(&mut self, text: Result<String, E>)
+    where
+        NoMemory: From<E>,
+    {
+        match text {
+            Ok(text) => self.push(text.as_str()),
+            Err(refusal) => self.fail(NoMemory::from(refusal)),
+        }
+    }
+
+    /// Appends `before` and then a name-value pair, with `sign` between name and value.
+    pub fn pair(&mut self, before: &str, pair: &Variable, sign: &str) {
+        let (name, value) = (pair.name.as_str(), pair.value.as_str());
+        write!(self, "{before}{name}{sign}{value}");
+    }
+
+    /// Appends name-value pairs, with `separator` between two pairs and `sign` in each pair.
+    pub fn pairs(&mut self, pairs: &Variables, separator: &str, sign: &str) {
+        let mut before = "";
+        for pair in pairs.as_slice() {
+            self.pair(before, pair, sign);
+            before = separator;
+        }
+    }
+
+    /// Appends a `Text`, or records that its allocation failed.
+    pub fn text(&mut self, text: Result<Text, NoMemory>) {
+        self.made(text.map(Text::into_string));
+    }
+
+    /// Appends bytes as text, with invalid UTF-8 replaced by U+FFFD.
+    pub fn bytes(&mut self, bytes: &[u8]) {
+        self.made(String::from_utf8_lossy(self.alloc, bytes));
+    }
+
+    /// Appends the name of the variant of `value`, without its fields.
+    pub fn name<T: Debug>(&mut self, value: &T) {
+        match format!(in self.alloc; "{value:?}") {
+            Ok(text) => self.push(text.as_str().split('(').next().unwrap_or("")),
+            Err(refusal) => self.fail(NoMemory::from(refusal)),
+        }
+    }
+
+    /// Records a failed allocation, unless an earlier one is recorded.
+    pub fn fail(&mut self, refusal: NoMemory) {
+        self.refusal = self.refusal.or(Some(refusal));
+    }
+
+    /// Returns the text that was appended so far. Allocates nothing.
+    ///
+    /// # Errors
+    ///
+    /// - `NoMemory`: an allocation for the text failed.
+    pub fn so_far(&self) -> Result<&str, NoMemory> {
+        match self.refusal {
+            None => Ok(self.text.as_str()),
+            Some(refusal) => Err(refusal),
+        }
+    }
+
+    /// Returns the whole text. Allocates nothing.
+    ///
+    /// # Errors
+    ///
+    /// - `NoMemory`: an allocation for the text failed.
+    pub fn end(self) -> Result<String, NoMemory> {
+        self.so_far()?;
+        Ok(self.text)
+    }
+}

@@ -1,0 +1,120 @@
+//! Lists of ATF test cases, and the cases of a program for each outcome of its listing.
+
+use crate::answer::ExampleOutput;
+use crate::escapes::unescaped;
+use crate::numbers::with_numbered;
+use crate::properties::{push_props, set_known};
+use crate::row::{Example, ExampleFault, Result, append, asked, both, due, halves};
+use crate::verdicts::{ending_of, push_reason, refused_of};
+use kt_atflist::{CaseDef, ListBytes, Listing, cases, parse_list};
+use kt_base::{Bytes, Interface, Items, Verdict};
+use kt_metadata::Props;
+use std::alloc::Global;
+
+/// The header of a list of ATF test cases, with the empty line after it.
+pub const HEADER: &str = "Content-Type: application/X-atf-tp; version=\"1\"\n\n";
+
+/// Returns a list of ATF test cases: the header, and then `blocks` with its escapes decoded.
+fn after_header(alloc: Global, blocks: &str) -> Result<Vec<u8>> {
+    let mut text = HEADER.as_bytes().to_vec(alloc)?;
+    append(alloc, &mut text, blocks)?;
+    Ok(text)
+}
+
+/// Creates the listing of a program that printed `text` and ended with the outcome `ending`.
+fn ended(ending: &str, text: Result<Vec<u8>>) -> Result<Listing> {
+    let (text, ending) = both(text, ending_of(ending))?;
+    Ok(Listing::Ended(ending, ListBytes::Read(Bytes::from_vec(text))))
+}
+
+/// Parses the listing of a program: `refused WHY`, or an outcome and then `blocks TEXT`,
+/// `list TEXT`, `unreadable` or `too-long`.
+fn listing_of(alloc: Global, text: &str) -> Result<Listing> {
+    if let Some(cause) = text.strip_prefix("refused ") {
+        return refused_of(cause).map(Listing::Refused);
+    }
+    if let Some(ending) = text.strip_suffix(" unreadable") {
+        return Ok(Listing::Ended(ending_of(ending)?, ListBytes::Unreadable));
+    }
+    if let Some(ending) = text.strip_suffix(" too-long") {
+        return Ok(Listing::Ended(ending_of(ending)?, ListBytes::TooLong));
+    }
+    if let Some((ending, blocks)) = text.split_once(" blocks ") {
+        return ended(ending, after_header(alloc, blocks));
+    }
+    let (ending, list) = halves(text, " list ", "an ending stands before a list")?;
+    ended(ending, unescaped(alloc, list))
+}
+
+/// Appends a case on a new line: its name, the properties that differ from the defaults, and its
+/// fault.
+fn push_case(out: &mut ExampleOutput, case: CaseDef) -> Result<()> {
+    let CaseDef { name, props, fault } = case;
+    out.line(name.as_str());
+    push_props(out, &props)?;
+    if let Some(reason) = fault {
+        out.push(": ");
+        return push_reason(out, &Verdict::broken(reason));
+    }
+    Ok(())
+}
+
+/// Appends cases, or only their number if the example contains the line `count`.
+fn push_cases(out: &mut ExampleOutput, row: &Example<'_>, found: Items<CaseDef>) -> Result<()> {
+    if row.text("count").is_some() {
+        write!(out, "{} cases", found.len());
+        return Ok(());
+    }
+    for case in found.into_vec() {
+        push_case(out, case)?;
+    }
+    Ok(())
+}
+
+/// Returns the list of an example: `list TEXT`, or the header followed by `blocks TEXT` and then
+/// `numbered COUNT TEXT`.
+fn list_text(alloc: Global, row: &Example<'_>) -> Result<Vec<u8>> {
+    if let Some(text) = row.text("list") {
+        return unescaped(alloc, text);
+    }
+    let blocks = due(row.text("blocks"), "no list")?;
+    with_numbered(alloc, after_header(alloc, blocks), row)
+}
+
+/// Parses the interface of a test program: `atf`, `tap` or `plain`.
+fn interface_of(word: &str) -> Result<Interface> {
+    match word {
+        "atf" => Ok(Interface::Atf),
+        "tap" => Ok(Interface::Tap),
+        "plain" => Ok(Interface::Plain),
+        _ => Err(ExampleFault::Misspelled("no such interface")),
+    }
+}
+
+/// Returns the cases of a program with the interface `word`. The lines `set NAME=VALUE` have the
+/// program's properties, and `lists LISTING` has the listing. By default the list is unreadable.
+fn program_cases(alloc: Global, row: &Example<'_>, word: &str) -> Result<Items<CaseDef>> {
+    let mut props = Props::new(alloc);
+    let mut lists = "exited 0 unreadable";
+    for line in row.entries.as_slice() {
+        match line.word {
+            "set" => set_known(alloc, &mut props, line.text)?,
+            "lists" => lists = line.text,
+            _ => {}
+        }
+    }
+    let (listing, interface) = both(listing_of(alloc, lists), interface_of(word))?;
+    asked(cases(alloc, interface, &props, &Some(listing)))
+}
+
+/// Appends the cases of a program or of a list, or the error's message for an invalid list.
+pub fn answer(out: &mut ExampleOutput, row: &Example<'_>) -> Result<()> {
+    if let Some(word) = row.text("program") {
+        return push_cases(out, row, program_cases(out.alloc, row, word)?);
+    }
+    match parse_list(out.alloc, &list_text(out.alloc, row)?) {
+        Ok(found) => return push_cases(out, row, found),
+        Err(fault) => write!(out, "{fault}"),
+    }
+    Ok(())
+}

@@ -1,0 +1,156 @@
+use crate::row::{ExampleFault, Result, asked, due};
+use kt_base::{Text, lossy};
+use std::alloc::Global;
+
+/// The maximum length, in bytes, of the text that a repetition makes.
+const LIMIT: usize = 33_554_432;
+
+/// A decoder of escapes: the bytes that remain, and the text that was decoded so far.
+#[derive(Drop)]
+struct Unescaper<'a> {
+    alloc: Global,
+    rest: &'a [u8],
+    text: Vec<u8>,
+    /// The count of an open repetition, and the index in `text` of its first byte.
+    open: Option<(usize, usize)>,
+}
+
+/// Parses a hexadecimal digit.
+fn hex(b: Option<u8>) -> Result<u32> {
+    let digit = char::from(b.unwrap_or(b' ')).to_digit(16);
+    due(digit, "\\x without two hexadecimal digits")
+}
+
+/// Appends `times` copies of `piece`, of at most 32 MiB together.
+fn push_times(text: &mut Vec<u8>, piece: &[u8], times: usize) -> Result<()> {
+    if piece.len().saturating_mul(times) > LIMIT {
+        return Err(ExampleFault::Misspelled("a text past 32 MiB"));
+    }
+    if let [b] = piece {
+        return asked(text.resize(text.len().saturating_add(times), *b));
+    }
+    for _ in 0..times {
+        text.extend_from_slice(piece)?;
+    }
+    Ok(())
+}
+
+/// Replaces the bytes of `text` from index `from` on by `times` copies.
+fn repeat(alloc: Global, text: &mut Vec<u8>, from: usize, times: usize) -> Result<()> {
+    let piece = text.get(from..).unwrap_or(&[]).to_vec(alloc)?;
+    text.truncate(from);
+    push_times(text, &piece, times)
+}
+
+impl Unescaper<'_> {
+    /// Returns the next byte to decode, or `None` at the end.
+    fn next(&mut self) -> Option<u8> {
+        let (b, rest) = self.rest.split_first()?;
+        self.rest = rest;
+        Some(*b)
+    }
+
+    /// Decodes the two hexadecimal digits after `\x`.
+    fn pair(&mut self) -> Result<()> {
+        let high = hex(self.next())?;
+        let low = hex(self.next())?;
+        let b = u8::try_from(high.wrapping_mul(16).wrapping_add(low));
+        asked(self.text.push(b.unwrap_or(0)))
+    }
+
+    /// Decodes the number and the open brace after `\*`.
+    fn times(&mut self) -> Result<()> {
+        let mut count: usize = 0;
+        for _ in 0..self.rest.len() {
+            match self.next() {
+                Some(b @ b'0'..=b'9') => {
+                    count = count.saturating_mul(10).saturating_add((b - b'0') as usize);
+                }
+                Some(b'{') => {
+                    self.open = Some((count, self.text.len()));
+                    return Ok(());
+                }
+                _ => break,
+            }
+        }
+        Err(ExampleFault::Misspelled("\\* without a number and a text in braces"))
+    }
+
+    /// Decodes an escape after its backslash.
+    fn escape(&mut self) -> Result<()> {
+        let b = match self.next() {
+            Some(b'x') => return self.pair(),
+            Some(b'*') => return self.times(),
+            Some(b'n') => b'\n',
+            Some(b't') => b'\t',
+            Some(b'r') => b'\r',
+            Some(b's') => b' ',
+            Some(b @ (b'\\' | b'}')) => b,
+            _ => return Err(ExampleFault::Misspelled("no such escape")),
+        };
+        asked(self.text.push(b))
+    }
+
+    /// Decodes the byte `b`, with the rest of its escape if it is a backslash. A closing brace ends
+    /// the open repetition.
+    fn take(&mut self, b: u8) -> Result<()> {
+        match self.open {
+            _ if b == b'\\' => self.escape(),
+            Some((times, from)) if b == b'}' => {
+                self.open = None;
+                repeat(self.alloc, &mut self.text, from, times)
+            }
+            _ => asked(self.text.push(b)),
+        }
+    }
+}
+
+/// Returns the bytes of `raw` with its escapes decoded.
+///
+/// # Errors
+///
+/// - `Misspelled`: an escape is invalid, a brace isn't closed, or a repetition makes more than 32
+///   MiB.
+/// - `NoMemory`: an allocation failed.
+pub fn unescaped(alloc: Global, raw: &str) -> Result<Vec<u8>> {
+    let mut reader = Unescaper {
+        alloc,
+        rest: raw.as_bytes(),
+        text: Vec::new(alloc),
+        open: None,
+    };
+    for _ in 0..raw.len() {
+        if let Some(b) = reader.next() {
+            reader.take(b)?;
+        }
+    }
+    if reader.open.is_some() {
+        return Err(ExampleFault::Misspelled("braces that aren't closed"));
+    }
+    Ok(reader.text)
+}
+
+/// Returns `raw` with its escapes decoded, as a text.
+///
+/// # Errors
+///
+/// - `Misspelled`: an escape is invalid, a brace isn't closed, a repetition makes more than 32 MiB,
+///   or the decoded bytes aren't UTF-8.
+/// - `NoMemory`: an allocation failed.
+pub fn text_of(alloc: Global, raw: &str) -> Result<Text> {
+    match String::from_utf8(unescaped(alloc, raw)?) {
+        Ok(string) => Ok(Text::from_string(string)),
+        Err(_) => Err(ExampleFault::Misspelled("a text is UTF-8")),
+    }
+}
+
+/// Returns `raw` with its escapes decoded, as a text with invalid UTF-8 replaced by U+FFFD.
+///
+/// # Errors
+///
+/// - `Misspelled`: an escape is invalid, a brace isn't closed, or a repetition makes more than 32
+///   MiB.
+/// - `NoMemory`: an allocation failed.
+pub fn lossy_of(alloc: Global, raw: &str) -> Result<Text> {
+    Ok(lossy(alloc, &unescaped(alloc, raw)?)?)
+}

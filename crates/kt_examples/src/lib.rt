@@ -1,0 +1,53 @@
+//! Parses `.rows` files of examples, and runs the examples that need no suite, process or store.
+#![tactic(auto)]
+
+mod answer;
+mod case_lists;
+mod configurations;
+mod entries;
+mod escapes;
+mod numbers;
+mod properties;
+mod reports;
+mod retry;
+mod row;
+mod row_file;
+mod scripted_writer;
+mod scripts;
+mod streams;
+mod verdicts;
+
+pub use answer::ExampleOutput;
+pub use case_lists::HEADER;
+pub use entries::{content_at, is_content, kind_of, push_entries, storable_entry};
+pub use escapes::{lossy_of, text_of, unescaped};
+pub use numbers::{count, number, number_to, numbered, numbers_of};
+pub use properties::push_props;
+pub use row::{
+    Example, ExampleFault, ExampleLine, Result, append, asked, both, due, halves, number_in,
+    pairs_of, push_made,
+};
+pub use row_file::read_rows;
+pub use scripted_writer::{ScriptedWriter, WriteFault};
+pub use verdicts::{ending_of, push_reason, push_verdict};
+
+/// Executes the example `row` of `subject`, and appends its output to `out`.
+///
+/// # Errors
+///
+/// - `Misspelled`: this crate has no such subject, or `row` doesn't have the format of its subject.
+/// - `NoMemory`: an allocation failed. A failed append to `out` is returned by [`ExampleOutput::end`]
+///   instead.
+pub fn push_answer(out: &mut ExampleOutput, subject: &str, row: &Example<'_>) -> Result<()> {
+    match subject {
+        "claims" => streams::answer(out, row, "file"),
+        "configurations" => configurations::answer(out, row),
+        "lists" => case_lists::answer(out, row),
+        "properties" => properties::answer(out, row),
+        "reports" => reports::answer(out, row),
+        "scripts" => scripts::answer(out, row),
+        "taps" => streams::answer(out, row, "tap"),
+        "verdicts" => verdicts::answer(out, row),
+        _ => Err(ExampleFault::Misspelled("no such subject")),
+    }
+}

@@ -1,0 +1,93 @@
+use crate::row::{Example, ExampleFault, ExampleLine, Result, asked};
+use std::alloc::Global;
+
+/// Splits a line of input at its first space into the keyword and the text.
+fn entry_of(line: &str) -> ExampleLine<'_> {
+    let (word, text) = line.split_once(' ').unwrap_or((line, ""));
+    let text = text.trim();
+    ExampleLine { word, text }
+}
+
+/// Splits a line at its arrow, ` -> `, into input and expected output. Without an arrow, all is
+/// input.
+fn parts(line: &str) -> (&str, Option<&str>) {
+    if let Some(front) = line.strip_suffix(" ->") {
+        return (front.trim(), Some(""));
+    }
+    match line.split_once(" -> ") {
+        Some((front, wanted)) => (front.trim(), Some(wanted.trim())),
+        None => (line, None),
+    }
+}
+
+/// Returns `true` if the last example has no expected output yet.
+fn is_open(rows: &[Example<'_>]) -> bool {
+    rows.last().is_some_and(|row| row.wanted.is_empty())
+}
+
+/// Appends a line to the expected output of the last example.
+fn take_answer<'a>(rows: &mut Vec<Example<'a>>, wanted: &'a str) -> Result<()> {
+    let fault = ExampleFault::Misspelled("an answer without a question");
+    asked(rows.last_mut().ok_or(fault)?.wanted.push(wanted))
+}
+
+/// Appends a line to the input of the last example, and the text after its arrow to the expected
+/// output.
+fn take_question<'a>(rows: &mut Vec<Example<'a>>, line: &'a str) -> Result<()> {
+    let (front, wanted) = parts(line);
+    if let Some(row) = rows.last_mut() {
+        row.entries.push(entry_of(front))?;
+    }
+    match wanted {
+        Some(wanted) => take_answer(rows, wanted),
+        None => Ok(()),
+    }
+}
+
+/// Parses one line of a `.rows` file, and adds it to the examples. Comments are skipped, and input
+/// after expected output begins an example.
+fn take<'a>(alloc: Global, rows: &mut Vec<Example<'a>>, line: u64, text: &'a str) -> Result<()> {
+    if text.is_empty() || text.starts_with('#') {
+        return Ok(());
+    }
+    if let Some(wanted) = text.strip_prefix("->") {
+        return take_answer(rows, wanted.trim());
+    }
+    if !is_open(rows) {
+        rows.push(Example {
+            line,
+            entries: Vec::new(alloc),
+            wanted: Vec::new(alloc),
+        })?;
+    }
+    take_question(rows, text)
+}
+
+/// Parses the text of a `.rows` file into its examples.
+///
+/// # Errors
+///
+/// Each error comes with the number of its line, counted from 1.
+///
+/// - `Misspelled`: expected output precedes all input, or the last example has no expected output.
+/// - `NoMemory`: an allocation failed.
+pub fn read_rows<'a>(
+    alloc: Global,
+    text: &'a str,
+) -> Result<Vec<Example<'a>>, (u64, ExampleFault)> {
+    let mut rows = Vec::new(alloc);
+    let mut number: u64 = 0;
+    for line in text.lines() {
+        number = number.saturating_add(1);
+        if let Err(fault) = take(alloc, &mut rows, number, line.trim()) {
+            return Err((number, fault));
+        }
+    }
+    if is_open(&rows) {
+        return Err((
+            number,
+            ExampleFault::Misspelled("the last row has no answer"),
+        ));
+    }
+    Ok(rows)
+}

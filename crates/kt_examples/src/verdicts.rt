@@ -1,0 +1,127 @@
+use crate::answer::ExampleOutput;
+use crate::escapes::unescaped;
+use crate::row::{Example, ExampleFault, Result, asked, both, due};
+use crate::scripted_writer::ScriptedWriter;
+use kt_base::{Kind, Outcome, Refused, Text, Verdict};
+use kt_claim::{Claim, Evidence, Tap, TapFault, read_claim, read_tap};
+use kt_status::{CleanupEnd, body_verdict, refused_verdict, with_cleanup};
+use std::alloc::Global;
+
+/// Appends the kind of a verdict, and a colon unless the kind is `passed`.
+fn push_kind(out: &mut ExampleOutput, verdict: &Verdict) {
+    let kind = verdict.kind();
+    out.push(kind.word());
+    if kind != Kind::Passed {
+        out.push(": ");
+    }
+}
+
+/// Appends the kind and the reason of a verdict, as `failed: REASON`.
+pub fn push_verdict(out: &mut ExampleOutput, verdict: &Verdict) {
+    push_kind(out, verdict);
+    let mut reason = Text::new(out.alloc);
+    let written = verdict.write_reason(&mut reason);
+    out.text(written.map(|()| reason));
+}
+
+/// Returns the reason of a verdict, as `print_reason` prints it to a writer.
+fn printed_reason(alloc: Global, verdict: &Verdict) -> Result<String> {
+    let mut page = ScriptedWriter::new(alloc);
+    let _ = verdict.print_reason(&mut page);
+    asked(page.text(alloc))
+}
+
+/// Returns the reason of a verdict, as `write_reason` appends it to the text `so: `.
+fn written_reason(alloc: Global, verdict: &Verdict) -> Result<Text> {
+    let mut written = Text::from_str(alloc, "so: ")?;
+    verdict.write_reason(&mut written)?;
+    Ok(written)
+}
+
+/// Appends the reason of a verdict, and checks that `print_reason` and `write_reason` agree. If the
+/// texts differ, appends ` but ` and the second text.
+///
+/// # Errors
+///
+/// - `NoMemory`: an allocation failed.
+pub fn push_reason(out: &mut ExampleOutput, verdict: &Verdict) -> Result<()> {
+    let printed = printed_reason(out.alloc, verdict);
+    let (printed, written) = both(printed, written_reason(out.alloc, verdict))?;
+    out.push(printed.as_str());
+    if written.as_str().strip_prefix("so: ") != Some(printed.as_str()) {
+        write!(out, " but {}", written.as_str());
+    }
+    Ok(())
+}
+
+/// Parses the cause of a failed start: `directory`, `output`, `spawn` or `memory`.
+pub fn refused_of(text: &str) -> Result<Refused> {
+    match text {
+        "directory" => Ok(Refused::Directory),
+        "output" => Ok(Refused::Output),
+        "spawn" => Ok(Refused::Spawn),
+        "memory" => Ok(Refused::Memory),
+        _ => Err(ExampleFault::Misspelled("no such refusal")),
+    }
+}
+
+/// Parses an exit status or the number of a signal, from 0 to 255.
+fn number(text: &str) -> Result<u8> {
+    due(text.parse::<u8>().ok(), "no number from 0 to 255")
+}
+
+/// Parses the outcome of a child: `exited 3`, `signaled 9`, `signaled 6 core`, `timed out` or
+/// `not waited for`. Allocates nothing.
+///
+/// # Errors
+///
+/// - `Misspelled`: `text` isn't an outcome, or its number isn't from 0 to 255.
+pub fn ending_of(text: &str) -> Result<Outcome> {
+    let (word, rest) = text.split_once(' ').unwrap_or((text, ""));
+    let front = rest.strip_suffix(" core");
+    match word {
+        "exited" => number(rest).map(Outcome::Exited),
+        "signaled" => Ok(Outcome::Signaled(number(front.unwrap_or(rest))?, front.is_some())),
+        _ if text == "timed out" => Ok(Outcome::TimedOut),
+        _ if text == "not waited for" => Ok(Outcome::WaitFailed),
+        _ => Err(ExampleFault::Misspelled("no such ending")),
+    }
+}
+
+/// Parses the first line of an example into the evidence of a case. The line is `file TEXT`,
+/// `tap TEXT`, `plain`, `no-file`, `file-unread` or `tap-unread`.
+fn evidence_of(alloc: Global, row: &Example<'_>) -> Result<Evidence> {
+    let line = row.first()?;
+    match line.word {
+        "file" => asked(read_claim(alloc, &unescaped(alloc, line.text)?)).map(Evidence::Atf),
+        "tap" => asked(read_tap(alloc, &unescaped(alloc, line.text)?)).map(Evidence::Tap),
+        "plain" => Ok(Evidence::Plain),
+        "no-file" => Ok(Evidence::Atf(Claim::Missing)),
+        "file-unread" => Ok(Evidence::Atf(Claim::Unreadable)),
+        "tap-unread" => Ok(Evidence::Tap(Tap::Invalid(TapFault::Unreadable))),
+        _ => Err(ExampleFault::Misspelled("no evidence")),
+    }
+}
+
+/// Returns the verdict of a case whose body ended, with its cleanup if the example has one.
+fn verdict_of_body(alloc: Global, row: &Example<'_>) -> Result<Verdict> {
+    let body = ending_of(due(row.text("body"), "no body")?)?;
+    let verdict = body_verdict(evidence_of(alloc, row)?, body);
+    match row.text("cleanup") {
+        None => Ok(verdict),
+        Some("refused") => Ok(with_cleanup(verdict, CleanupEnd::Refused)),
+        Some(ending) => Ok(with_cleanup(verdict, CleanupEnd::Ended(ending_of(ending)?))),
+    }
+}
+
+/// Appends the verdict of the case that an example describes. The example has the evidence,
+/// `body ENDING`, and for a case with a cleanup `cleanup ENDING` or `cleanup refused`. An example
+/// of a body that can't be started has only `refused WHY`.
+pub fn answer(out: &mut ExampleOutput, row: &Example<'_>) -> Result<()> {
+    let verdict = match row.text("refused") {
+        Some(refused) => refused_verdict(refused_of(refused)?),
+        None => verdict_of_body(out.alloc, row)?,
+    };
+    push_kind(out, &verdict);
+    push_reason(out, &verdict)
+}

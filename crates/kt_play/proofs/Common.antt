@@ -1,5 +1,0 @@
--- Re-exports the names that most proofs of this crate cite. Declares nothing.
-pub use Rattle.kt_base.specs.declared.child.Role.{Role}
-pub use Rattle.kt_sched.specs.Plan.{IsFit, IsPlan}
-pub use Rattle.kt_sched.specs.declared.job.Job.{Job}
-pub use Rattle.kt_play.specs.Children.{owed, shown}

@@ -1,0 +1,73 @@
+ghost use Rattle.std.specs.Prelude.{◌≤◌, IfOk, length};
+ghost use Rattle.kt_cli.specs.Machines.{read_limit};
+
+use kt_base::{Bytes, LATEST_MOMENT};
+use kt_cli::HostFiles;
+use kt_doubles::{Scene, ask_too_much};
+use kt_suite::ReadFault;
+use std::alloc::Global;
+
+/// The maximum number of bytes that are read of a file.
+const READ_LIMIT: usize = 1_048_577;
+
+/// A `HostFiles` with the files, programs and clock of a scene.
+#[derive(Drop)]
+pub struct ScriptedFiles<'a> {
+    /// The script.
+    pub scene: &'a Scene,
+    /// The number of timestamps that were returned.
+    pub told: usize,
+}
+
+/// Returns a copy of the first `READ_LIMIT` bytes, or of all bytes if they are fewer.
+fn front_of(alloc: Global, bytes: &[u8]) -> Result<Bytes, ReadFault>
+    ensures { IfOk result (λ bytes. length bytes ≤ read_limit) }
+{
+    let count = bytes.len().min(READ_LIMIT);
+    match Bytes::from_slice(alloc, &bytes[..count]) {
+        Ok(front) => Ok(front),
+        Err(refusal) => Err(ReadFault::Memory(refusal)),
+    }
+}
+
+impl HostFiles for ScriptedFiles<'_> {
+    // The script decides each result, so the relation is trivial.
+    ghost answers = { λ _ _ _. Unit {0} };
+
+    fn front(&mut self, path: &str) -> Result<Bytes, ReadFault> {
+        if self.scene.has("dear", path) {
+            if let Err(refusal) = ask_too_much(self.scene.alloc) {
+                return Err(ReadFault::Memory(refusal));
+            }
+        }
+        if self.scene.has("locked", path) {
+            return Err(ReadFault::Failed);
+        }
+        match self.scene.bytes_at(path) {
+            None => Err(ReadFault::Missing),
+            Some(bytes) => front_of(self.scene.alloc, bytes),
+        }
+    }
+
+    fn is_file(&mut self, path: &str) -> bool {
+        self.scene.has("program", path)
+    }
+
+    fn is_there(&mut self, path: &str) -> bool {
+        self.scene.has("found-file", path)
+    }
+
+    fn is_program(&mut self, path: &str) -> bool {
+        self.scene.has("found-program", path)
+    }
+
+    fn moment(&mut self) -> u64 {
+        let moments = self.scene.clock.as_slice();
+        let told = self.told;
+        self.told = told.saturating_add(1);
+        match moments.get(told).or(moments.last()) {
+            Some(moment) => (*moment).min(LATEST_MOMENT),
+            None => 0,
+        }
+    }
+}

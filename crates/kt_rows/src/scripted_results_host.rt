@@ -1,0 +1,90 @@
+use kt_base::{NoMemory, Text};
+use kt_child::DriverFault;
+use kt_cli::{ProcessEnv, ResultsHost};
+use kt_examples::ExampleOutput;
+use kt_store::{Access, ResultStore, StoreFault};
+use std::alloc::Global;
+
+/// A `ResultsHost` that opens one results store for any file name, and logs its calls.
+#[derive(Drop)]
+pub struct ScriptedResultsHost<R: ResultStore + Drop> {
+    /// The results store while it is closed.
+    pub results: Option<R>,
+    /// The error of opening the results store, if it fails.
+    pub not_opened: Option<StoreFault>,
+    /// The error of closing the results store, if it fails.
+    pub not_closed: Option<StoreFault>,
+    /// The error of reading the surroundings, if it fails.
+    pub not_found: Option<DriverFault>,
+    /// The value of `PATH`, if it is set.
+    pub path: Option<Text>,
+    /// The value of `USER`, if it is set.
+    pub user: Option<Text>,
+    /// The calls, separated by commas: `open FILE`, `process_env` and `close`.
+    pub calls: ExampleOutput,
+}
+
+impl<R: ResultStore + Drop> ScriptedResultsHost<R> {
+    /// Creates a platform with the results store `results`, whose calls don't fail.
+    pub fn new(alloc: Global, results: R) -> ScriptedResultsHost<R> {
+        ScriptedResultsHost {
+            results: Some(results),
+            not_opened: None,
+            not_closed: None,
+            not_found: None,
+            path: None,
+            user: None,
+            calls: ExampleOutput::new(alloc),
+        }
+    }
+
+    /// Logs a call, and fails if the log's allocation fails for the first time.
+    fn note(&mut self, word: &str, file: &str) -> Result<(), NoMemory> {
+        let was_refused = self.calls.so_far().is_err();
+        self.calls.separate(", ");
+        write!(self.calls, "{word}{file}");
+        if !was_refused {
+            self.calls.so_far()?;
+        }
+        Ok(())
+    }
+
+    /// Returns the surroundings of the process: the directory `/here`, and the variables `PATH` and
+    /// `USER`.
+    fn around(&self) -> Result<ProcessEnv, NoMemory> {
+        let here = Text::from_str(self.calls.alloc, "/here")?;
+        let path = self.path.as_ref().map(Text::copy).transpose()?;
+        let user = self.user.as_ref().map(Text::copy).transpose()?;
+        Ok(ProcessEnv { here, path, user })
+    }
+}
+
+impl<R: ResultStore + Drop> ResultsHost for ScriptedResultsHost<R> {
+    type Results = R;
+
+    // The script decides the result of each call, so the relation is trivial.
+    ghost provides = { λ _ _ _. Unit {0} };
+
+    fn open(&mut self, file: &Text, _access: Access) -> Result<R, StoreFault> {
+        self.note("open ", file.as_str())?;
+        match self.not_opened {
+            Some(fault) => Err(fault),
+            None => self.results.take().ok_or(StoreFault::UnknownSchema),
+        }
+    }
+
+    fn close(&mut self, results: R) -> Result<(), StoreFault> {
+        self.results = Some(results);
+        self.note("close", "")?;
+        self.not_closed.map_or(Ok(()), Err)
+    }
+
+    fn process_env(&mut self) -> Result<ProcessEnv, DriverFault> {
+        self.note("surroundings", "")
+            .map_err(DriverFault::NoMemory)?;
+        match self.not_found {
+            Some(fault) => Err(fault),
+            None => self.around().map_err(DriverFault::NoMemory),
+        }
+    }
+}
