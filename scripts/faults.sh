@@ -227,7 +227,7 @@ if self.written.is_err() {
 BODY
 
 # The store failed where SQLite, a tree or the system says so, or where a test of what was read fails.
-rule 'makes a failed store' paths '(^|[^A-Za-z_])FAULTY|FailedStatement [{] is|Shortage[(]|Trouble::[A-Z][A-Za-z]*[(][A-Z]|(^|[^A-Za-z])(Store|Sql|Write)Error::|sqlite::Error::' <<'PLACES'
+rule 'makes a failed store' paths '(^|[^A-Za-z_])FAULTY|FailedStatement [{] is|Shortage[(]|StoreFailure::[A-Z][A-Za-z]*[(][A-Z]|(^|[^A-Za-z])(Store|Sql|Write)Error::|sqlite::Error::' <<'PLACES'
 # The values, and the functions that take an error.
 kt_store/src/store_fault/mod.rt
 kt_store/src/store_fault/rules.rt
