@@ -9,5 +9,6 @@ pub mod Names
 pub mod Numbers
 pub mod PartTexts
 pub mod PhraseWords
+pub mod Pieces
 pub mod Showing
 pub mod Texts

@@ -18,6 +18,6 @@ pub use Rattle.kt_base.specs.Shows.{Shows, joined}
 pub use Rattle.kt_base.specs.Texts.{after, before, is_empty}
 pub use Rattle.kt_base.specs.Utf8.{utf8}
 pub use Rattle.kt_base.specs.Verdicts.{broken, expected_failure, failed, passed, skipped}
-pub use Rattle.kt_base.specs.Words.{named, row_in}
+pub use Rattle.kt_base.specs.Words.{byte_row_in, named, row_in}
 pub use Rattle.kt_base.specs.declared.variable.Variable.{Variable}
 pub use Rattle.kt_base.specs.declared.verdict.Kind.TheVariants.{Passed}

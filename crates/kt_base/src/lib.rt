@@ -36,4 +36,4 @@ pub use text::Text;
 pub use variable::Variable;
 pub use variables::Variables;
 pub use verdict::{Kind, Reason, Verdict};
-pub use words::named;
+pub use words::{named, named_bytes};

@@ -1,10 +1,13 @@
-ghost use Rattle.std.specs.Prelude.{◌≡◌, [], ◌∷◌, ◌++◌, List, ℕ, IfOk, OnOk, OnErr};
+ghost use Rattle.std.specs.Prelude.{◌≡◌, ◌<◌, ◌==◌, [], ◌∷◌, ◌++◌, List, ℕ, IfOk, OnOk, OnErr, bytes_eq};
+ghost use Rattle.std.specs.Cmp.{partial_equiv_from_equiv};
+ghost use Rattle.std.specs.Cmp.Lexicographic.{nat_list_eq_equiv};
 ghost use Rattle.std.specs.Fmt.{decimal};
+ghost use Rattle.std.specs.List.{slice_split};
 ghost use Rattle.std.specs.Str.{chars};
 ghost use Rattle.std.specs.String.{string_bytes};
 ghost use Rattle.kt_base.specs.Utf8.{utf8};
 
-use crate::NoMemory;
+use crate::{Items, NoMemory};
 use std::alloc::Global;
 use std::marker::Model;
 
@@ -29,8 +32,17 @@ impl Model for Text {
     ghost view = { λ t. chars (string_bytes t.string) };
 }
 
+impl PartialEq for Text {
+    ghost eq = { bytes_eq };
+
+    ghost laws = { partial_equiv_from_equiv nat_list_eq_equiv };
+
+    fn eq(&self, other: &Text) -> bool {
+        self.as_str() == other.as_str()
+    }
+}
+
 impl Text {
-    ghost use Rattle.std.specs.Prelude.{bytes_eq};
     ghost use Rattle.kt_base.specs.Common.{is_empty, before, after};
 
     /// Creates an empty text. Allocates nothing.
@@ -156,6 +168,23 @@ impl Text {
                 Some(Text::from_str(self.allocator(), rest)?),
             )),
         }
+    }
+
+    /// Splits the text at each ASCII character `sign` and returns copies of the parts.
+    ///
+    /// # Errors
+    ///
+    /// - `NoMemory`: an allocation fails.
+    pub fn split(&self, sign: char) -> Result<Items<Text>, NoMemory>
+        requires ascii { sign < 128 }
+        ensures { IfOk result (λ parts. parts ≡ slice_split (λ c. c == sign) self.now) }
+    {
+        let between: Vec<&str> = self.as_str().split(sign).collect(self.allocator())?;
+        let mut parts = Items::new(self.allocator());
+        for part in &between {
+            parts.push(Text::from_str(self.allocator(), *part)?)?;
+        }
+        Ok(parts)
     }
 
     /// Copies the text into a new allocation.

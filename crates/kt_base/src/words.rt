@@ -1,5 +1,5 @@
 ghost use Rattle.std.specs.Prelude.{◌≡◌, map};
-ghost use Rattle.kt_base.specs.Common.{named, row_in};
+ghost use Rattle.kt_base.specs.Common.{byte_row_in, named, row_in};
 
 use crate::Text;
 
@@ -9,6 +9,18 @@ pub fn named<T: Copy>(word: &Text, table: &[(&str, T)]) -> Option<T>
 {
     for row in table {
         if word.is_word(row.0) {
+            return Some(row.1);
+        }
+    }
+    None
+}
+
+/// Returns the value of the first table row whose keyword has the bytes `word`, or `None`.
+pub fn named_bytes<T: Copy>(word: &[u8], table: &[(&str, T)]) -> Option<T>
+    ensures { result ≡ named (map byte_row_in table.now) word.now }
+{
+    for row in table {
+        if word == row.0.as_bytes() {
             return Some(row.1);
         }
     }
