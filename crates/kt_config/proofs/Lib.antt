@@ -3,4 +3,3 @@ pub mod Puttings
 pub mod Entries
 pub mod Adding
 pub mod Answering
-pub mod Parts

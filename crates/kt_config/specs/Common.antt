@@ -10,7 +10,7 @@ pub use Rattle.kt_script.specs.declared.syntax.Stmt.{Stmt}
 pub use Rattle.kt_config.specs.Forms.{has_zero, is_strange, is_variable, is_zero}
 pub use Rattle.kt_config.specs.Holding.{Adds, Holds}
 pub use Rattle.kt_config.specs.Inner.{AddsToSuite, Gives, fault_of_script, group_in}
-pub use Rattle.kt_config.specs.Names.{definition_named, dotted}
+pub use Rattle.kt_config.specs.Names.{definition_named}
 pub use Rattle.kt_config.specs.Reading.{Answers, Becomes, IfFault, IsDue, IsRead, Refuses, definitions_in, is_opening, is_version, meaning_of, outcome_of}
 pub use Rattle.kt_config.specs.Values.{Group, IsSettled, Values, variable_in, variables_in, variables_of}
 pub use Rattle.kt_config.specs.declared.fault.ConfigFault.{ConfigFault}

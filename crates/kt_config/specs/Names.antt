@@ -1,7 +1,6 @@
 -- The variables by name, and the definitions of their values.
-use Rattle.std.specs.Prelude.{ℕ, Bool, true, false, not, ◌==◌, ◌&&◌, List, [], ◌∷◌, map, chars, Option, Some, None, Result, Ok, Err, bytes_eq, codes, if◌then◌else◌}
+use Rattle.std.specs.Prelude.{ℕ, Bool, true, false, not, ◌==◌, ◌&&◌, List, [], ◌∷◌, Option, Some, None, Result, Ok, Err, bytes_eq, codes, if◌then◌else◌}
 use Rattle.std.specs.List.{slice_split}
-use Rattle.kt_base.specs.Utf8.{utf8}
 use Rattle.kt_config.specs.declared.meaning.Definition.{Definition}
 use Rattle.kt_config.specs.declared.meaning.Definition.TheVariants.{Architecture, Platform, Parallelism, UnprivilegedUser, OfSuite}
 use Rattle.kt_config.specs.declared.fault.ConfigFault.{ConfigFault}
@@ -55,7 +54,7 @@ definition_of (root ∷ suite ∷ name ∷ more ∷ rest) value = Err UnknownVar
 
 -- `dotted name`: the parts of `name` between its dots.
 abbrev pub dotted : List ℕ → List (List ℕ)
-dotted name = map chars (slice_split (λ b. b == 46) (utf8 name))
+dotted name = slice_split (λ c. c == 46) name
 
 -- `definition_named name value`: the definition of the variable with the dotted `name` as `value`.
 abbrev pub definition_named : List ℕ → List ℕ → Meaning

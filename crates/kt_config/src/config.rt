@@ -5,7 +5,6 @@ use crate::meaning::{Definition, definition_of};
 use crate::reading::{read_script, script_fault};
 use crate::suites::Suites;
 use crate::width::Width;
-use crate::words::dotted;
 use crate::{ConfigFault, SuiteVariables};
 use kt_base::{NoMemory, Text};
 use kt_script::parse;
@@ -147,7 +146,7 @@ impl Config {
             definition_named name.now value.now ≡ Err fault) }
         ensures err { OnErr result (self.new ≡ self.old) }
     {
-        let parts = dotted(self.alloc, name)?;
+        let parts = name.split('.')?;
         let definition = definition_of(parts.as_slice(), value.copy()?)??;
         self.define(definition)?;
         Ok(())

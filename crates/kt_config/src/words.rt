@@ -1,8 +1,7 @@
-ghost use Rattle.std.specs.Prelude.{◌≡◌, chars, IfOk};
-ghost use Rattle.kt_config.specs.Common.{list_any, string_bytes, is_zero, is_strange, has_zero, is_variable, dotted};
+ghost use Rattle.std.specs.Prelude.{◌≡◌, chars};
+ghost use Rattle.kt_config.specs.Common.{list_any, string_bytes, is_zero, is_strange, has_zero, is_variable};
 
-use kt_base::{Items, NoMemory, Text};
-use std::alloc::Global;
+use kt_base::Text;
 
 /// Returns `true` if `text` contains a zero byte.
 pub fn has_zero(text: &Text) -> bool
@@ -41,16 +40,4 @@ pub fn key_of(text: Text) -> String
     // No effect: `as_str` shows the prover that the bytes encode the characters.
     let _characters = text.as_str();
     text.into_string()
-}
-
-/// Splits `name` at its dots and returns copies of the parts.
-pub fn dotted(alloc: Global, name: &Text) -> Result<Items<Text>, NoMemory>
-    ensures { IfOk result (λ parts. parts ≡ dotted name.now) }
-{
-    let between: Vec<&str> = name.as_str().split('.').collect(alloc)?;
-    let mut parts = Items::new(alloc);
-    for part in &between {
-        parts.push(Text::from_str(alloc, *part)?)?;
-    }
-    Ok(parts)
 }
