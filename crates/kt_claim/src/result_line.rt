@@ -1,13 +1,13 @@
 //! Parses a result file, from left to right.
 
-ghost use Rattle.std.specs.Prelude.{◌≡◌, ◌≤◌, ◌<◌, length, IfOk, option_map};
+ghost use Rattle.std.specs.Prelude.{◌≡◌, ◌≤◌, length, IfOk, option_map};
 ghost use Rattle.std.specs.List.{prefix_len};
 ghost use Rattle.kt_claim.specs.Bytes.{is_word_byte};
 ghost use Rattle.kt_claim.specs.ResultFile.{limit};
 ghost use Rattle.kt_claim.specs.Inner.ResultReading.{number_in, reason_in, numbered, claim_with, after_bracket, claim_of, word_of, may_have_number};
 
 use crate::{Claim, ClaimFault};
-use kt_base::{NoMemory, Text, decimal_up_to, digits_length, lossy};
+use kt_base::{NoMemory, Text, decimal_up_to, digits_length, lossy, named_bytes};
 use std::alloc::Global;
 
 /// A keyword of a result file.
@@ -23,37 +23,25 @@ pub enum Word {
     ExpectedSignal,
 }
 
+/// The keywords of result files.
+const WORDS: [(&str, Word); 8] = [
+    ("passed", Word::Passed),
+    ("failed", Word::Failed),
+    ("skipped", Word::Skipped),
+    ("expected_death", Word::ExpectedDeath),
+    ("expected_failure", Word::ExpectedFailure),
+    ("expected_timeout", Word::ExpectedTimeout),
+    ("expected_exit", Word::ExpectedExit),
+    ("expected_signal", Word::ExpectedSignal),
+];
+
 impl Word {
     /// Returns the keyword that is spelled `word`, if there is one.
     #[tactic(auto, unfolding(crate::specs::Inner::ResultReading::word_of))]
     pub fn of(word: &[u8]) -> Option<Word>
         ensures { result ≡ word_of word.now }
     {
-        if word == b"passed".as_slice() {
-            return Some(Word::Passed);
-        }
-        if word == b"failed".as_slice() {
-            return Some(Word::Failed);
-        }
-        if word == b"skipped".as_slice() {
-            return Some(Word::Skipped);
-        }
-        if word == b"expected_death".as_slice() {
-            return Some(Word::ExpectedDeath);
-        }
-        if word == b"expected_failure".as_slice() {
-            return Some(Word::ExpectedFailure);
-        }
-        if word == b"expected_timeout".as_slice() {
-            return Some(Word::ExpectedTimeout);
-        }
-        if word == b"expected_exit".as_slice() {
-            return Some(Word::ExpectedExit);
-        }
-        if word == b"expected_signal".as_slice() {
-            return Some(Word::ExpectedSignal);
-        }
-        None
+        named_bytes(word, &WORDS)
     }
 
     /// Returns `true` if a number in round brackets may follow the keyword.
