@@ -44,11 +44,10 @@ fn next_word(alloc: Global, words: &mut Items<Text>, word: Text, c: char) -> Res
 pub fn words(alloc: Global, text: &Text) -> Result<Items<Text>, NoMemory>
     ensures { IfOk result (λ found. found ≡ words text.now) }
 {
-    let characters = text.characters()?;
     let mut found = Items::new(alloc);
     let mut word = Text::new(alloc);
-    for c in &characters {
-        word = next_word(alloc, &mut found, word, *c)?;
+    for c in text.as_str().chars() {
+        word = next_word(alloc, &mut found, word, c)?;
     }
     end_word(&mut found, word)?;
     Ok(found)
