@@ -1,6 +1,6 @@
 -- Re-exports the names that most proofs of this crate cite. Declares nothing.
 pub use Rattle.std.proofs.lemmas.Iterator.{YieldsList-from_slice, items_from_collect}
-pub use Rattle.std.specs.List.{list_all, onto_first, prefix_len}
+pub use Rattle.std.specs.List.{list_all}
 unfoldable pub use Rattle.std.specs.Str.{chars}
 pub use Rattle.clap.proofs.WalkLemmas.{first_value-rows, raw_values-rows}
 pub use Rattle.clap.specs.Simple.{app_of_fields, argument_words, entered, label_of, names_of, on_top, rows_at}
@@ -9,6 +9,5 @@ pub use Rattle.clap.specs.declared.builder.command.Command.TheViews.{out-Command
 pub use Rattle.clap.specs.declared.parser.matches.ArgMatches.TheViews.{out-ArgMatches, out-SubCommand}
 pub use Rattle.kt_base.specs.declared.verdict.Kind.{Kind}
 pub use Rattle.kt_args.specs.Grammar.{bare_app, kyua_app}
-pub use Rattle.kt_args.specs.Inner.Reading.{is_inside}
 pub use Rattle.kt_args.specs.Reading.{Reads, RefusesWords, command_in, junit_in, junit_with, kinds_of, options_in, report_in, report_with, results_in, run_of, texts_given}
 pub use Rattle.kt_args.specs.Words.{comma_words, kind_named, kinds_named, with_kind}

@@ -1,45 +1,32 @@
-ghost use Rattle.std.specs.Prelude.{◌≡◌, ◌≤◌, length, IfOk};
-ghost use Rattle.kt_args.specs.Common.{ReadsKinds, comma_words, default_kinds, is_inside, kind_named, kinds_named, prefix_len};
+ghost use Rattle.std.specs.Prelude.{◌≡◌, map, IfOk};
+ghost use Rattle.kt_args.specs.Common.{ReadsKinds, comma_words, default_kinds, kind_named, kinds_named};
 
 use crate::CommandFault;
-use kt_base::{Items, Kind, NoMemory};
+use kt_base::{Items, Kind, NoMemory, named_bytes};
 use std::alloc::Global;
+
+/// The result kinds by their names in `--results-filter`.
+const KINDS: [(&str, Kind); 5] = [
+    ("passed", Kind::Passed),
+    ("skipped", Kind::Skipped),
+    ("xfail", Kind::ExpectedFailure),
+    ("broken", Kind::Broken),
+    ("failed", Kind::Failed),
+];
 
 /// Returns the result kind that an element of `--results-filter` names, if it names any.
 fn kind_of(word: &[u8]) -> Option<Kind>
     ensures { result ≡ kind_named word.now }
 {
-    if word == b"passed".as_slice() {
-        return Some(Kind::Passed);
-    }
-    if word == b"skipped".as_slice() {
-        return Some(Kind::Skipped);
-    }
-    if word == b"xfail".as_slice() {
-        return Some(Kind::ExpectedFailure);
-    }
-    if word == b"broken".as_slice() {
-        return Some(Kind::Broken);
-    }
-    if word == b"failed".as_slice() {
-        return Some(Kind::Failed);
-    }
-    None
+    named_bytes(word, &KINDS)
 }
 
-/// Returns `true` if `c` is not a comma, which separates the elements of a results filter.
-fn is_inside(c: u8) -> bool
-    ensures { result ≡ is_inside c }
+/// Returns the elements of a comma-separated list.
+fn elements(alloc: Global, words: &[u8]) -> Result<Vec<&[u8]>, NoMemory>
+    ensures { IfOk result (λ elements.
+        map (λ element. element.now) elements.items ≡ comma_words words.now) }
 {
-    c != b','
-}
-
-/// Returns the length of the first element of a comma-separated list, in bytes.
-fn word_length(words: &[u8]) -> usize
-    ensures value { result ≡ prefix_len is_inside words.now }
-    ensures within { result ≤ length words.now }
-{
-    words.iter().take_while(|c| is_inside(**c)).count()
+    Ok(words.split(|c| *c == b',').collect(alloc)?)
 }
 
 /// Parses a results filter: result kinds separated by commas, in their order.
@@ -48,19 +35,15 @@ fn word_length(words: &[u8]) -> usize
 pub fn kinds_in(alloc: Global, words: &[u8]) -> Result<Items<Kind>, CommandFault>
     ensures { ReadsKinds (kinds_named (comma_words words.now)) result }
 {
+    let elements = elements(alloc, words)?;
     let mut kinds = Items::new(alloc);
-    let mut rest = words;
-    'words: loop {
-        let (word, after) = rest.split_at(word_length(rest));
-        let Some(kind) = kind_of(word) else {
+    for element in &elements {
+        let Some(kind) = kind_of(*element) else {
             return Err(CommandFault::BadKind);
         };
         kinds.push(kind)?;
-        let Some((_, more)) = after.split_first() else {
-            return Ok(kinds);
-        };
-        rest = more;
     }
+    Ok(kinds)
 }
 
 /// Returns the result kinds that `report` shows without a filter: all but `Passed`.

@@ -1,12 +1,8 @@
 -- Results of the private functions that read a command line.
-use Rattle.std.specs.Prelude.{◌≡◌, ◌==◌, ⊤, ℕ, Bool, not, List, Option, Some, None, Result, Ok, Err}
+use Rattle.std.specs.Prelude.{◌≡◌, ⊤, ℕ, List, Option, Some, None, Result, Ok, Err}
 use Rattle.kt_base.specs.declared.verdict.Kind.{Kind}
 use Rattle.kt_args.specs.declared.command_fault.CommandFault.{CommandFault}
 use Rattle.kt_args.specs.declared.command_fault.CommandFault.TheVariants as fault
-
--- `is_inside c`: `c` is not a comma.
-abbrev pub is_inside : ℕ → Bool
-is_inside c = not (c == 44)
 
 -- `ReadsRun right result`: `result` is the run `right`, or `BadRun` if `right` is `None`.
 abbrev pub ReadsRun : Option (Option ℕ) → Result (Option ℕ) CommandFault → Type 0
