@@ -17,7 +17,7 @@ pub use Rattle.kt_atflist.specs.BlockLines.{ident_in, is_name, key_in, value_in}
 pub use Rattle.kt_atflist.specs.Blocks.{is_given, is_good, is_listed, named, with_property}
 pub use Rattle.kt_atflist.specs.Cases.{AreCases, list_case, listed, main_case, over_program, plain, tap, unlisted}
 pub use Rattle.kt_atflist.specs.Inner.Keys.{characters, name_of, names_of}
-pub use Rattle.kt_atflist.specs.Inner.ListReader.{begin_with, closed, go_on, go_on_with, led, name_from, nothing_read, read_blocks, read_from, read_lines, read_list, read_second, set_property, step_from}
+pub use Rattle.kt_atflist.specs.Inner.Reading.{begin_with, closed, go_on, go_on_with, led, name_from, nothing_read, read_blocks, read_from, read_lines, read_list, read_second, set_property, step_from}
 pub use Rattle.kt_atflist.specs.Listings.{IsRead, Lists, ended_reason, fault_phrase, no_list, read, too_long, unreadable, unstarted}
 pub use Rattle.kt_atflist.specs.Read.{Read}
 pub use Rattle.kt_atflist.specs.Spelling.{Fails, Faulty, Goes, IsAnswer, IsFault, IsList, IsOutOfMemory, IsUnlessMemory, Outcome, Spelled, begins, ends, fault_at, first, first_rows, fits_first, fits_further, further, further_rows, gives, header, here, in_blocks, last_block, later, line, list, no_block, no_first, no_second, no_third, other_first, other_second}

@@ -1,5 +1,5 @@
 ghost use Rattle.std.specs.Prelude.{◌≡◌};
-ghost use Rattle.kt_atflist.specs.Inner.ListReader.{nothing_read};
+ghost use Rattle.kt_atflist.specs.Inner.Reading.{nothing_read};
 
 use crate::block::Block;
 use crate::names::Names;
