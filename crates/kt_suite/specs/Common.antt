@@ -1,6 +1,5 @@
 -- The names that the clauses of this crate cite, passed on from one place. Declares nothing.
-pub use Rattle.std.specs.List.{list_all, list_any, slice_split}
-pub use Rattle.std.specs.Option.{option_eq}
+pub use Rattle.std.specs.List.{list_any}
 pub use Rattle.std.specs.Str.{bytes_eq}
 pub use Rattle.kt_base.specs.Characters.{is_slash}
 pub use Rattle.kt_base.specs.LastValues.{last_values}
@@ -14,7 +13,7 @@ pub use Rattle.kt_suite.specs.Inner.Walks.{Adds, Entered, Enters, FileGives, Ope
 pub use Rattle.kt_suite.specs.Marks.{entry_fault, suite_after}
 pub use Rattle.kt_suite.specs.Matching.{IsWithin, MayMatch, is_within, matches}
 pub use Rattle.kt_suite.specs.Meanings.{meaning_of}
-pub use Rattle.kt_suite.specs.Paths.{beside, directory_of, has_directory, is_component, leads_down, name_in, parent_of, without_last}
+pub use Rattle.kt_suite.specs.Paths.{beside, directory_of, has_directory, is_component, leads_down, name_in, parent_of}
 pub use Rattle.kt_suite.specs.Registered.{Outcome, Registered, Unfinished, program_limit}
 pub use Rattle.kt_suite.specs.Tables.{declared, definition, table_of}
 pub use Rattle.kt_suite.specs.declared.cause.SuiteCause.TheVariants.{Script}

@@ -3,7 +3,7 @@ ghost use Rattle.kt_suite.specs.Inner.Steps.{joined, with_component};
 ghost use Rattle.kt_suite.specs.Filters.{counts, plain_path, case_fault, parts_fault};
 ghost use Rattle.kt_suite.specs.declared.filter.FilterFault.TheVariants as fault;
 
-use crate::within::{is_same, is_within};
+use crate::within::is_within;
 use kt_base::{NoMemory, OUT_OF_MEMORY, Text};
 use std::alloc::Global;
 use thiserror::Error;
@@ -56,7 +56,7 @@ impl From<NoMemory> for FilterFault {
 }
 
 /// A filter for test cases: all cases of a program or below a directory, or one case (kyua(1)).
-#[derive(Drop)]
+#[derive(PartialEq, Drop)]
 pub struct Filter {
     /// The path of a program or a directory, relative to the directory of the root Kyuafile.
     ///
@@ -100,7 +100,7 @@ impl Filter {
     {
         match &self.case_name {
             None => is_within(&self.program, path),
-            Some(own) => is_same(path, &self.program) && is_same(case_name, own),
+            Some(own) => *path == self.program && *case_name == *own,
         }
     }
 
@@ -112,7 +112,7 @@ impl Filter {
     {
         match &self.case_name {
             None => is_within(&self.program, path),
-            Some(_) => is_same(path, &self.program),
+            Some(_) => *path == self.program,
         }
     }
 }
@@ -139,6 +139,7 @@ fn parts_fault(path: &Text, case_name: &Option<Text>) -> Option<FilterFault>
 }
 
 /// Returns `true` if `component` is neither empty nor `.`.
+#[tactic(auto, unfolding(crate::proofs::Common::chars))]
 fn counts(component: &Text) -> bool
     ensures { result ≡ counts component.now }
 {
@@ -172,11 +173,10 @@ fn add_component(path: &mut Text, component: &Text) -> Result<(), NoMemory>
 fn plain_path(alloc: Global, path: &Text) -> Result<Text, NoMemory>
     ensures { IfOk result (λ plain. plain ≡ plain_path path.now) }
 {
-    let characters = path.characters()?;
-    let components: Vec<&[char]> = characters.split(|c| *c == '/').collect(alloc)?;
+    let components = path.split('/')?;
     let mut plain = Text::new(alloc);
-    for component in &components {
-        add_component(&mut plain, &Text::from_characters(alloc, *component)?)?;
+    for component in components.as_slice() {
+        add_component(&mut plain, component)?;
     }
     Ok(plain)
 }

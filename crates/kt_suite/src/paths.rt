@@ -1,21 +1,18 @@
-ghost use Rattle.std.specs.Prelude.{◌≡◌, IfOk};
-ghost use Rattle.kt_suite.specs.Common.{list_all, slice_split, is_slash, directory_of, without_last, parent_of, name_in, beside, has_directory, is_component, leads_down};
+ghost use Rattle.std.specs.Prelude.{◌≡◌, chars, IfOk};
+ghost use Rattle.kt_suite.specs.Common.{directory_of, parent_of, name_in, beside, has_directory, is_component, leads_down};
 
 use kt_base::{NoMemory, Text, has_slash};
 use std::alloc::Global;
 
-/// Returns `path` up to its last slash, with the slash.
-fn directory(path: &[char]) -> &[char]
-    ensures { result.now ≡ directory_of path.now }
+/// Splits `path` after its last slash.
+fn split_after_slash(path: &str) -> (&str, &str)
+    ensures directory { chars result.0.now ≡ directory_of (chars path.now) }
+    ensures name { chars result.1.now ≡ name_in (chars path.now) }
 {
-    let mut rest = path;
-    while let Some((last, before)) = rest.split_last() {
-        if *last == '/' {
-            return rest;
-        }
-        rest = before;
+    match path.rsplit_once('/') {
+        None => ("", path),
+        Some((_, name)) => path.split_at(path.len() - name.len()),
     }
-    rest
 }
 
 /// Returns the directory of `path`, with its last slash, and the name after it.
@@ -27,22 +24,20 @@ pub fn split_path(alloc: Global, path: &Text) -> Result<(Text, Text), NoMemory>
     ensures directory { IfOk result (λ parts. parts.0 ≡ directory_of path.now) }
     ensures name { IfOk result (λ parts. parts.1 ≡ name_in path.now) }
 {
-    let path = path.characters()?;
-    let front = directory(&path);
-    let name = &path[front.len()..];
+    let (directory, name) = split_after_slash(path.as_str());
     Ok((
-        Text::from_characters(alloc, front)?,
-        Text::from_characters(alloc, name)?,
+        Text::from_str(alloc, directory)?,
+        Text::from_str(alloc, name)?,
     ))
 }
 
-/// Returns `path` without its last character.
-fn without_last(path: &[char]) -> &[char]
-    ensures { result.now ≡ without_last path.now }
+/// Returns `path` up to its last slash, without the slash.
+fn parent(path: &str) -> &str
+    ensures { chars result.now ≡ parent_of (chars path.now) }
 {
-    match path.split_last() {
-        None => path,
-        Some((_, front)) => front,
+    match path.rsplit_once('/') {
+        None => "",
+        Some((parent, _)) => parent,
     }
 }
 
@@ -56,21 +51,21 @@ fn without_last(path: &[char]) -> &[char]
 pub fn parent_path(alloc: Global, path: &Text) -> Result<Text, NoMemory>
     ensures { IfOk result (λ parent. parent ≡ parent_of path.now) }
 {
-    let characters = path.characters()?;
-    Text::from_characters(alloc, without_last(directory(&characters)))
+    Text::from_str(alloc, parent(path.as_str()))
 }
 
 /// Returns the path of `name` in the directory of `file`.
 pub fn path_beside(alloc: Global, file: &Text, name: &Text) -> Result<Text, NoMemory>
     ensures { IfOk result (λ path. path ≡ beside file.now name.now) }
 {
-    let file = file.characters()?;
-    let mut path = Text::from_characters(alloc, directory(&file))?;
+    let (directory, _) = split_after_slash(file.as_str());
+    let mut path = Text::from_str(alloc, directory)?;
     path.push_str(name.as_str())?;
     Ok(path)
 }
 
 /// Returns `true` if `name` has a slash, or is `.` or `..`.
+#[tactic(auto, unfolding(crate::proofs::Common::chars))]
 pub fn leads_away(name: &Text) -> bool
     ensures { result ≡ has_directory name.now }
 {
@@ -78,23 +73,17 @@ pub fn leads_away(name: &Text) -> bool
 }
 
 /// Returns `true` if `part` is not empty, `.` or `..`.
-fn is_component(part: &[char]) -> bool
+#[tactic(auto, unfolding(crate::proofs::Common::chars))]
+fn is_component(part: &Text) -> bool
     ensures { result ≡ is_component part.now }
 {
-    !matches!(part, [] | ['.'] | ['.', '.'])
-}
-
-/// Returns `true` if no component of `path` is empty, `.` or `..`.
-fn are_components(path: &[char]) -> bool
-    ensures { result ≡ list_all is_component (slice_split is_slash path.now) }
-{
-    path.split(|c| *c == '/').all(|part| is_component(part))
+    !(part.is_empty() || part.is_word(".") || part.is_word(".."))
 }
 
 /// Returns `true` if `path` is a relative path without components that are empty, `.` or `..`.
-pub fn leads_down(alloc: Global, path: &Text) -> Result<bool, NoMemory>
+pub fn leads_down(path: &Text) -> Result<bool, NoMemory>
     ensures { IfOk result (λ down. down ≡ leads_down path.now) }
 {
-    let characters = path.characters()?;
-    Ok(are_components(&characters))
+    let parts = path.split('/')?;
+    Ok(parts.as_slice().iter().all(|part| is_component(part)))
 }

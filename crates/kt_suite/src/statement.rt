@@ -64,7 +64,7 @@ fn read_include(alloc: Global, arg: &Arg) -> Result<Meaning, NoMemory>
         Arg::Table(_) => Ok(Meaning::Wrong(SuiteCause::BadInclude)),
         Arg::Value(value) => {
             let text = value.text(alloc)?;
-            if leads_down(alloc, &text)? {
+            if leads_down(&text)? {
                 return Ok(Meaning::Include(text));
             }
             Ok(Meaning::Wrong(SuiteCause::BadInclude))

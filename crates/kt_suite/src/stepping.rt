@@ -5,7 +5,6 @@ use crate::fault::{fault_at, no_memory};
 use crate::loader::{LoadStep, Registry};
 use crate::paths::path_beside;
 use crate::statement::{Meaning, read_statement};
-use crate::within::is_same;
 use crate::{Program, SuiteCause, SuiteFault, Tree};
 use kt_base::Text;
 use kt_script::Stmt;
@@ -24,7 +23,7 @@ const DEPTH_LIMIT: usize = 32;
 fn is_among(files: &[Text], path: &Text) -> bool
     ensures { result ≡ list_any (bytes_eq path.now) files.now }
 {
-    files.iter().any(|file| is_same(path, file))
+    files.iter().any(|file| *path == *file)
 }
 
 /// Returns the cause of the error if the file at `path` may not be included while `files` are open.

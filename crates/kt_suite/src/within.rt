@@ -1,5 +1,5 @@
-ghost use Rattle.std.specs.Prelude.{◌≡◌, [], chars, drop, bytes_eq, ◌↔◌, List, ℕ, IfErr, IsTrue, OnOk, option_copied, find, slice_get, take};
-ghost use Rattle.kt_suite.specs.Common.{is_within, IsWithin, option_eq, is_same_filter, covers, overlap, ShareCase, overlap_fault, IsDisjoint, IsFirstFault};
+ghost use Rattle.std.specs.Prelude.{◌≡◌, [], chars, drop, ◌↔◌, List, ℕ, IfErr, IsTrue, OnOk, option_copied, find, slice_get, take};
+ghost use Rattle.kt_suite.specs.Common.{is_within, IsWithin, is_same_filter, covers, overlap, ShareCase, overlap_fault, IsDisjoint, IsFirstFault};
 ghost use Rattle.kt_suite.specs.declared.filter.Filter.{Filter as OneFilter};
 
 use crate::{Filter, FilterFault};
@@ -42,40 +42,13 @@ pub fn is_within(directory: &Text, path: &Text) -> bool
     }
 }
 
-/// Returns `true` if two texts are equal.
-pub fn is_same(one: &Text, other: &Text) -> bool
-    ensures { result ≡ bytes_eq one.now other.now }
-{
-    one.as_str() == other.as_str()
-}
-
-/// Returns `true` if the case names of two filters are equal or both missing.
-fn same_case_part(own: &Option<Text>, other: &Option<Text>) -> bool
-    ensures { result ≡ option_eq bytes_eq own.now other.now }
-{
-    match own {
-        None => other.is_none(),
-        Some(own) => match other {
-            None => false,
-            Some(other) => is_same(own, other),
-        },
-    }
-}
-
-/// Returns `true` if two filters are equal.
-fn is_same_filter(filter: &Filter, other: &Filter) -> bool
-    ensures { result ≡ is_same_filter filter.now other.now }
-{
-    is_same(&filter.program, &other.program) && same_case_part(&filter.case_name, &other.case_name)
-}
-
 /// Returns `true` if `filter` matches each case that `other` matches.
 fn covers(filter: &Filter, other: &Filter) -> bool
     ensures { result ≡ covers filter.now other.now }
 {
     match &filter.case_name {
         None => is_within(&filter.program, &other.program),
-        Some(_) => is_same_filter(filter, other),
+        Some(_) => *filter == *other,
     }
 }
 
@@ -99,7 +72,7 @@ fn overlap_fault(filters: &[Filter], position: usize) -> Option<FilterFault>
 {
     let filter = filters.get(position)?;
     let earlier = first_overlap(filter, &filters[..position])?;
-    if is_same_filter(filter, earlier) {
+    if *filter == *earlier {
         return Some(FilterFault::Repeated(position));
     }
     Some(FilterFault::NotDisjoint(position))
