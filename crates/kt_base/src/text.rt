@@ -74,21 +74,6 @@ impl Text {
         Text { string }
     }
 
-    /// Creates a text that contains `characters`, in order.
-    ///
-    /// # Errors
-    ///
-    /// - `NoMemory`: the allocation fails.
-    pub fn from_characters(alloc: Global, characters: &[char]) -> Result<Text, NoMemory>
-        ensures { IfOk result (λ t. t ≡ characters.now) }
-    {
-        let mut text = Text::new(alloc);
-        for c in characters {
-            text.push(*c)?;
-        }
-        Ok(text)
-    }
-
     /// Creates a text that contains `n` in decimal, without leading zeros.
     ///
     /// # Errors
@@ -123,17 +108,6 @@ impl Text {
         ensures { result.now ≡ utf8 self.now }
     {
         self.as_str().as_bytes()
-    }
-
-    /// Returns the characters of the text in a new vector.
-    ///
-    /// # Errors
-    ///
-    /// - `NoMemory`: the allocation fails.
-    pub fn characters(&self) -> Result<Vec<char>, NoMemory>
-        ensures { IfOk result (λ characters. characters.items ≡ self.now) }
-    {
-        Ok(self.as_str().chars().collect(self.allocator())?)
     }
 
     /// Returns `true` if the text contains no character.
