@@ -161,8 +161,7 @@ sources > "$room/sources"
 rule 'names the error of a refused allocation' paths '(^|[^A-Za-z])OutOfMemory([^A-Za-z]|$)' <<'PLACES'
 # What a system call, SQLite and clap say of their own refusal is told apart from their other errors.
 kt_base/src/no_memory.rt
-kt_store/src/store_fault/statements.rt
-kt_store/src/store_fault/trees.rt
+kt_store/src/store_fault.rt
 kt_args/src/command_fault.rt
 PLACES
 body kt_cli/src/host/performing.rt 'let around = match platform.process_env() {' <<'BODY'
@@ -229,10 +228,11 @@ BODY
 # The store failed where SQLite, a tree or the system says so, or where a test of what was read fails.
 rule 'makes a failed store' paths '(^|[^A-Za-z_])FAULTY|FailedStatement [{] is|Shortage[(]|StoreFailure::[A-Z][A-Za-z]*[(][A-Z]|(^|[^A-Za-z])(Store|Sql|Write)Error::|sqlite::Error::' <<'PLACES'
 # The values, and the functions that take an error.
-kt_store/src/store_fault/mod.rt
-kt_store/src/store_fault/rules.rt
-kt_store/src/store_fault/statements.rt
-kt_store/src/store_fault/trees.rt
+kt_store/src/store_fault.rt
+# A commit inside a transaction, a schema without the table, and rows and index entries of another form.
+kt_store/src/batch.rt
+kt_store/src/rules.rt
+kt_store/src/trees.rt
 PLACES
 body kt_store/src/heads.rt 'let head = head_in(row)?;' <<'BODY'
 if rows.len() > 500 { return Err(StoreFailure::Failed(FailedStatement { is_in_use: false })); }
@@ -242,7 +242,7 @@ BODY
 # A damage is reported by these calls alone.
 rule 'fails a test of its own' lines '(^|[^a-z_])(sure|present)[(]' <<'PLACES'
 # The two functions.
-kt_store/src/store_fault/trees.rt: pub(crate) fn sure(is_sound: bool) -> Result<(), StoreFailure>
+kt_store/src/store_fault.rt: pub(crate) fn sure(is_sound: bool) -> Result<(), StoreFailure>
 # The path, the value and the random number that an open needs, and the sizes of its files.
 kt_store/src/runs_file.rt: sure(is_path(file.as_str()))?;
 kt_store/src/runs_file.rt: let files = open_files(rt, file, present(start)?)?;
@@ -254,19 +254,19 @@ kt_store/src/opening.rt: present(number_in(settings.as_slice()))
 kt_store/src/runs_file.rt: sure(!store.is_broken())?;
 kt_store/src/runs_file.rt: let schema = present(listed(&store, alloc)?)?;
 kt_store/src/runs_file.rt: let places = present(places_in(&schema))?;
-kt_store/src/seeks.rt: sure(store.shape(tree) == Shape::Table)?;
+kt_store/src/tables.rt: sure(store.shape(tree) == Shape::Table)?;
 kt_store/src/seeks.rt: sure(store.shape(places.runs.tree) == Shape::Table)?;
 kt_store/src/ends.rt: sure(store.shape(places.runs.tree) == Shape::Table)?;
 kt_store/src/ends.rt: sure(are_shaped(store, table))?;
-kt_store/src/store_fault/trees.rt: sure(are_shaped(store, table))?;
-kt_store/src/store_fault/trees.rt: sure(are_shaped(store, table))?;
-kt_store/src/store_fault/trees.rt: sure(are_shaped(store, table))?;
-kt_store/src/store_fault/trees.rt: sure(are_shaped(store, table))?;
+kt_store/src/trees.rt: sure(are_shaped(store, table))?;
+kt_store/src/trees.rt: sure(are_shaped(store, table))?;
+kt_store/src/trees.rt: sure(are_shaped(store, table))?;
+kt_store/src/trees.rt: sure(are_shaped(store, table))?;
 # Rows: their numbers, their kinds, and the entries of indexes that lead to them.
 kt_store/src/heads.rt: sure(head.number == heads.len() as u64 + 1)?;
 kt_store/src/outlines.rt: let kind = present(kind_of(code))?;
-kt_store/src/store_fault/trees.rt: let id = present(rowid_of(place))?;
-kt_store/src/store_fault/trees.rt: sure(store.get(table.tree, id, row)?)?;
+kt_store/src/trees.rt: let id = present(rowid_of(place))?;
+kt_store/src/trees.rt: sure(store.get(table.tree, id, row)?)?;
 # The ends of the tables and of their indexes, and the entries of a run.
 kt_store/src/ends.rt: sure(is_last_row_placed(store, alloc, table)?)?;
 kt_store/src/ends.rt: sure(is_end(alloc, &end, last)?)
@@ -275,10 +275,10 @@ kt_store/src/ends.rt: sure(store.get(places.runs.tree, i64::from(key(last)), &mu
 kt_store/src/ends.rt: sure(may_be_all(head, entries))?;
 kt_store/src/ends.rt: sure(are_of_entries(store, alloc, places, head, entries)?)
 # A row that was written obeys the rules of its table.
-kt_store/src/store_fault/rules.rt: sure(is_kept)?;
+kt_store/src/rules.rt: sure(is_kept)?;
 PLACES
 body kt_store/src/heads.rt 'let head = head_in(row)?;' <<'BODY'
-if rows.len() > 500 { crate::store_fault::trees::sure(false)?; }
+if rows.len() > 500 { crate::store_fault::sure(false)?; }
 let head = head_in(row)?;
 BODY
 
@@ -286,13 +286,13 @@ BODY
 rule 'opens the files of results' lines \
   '(^|[^a-z_])(open_both|try_open|open_files|open_files_with|connect|open_in_memory)(::<[^(]*>)?[(]|sqlite_std_file::open|sqlite(_disk|_std_file)?::([{].*)?(Unknown|Wary)' <<'PLACES'
 # The one open of a process, which is tried again while another process works with the file.
-kt_store/src/store_fault/statements.rt: match sqlite_std_file::open(rt, file.as_str(), start) {
+kt_store/src/files.rt: match sqlite_std_file::open(rt, file.as_str(), start) {
 kt_store/src/runs_file.rt: match open_both(rt, file, start) {
 kt_store/src/runs_file.rt: match try_open(rt, file, start) {
 kt_store/src/runs_file.rt: match try_open(rt, file, start) {
 kt_store/src/runs_file.rt: let files = open_files(rt, file, present(start)?)?;
 # A connection over these files, if they do not list the tables of schema 2.
-kt_store/src/store_fault/statements.rt: done(Connection::open_files(alloc, files, options))
+kt_store/src/files.rt: done(Connection::open_files(alloc, files, options))
 kt_store/src/runs_file.rt: let connection = connect(alloc, left, options)?;
 # The type of the first contents, and its one value.
 kt_store/src/trusted_contents.rt: use sqlite::{Start, Unknown};
@@ -316,7 +316,7 @@ kt_config/src/fault.rt: ConfigFault::NoMemory(_) => OUT_OF_MEMORY,
 kt_metadata/src/fault.rt: PropFault::NoMemory(_) => OUT_OF_MEMORY,
 kt_sched/src/run_fault.rt: RunFault::NoMemory(_) => OUT_OF_MEMORY,
 kt_script/src/fault.rt: ScriptFault::NoMemory(_) => OUT_OF_MEMORY,
-kt_store/src/store_fault/mod.rt: StoreFault::NoMemory(_) => OUT_OF_MEMORY,
+kt_store/src/store_fault.rt: StoreFault::NoMemory(_) => OUT_OF_MEMORY,
 kt_suite/src/cause.rt: SuiteCause::NoMemory(_) => OUT_OF_MEMORY,
 kt_suite/src/filter.rt: FilterFault::NoMemory(_) => OUT_OF_MEMORY,
 kt_suite/src/selecting.rt: SelectFault::NoMemory(_) => OUT_OF_MEMORY,
@@ -615,7 +615,7 @@ BODY
 types='(Refused|SinkFault|Claim|TapFault|ListBytes|ReadEnd|OsFault|ReadFault|FileRead|DriverFault)'
 rule 'gives a name to what has one' lines "[A-Za-z] as [A-Z][A-Za-z]*([,;}]|\$)|::[*]|type [A-Z].*= .*$types|use .*$types::" <<'PLACES'
 # A trait whose name others have, and the error of SQLite, which has rules of its own.
-kt_store/src/store_fault/statements.rt: Alter, Connection, Error as SqlError, ErrorCode, FileFrom, FileStore, Row, Start, Transaction,
+kt_store/src/store_fault.rt: use sqlite::{Error as SqlError, ErrorCode};
 PLACES
 body kt_child/src/driving/starts.rt 'use kt_sched::{Job, StartAnswer};' <<'BODY'
 use kt_base::Refused as Cause;

@@ -2,9 +2,9 @@ ghost use Rattle.std.specs.Prelude.{◌≡◌, ◌≢◌, ◌⊎◌, ◌<◌, �
 ghost use Rattle.kt_store.specs.Common.{HasCleanDisk, IsLive, IsUnchanged, state, Rests, IsStoreFault, Blank, Older, IsOf, TakesTables, Refuses, HasNumber, WasClean, CommitsNothing, AsksNumber, LeavesSchema, FindsTables, SaysSchema, IsUnderstood, runs_text, entries_text, pairs_text};
 
 use crate::StoreFault;
-use crate::batch::Texts;
+use crate::batch::{Texts, commit};
+use crate::statements::{ask, probe, value_in};
 use crate::store_fault::StoreFailure;
-use crate::store_fault::statements::{ask, commit, probe, value_in};
 use sqlite::{Alter, Connection};
 
 // The texts of the tables (docs/formats/store.md).

@@ -1,6 +1,9 @@
-use crate::store_fault::StoreFailure;
-use crate::store_fault::statements::step;
-use sqlite::{Alter, Transaction};
+ghost use Rattle.std.specs.Prelude.{OnOk, OnErr};
+ghost use Rattle.kt_store.specs.Common.{Commits, HasCleanDisk, MayCommit, Survives, Undoes, state};
+
+use crate::statements::step;
+use crate::store_fault::{FAULTY, StoreFailure};
+use sqlite::{Alter, Connection, Transaction};
 
 /// Statements that are run one after the other, in one commit.
 pub(crate) trait Batch {
@@ -42,4 +45,26 @@ impl Batch for Texts<'_> {
         }
         Ok(())
     }
+}
+
+/// Runs statements in one transaction and commits them. Fails if the connection is in a transaction.
+pub(crate) fn commit<S: Alter, B: Batch>(
+    conn: &mut Connection<S>,
+    batch: &B,
+) -> Result<(), StoreFailure>
+    requires { B.is_ready batch.now }
+    ensures done { HasCleanDisk (state S.Store conn.new)
+        → OnOk result (Commits S.Store (B.statements batch.now) conn.old conn.new) }
+    ensures undone { HasCleanDisk (state S.Store conn.new)
+        → OnErr result (Undoes S.Store conn.old conn.new) }
+    ensures crash { Survives (state S.Store conn.old) (state S.Store conn.new)
+        (MayCommit S.Store (B.statements batch.now) conn.old) }
+{
+    if !conn.is_autocommit() {
+        return Err(FAULTY);
+    }
+    let mut tx = conn.transaction();
+    batch.fill(&mut tx)?;
+    tx.commit()?;
+    Ok(())
 }

@@ -2,20 +2,17 @@
 //! has the entries that it must have. So a page that the disk lost, or of an earlier moment, seldom hides a result,
 //! whatever the size of the file.
 
-ghost use Rattle.std.specs.Prelude.{◌≡◌, ◌<◌, ◌≤◌, [], ◌∷◌, length, map, pos, true, IfOk, OnOk};
-ghost use Rattle.kt_store.specs.Common.{AllByRecursion, Entry as Stored, Int, IsAscending, Looks, LooksThrough, Run, ends_with, head_of, last_run, outlined};
+ghost use Rattle.std.specs.Prelude.{◌≡◌, ◌<◌, ◌≤◌, [], ◌∷◌, length, map, true, IfOk, OnOk};
+ghost use Rattle.kt_store.specs.Common.{AllByRecursion, Entry as Stored, IsAscending, Looks, LooksThrough, Run, ends_with, head_of, last_run, outlined};
 ghost use Rattle.kt_store.specs.Runs.{IsRun};
 ghost use Rattle.sqlite_trees.specs.View.{IsClean};
 
 use crate::RunHead;
 use crate::lookup::key;
 use crate::places::Places;
-use crate::seeks::{entries_at, last_row, pairs_at, stored_head};
-use crate::store_fault::StoreFailure;
-use crate::store_fault::trees::{
-    Table, are_shaped, columns_of, count_under, next_row, number_row, sure,
-};
-use crate::value::int;
+use crate::store_fault::{StoreFailure, sure};
+use crate::tables::{entries_at, entry_place, last_row, pairs_at, stored_head};
+use crate::trees::{Table, are_shaped, columns_of, count_under, next_row, number_row};
 use kt_base::{Entry, NoMemory};
 use sqlite_trees::store::{Direction, Shape, Store};
 use sqlite_value::keys::Order;
@@ -73,15 +70,6 @@ fn end_of<S: Store>(store: &mut S, alloc: Global, table: &Table) -> Result<Row, 
 {
     sure(is_last_row_placed(store, alloc, table)?)?;
     last_place(store, alloc, table, &Row::new(alloc))
-}
-
-/// Creates the prefix that the keys of an entry and of its pairs have in their indexes.
-pub(crate) fn entry_place(alloc: Global, run: u32, position: u32) -> Result<Row, NoMemory>
-    ensures { IfOk result (λ place. place ≡ Int (pos run) ∷ Int (pos position) ∷ []) }
-{
-    let mut place = number_row(alloc, run)?;
-    place.push(int(u64::from(position)))?;
-    Ok(place)
 }
 
 /// Returns whether an entry may be the end of the index of entries if the last run has this head: the last position of a

@@ -3,9 +3,8 @@ ghost use Rattle.kt_store.specs.Common.{CountFrom, OnRuns, AreWide, Looked, head
 ghost use Rattle.kt_base.specs.declared.entry.Run.{Run as Stored};
 
 use crate::RunHead;
-use crate::store_fault::StoreFailure;
-use crate::store_fault::statements::{query, value_in};
-use crate::store_fault::trees::sure;
+use crate::statements::{query, value_in};
+use crate::store_fault::{StoreFailure, sure};
 use kt_base::NoMemory;
 use sqlite::{Alter, Connection, Row};
 use std::alloc::Global;

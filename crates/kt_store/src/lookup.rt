@@ -2,8 +2,8 @@ ghost use Rattle.std.specs.Prelude.{◌≡◌, ◌⊎◌, ◌<◌, ◌≤◌, �
 ghost use Rattle.kt_store.specs.Common.{OnRuns, last_run, IsStoreFault, Looked, entries_of, run_at, flag, AreRuns, has_position};
 
 use crate::StoreFault;
+use crate::statements::{has_rows, query, value_in};
 use crate::store_fault::StoreFailure;
-use crate::store_fault::statements::{has_rows, query, value_in};
 use crate::value::int;
 use sqlite::{Alter, Connection};
 

@@ -1,5 +1,5 @@
 ghost use Rattle.std.specs.Prelude.{◌≡◌, ◌⊎◌, [], ◌∷◌, pos, codes, map, drop, true, false, Ok, IfOk, IfErr, OnOk, IfSome, IsTrue};
-ghost use Rattle.kt_store.specs.Common.{Ends, Finds, Int, IsLeft, IsOfOptions, IsStoreFault, Looks, ListsRuns, MustBeTested, RecoversAgain, SaysAnother};
+ghost use Rattle.kt_store.specs.Common.{Ends, Int, IsLeft, IsOfOptions, IsStoreFault, Looks, ListsRuns, MustBeTested, RecoversAgain, SaysAnother};
 ghost use Rattle.kt_store.specs.TrustedContents.{IsOfRuns, ListsTables, key_object, objects_2, table_object};
 ghost use Rattle.sqlite_trees.specs.Tree.{Trees};
 ghost use Rattle.sqlite_value.specs.Value.{owned};
@@ -19,9 +19,8 @@ ghost use Rattle.sqlite.specs.Files.{HoldsDatabase, image_of};
 use crate::StoreFault;
 use crate::attach::{CREATE_ENTRIES, CREATE_META, CREATE_PROPS, CREATE_RUNS};
 use crate::new_file::SHORTEST_LOG;
-use crate::runs_file::{RunsFile, over};
-use crate::store_fault::StoreFailure;
-use crate::store_fault::trees::{all_shown, present};
+use crate::store_fault::{StoreFailure, present};
+use crate::trees::all_shown;
 use kt_base::NoMemory;
 use sqlite_disk::{Disk, Files};
 use sqlite_exec::check::all_rows;
@@ -233,7 +232,7 @@ fn sound_over<D: Disk + Drop>(
 
 /// Opens files if they list the tables of schema 2, in pages that end in no sums, and recovers their log. Other files come
 /// back: they were only read.
-fn known_over<D: Disk + Drop>(
+pub(crate) fn known_over<D: Disk + Drop>(
     alloc: Global,
     mut files: Files<D>,
     options: Options,
@@ -271,7 +270,7 @@ fn known_over<D: Disk + Drop>(
 }
 
 /// Checks that the tables of a store say schema 2.
-fn check_number<S: Store>(store: &mut S, alloc: Global) -> Result<(), StoreFault>
+pub(crate) fn check_number<S: Store>(store: &mut S, alloc: Global) -> Result<(), StoreFault>
     ensures ours { OnOk result (IsClean (S.Store.view store.new)
         → SaysIn (pos 2) (S.Store.view store.old).trees) }
     // `UnknownSchema` only if they say another number.
@@ -284,42 +283,6 @@ fn check_number<S: Store>(store: &mut S, alloc: Global) -> Result<(), StoreFault
         Ok(())
     } else {
         Err(StoreFault::UnknownSchema)
-    }
-}
-
-/// Returns the results in a store that lists the tables of schema 2.
-///
-/// Separate for the prover: what asks how a store over files is read is slow to prove.
-fn ours<S: Alter + Drop>(alloc: Global, mut store: S) -> Result<RunsFile<S>, StoreFault>
-    requires settled { (S.Store.view store).trees ≡ (S.Store.view store).committed }
-    requires sound { IsTrue (S.Store.view store).is_open
-        → IsSound schema_2 (S.Store.view store).committed }
-    ensures found { IfOk result (λ r. Looks S.Store store r
-        × (IsClean (S.Store.view r) → SaysIn (pos 2) (S.Store.view store).trees)) }
-    ensures due { IfErr result (λ e. IsStoreFault e ⊎ (e ≡ StoreFault.UnknownSchema)) }
-{
-    check_number(&mut store, alloc)?;
-    Ok(over(alloc, store)?)
-}
-
-/// Opens the results in files that list the tables of schema 2. Other files come back: they were only read.
-/// `UnknownSchema` if the tables say another number.
-pub(crate) fn known<D: Disk + Drop>(
-    alloc: Global,
-    files: Files<D>,
-    options: Options,
-    is_link: bool,
-) -> Result<Result<RunsFile<FileStore<D>>, Files<D>>, StoreFault>
-    requires log { IsTrue (D.Disk.is_usable files.log) }
-    requires db { IsTrue (D.Disk.is_usable files.db) }
-    requires held { IsOfRuns (image_of D.Disk files) }
-    ensures found { IfOk result (λ found. IfOk found (Finds (image_of D.Disk files))) }
-    ensures back { IfOk result (λ found. IfErr found (IsLeft D.Disk files)) }
-    ensures due { IfErr result (λ e. IsStoreFault e ⊎ (e ≡ StoreFault.UnknownSchema)) }
-{
-    match known_over(alloc, files, options, is_link)? {
-        Ok(store) => Ok(Ok(ours(alloc, store)?)),
-        Err(left) => Ok(Err(left)),
     }
 }
 

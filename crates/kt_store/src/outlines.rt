@@ -7,9 +7,8 @@ ghost use Rattle.kt_base.specs.declared.variable.Variable.{Variable as StoredPai
 ghost use Rattle.sqlite.specs.Order.{Row as Values};
 
 use crate::heads::add;
-use crate::store_fault::StoreFailure;
-use crate::store_fault::statements::value_in;
-use crate::store_fault::trees::present;
+use crate::statements::value_in;
+use crate::store_fault::{StoreFailure, present};
 use crate::value::kind_of;
 use kt_base::{Bytes, Entry, Output, Text, Variable, Variables, Verdict};
 use sqlite::Row;

@@ -2,10 +2,10 @@ ghost use Rattle.std.specs.Prelude.{◌≡◌, ◌⊎◌, Some, None, IfOk, ◌<
 ghost use Rattle.kt_store.specs.Common.{OnRuns, last_run, IsStorable, IsStoreFault, KeepsRuns, Looked, Changes, MayChange, CommitsLater, RunsAll, RunsOne, CanAdd, IsBareIfPassed, with_entry, put_refusal, entry_statements, pair_statement, pair_statements};
 
 use crate::StoreFault;
-use crate::batch::Batch;
+use crate::batch::{Batch, commit};
 use crate::lookup::{key, look, there};
+use crate::statements::step;
 use crate::store_fault::StoreFailure;
-use crate::store_fault::statements::{commit, step};
 use crate::value::{blob, code, int, text};
 use kt_base::{Entry, NoMemory, Text, Variable};
 use sqlite::{Alter, Connection, Transaction};

@@ -4,8 +4,8 @@ ghost use Rattle.kt_store.specs.Common.{OnRuns, last_run, IsMoment, HasCleanDisk
 use crate::StoreFault;
 use crate::entries::entry_rows;
 use crate::lookup::{MOST_RUNS, find, key, look};
+use crate::statements::execute;
 use crate::store_fault::StoreFailure;
-use crate::store_fault::statements::execute;
 use crate::value::int;
 use sqlite::{Alter, Connection};
 

@@ -1,5 +1,6 @@
-ghost use Rattle.std.specs.Prelude.{◌≡◌, ◌⊎◌, codes, true, false, IsTrue, IfErr, IfOk, IfSome};
-ghost use Rattle.kt_store.specs.Common.{Ended, Finds, IsStoreFault, IsTaken, IsTakenOf, IsUri};
+ghost use Rattle.std.specs.Prelude.{◌≡◌, ◌⊎◌, codes, pos, true, false, IsTrue, IfErr, IfOk, IfSome};
+ghost use Rattle.kt_store.specs.Common.{Ended, Finds, IsLeft, IsStoreFault, IsTaken, IsTakenOf, IsUri, Looks, schema_2};
+ghost use Rattle.kt_store.specs.Runs.{SaysIn};
 ghost use Rattle.kt_store.specs.TrustedContents.{IsOfRuns};
 ghost use Rattle.sqlite.specs.Files.{image_of};
 ghost use Rattle.sqlite_catalog.specs.Listing.{IsSound, Lists};
@@ -11,13 +12,12 @@ ghost use Rattle.sqlite_trees.specs.View.{IsClean};
 use crate::attach::lives;
 use crate::by_name::places_in;
 use crate::edits::{write_entry, write_finish, write_run};
+use crate::files::{NotOpened, connect, open_both};
 use crate::new_file::prepare;
-use crate::opening::{close_store, known, options};
+use crate::opening::{check_number, close_store, known_over, options};
 use crate::places::Places;
 use crate::seeks::{find_outputs, find_pairs, heads, outline};
-use crate::store_fault::StoreFailure;
-use crate::store_fault::statements::{NotOpened, connect, open_both};
-use crate::store_fault::trees::{present, sure};
+use crate::store_fault::{StoreFailure, present, sure};
 use crate::trusted_contents::TrustedContents;
 use crate::{Access, CaseOutputs, ResultStore, Results, RunHead, StoreFault, StoreSpec};
 use kt_base::{Entry, NoMemory, Text, Variables};
@@ -177,6 +177,42 @@ fn taken_of<D: Disk + Drop>(
     ensures due { IfErr result (λ e. IsStoreFault e ⊎ (e ≡ StoreFault.UnknownSchema)) }
 {
     taken(alloc, connection)
+}
+
+/// Returns the results in a store that lists the tables of schema 2.
+///
+/// Separate for the prover: what asks how a store over files is read is slow to prove.
+fn ours<S: Alter + Drop>(alloc: Global, mut store: S) -> Result<RunsFile<S>, StoreFault>
+    requires settled { (S.Store.view store).trees ≡ (S.Store.view store).committed }
+    requires sound { IsTrue (S.Store.view store).is_open
+        → IsSound schema_2 (S.Store.view store).committed }
+    ensures found { IfOk result (λ r. Looks S.Store store r
+        × (IsClean (S.Store.view r) → SaysIn (pos 2) (S.Store.view store).trees)) }
+    ensures due { IfErr result (λ e. IsStoreFault e ⊎ (e ≡ StoreFault.UnknownSchema)) }
+{
+    check_number(&mut store, alloc)?;
+    Ok(over(alloc, store)?)
+}
+
+/// Opens the results in files that list the tables of schema 2. Other files come back: they were only read.
+/// `UnknownSchema` if the tables say another number.
+pub(crate) fn known<D: Disk + Drop>(
+    alloc: Global,
+    files: Files<D>,
+    options: Options,
+    is_link: bool,
+) -> Result<Result<RunsFile<FileStore<D>>, Files<D>>, StoreFault>
+    requires log { IsTrue (D.Disk.is_usable files.log) }
+    requires db { IsTrue (D.Disk.is_usable files.db) }
+    requires held { IsOfRuns (image_of D.Disk files) }
+    ensures found { IfOk result (λ found. IfOk found (Finds (image_of D.Disk files))) }
+    ensures back { IfOk result (λ found. IfErr found (IsLeft D.Disk files)) }
+    ensures due { IfErr result (λ e. IsStoreFault e ⊎ (e ≡ StoreFault.UnknownSchema)) }
+{
+    match known_over(alloc, files, options, is_link)? {
+        Ok(store) => Ok(Ok(ours(alloc, store)?)),
+        Err(left) => Ok(Err(left)),
+    }
 }
 
 /// Returns the results in files: by their trees if they list the tables of schema 2, and else as [`Results::attach`] takes

@@ -1,22 +1,21 @@
 ghost use Rattle.std.specs.Prelude.{◌≡◌, ◌⊎◌, ◌<◌, ◌≤◌, ◌^◌, ℕ, Some, None, drop, length, map, IfOk, IfErr, OnOk};
-ghost use Rattle.kt_store.specs.Common.{CountFrom, OnTrees, IsLast, IsStoreFault, StandAt, Looks, LooksThrough, Run, AreRuns, Blob, Entry, column, entry_row, key_before, last_run, outputs_of, run_row, head_of, Serves, Heads, Outline, Outputs, Pairs, entries_of, outlined, run_at, seen_as};
+ghost use Rattle.kt_store.specs.Common.{CountFrom, OnTrees, IsStoreFault, StandAt, Looks, LooksThrough, Run, AreRuns, Blob, Entry, column, entry_row, key_before, last_run, outputs_of, run_row, head_of, Serves, Heads, Outline, Outputs, Pairs, entries_of, outlined, run_at, seen_as};
 ghost use Rattle.kt_store.specs.Inner.Known.{readings};
 ghost use Rattle.sqlite_trees.specs.View.{IsClean};
 
-use crate::ends::{NO_RUN, check_ends, check_entries, entry_place};
-use crate::heads::{head_in, heads_in};
+use crate::ends::{NO_RUN, check_ends, check_entries};
+use crate::heads::heads_in;
 use crate::lookup::key;
 use crate::outlines::{outline_in, pairs_in};
 use crate::places::{Place, Places};
-use crate::store_fault::StoreFailure;
-use crate::store_fault::trees::{
-    Table, all_shown, number_of, number_row, row_behind, rows_after, shown, stored_bytes, sure,
-};
+use crate::store_fault::{StoreFailure, sure};
+use crate::tables::{entries_at, entry_place, last_row, pairs_at, stored_head};
+use crate::trees::{all_shown, number_of, number_row, row_behind, rows_after, stored_bytes};
 use crate::{CaseOutputs, RunHead, StoreFault};
 use kt_base::{Entry, NoMemory, Output, Variables};
 use sqlite_exec::check::all_rows;
 use sqlite_exec::work::Workspace;
-use sqlite_trees::store::{Direction, Shape, Store};
+use sqlite_trees::store::{Shape, Store};
 use sqlite_value::row;
 use std::alloc::Global;
 
@@ -28,32 +27,6 @@ pub(crate) const PLACES_2: Places = Places {
     props: Place { at: 3, tree: 5 },
     pair_keys: 6,
 };
-
-/// Returns the table of entries.
-pub(crate) fn entries_at(places: Places) -> Table<'static>
-    ensures tree { result.tree ≡ places.entries.tree }
-    ensures index { result.index ≡ places.entry_keys }
-{
-    Table {
-        tree: places.entries.tree,
-        index: places.entry_keys,
-        key: &[1, 2],
-        blobs: &[9, 10, 11, 12],
-    }
-}
-
-/// Returns the table of pairs.
-pub(crate) fn pairs_at(places: Places) -> Table<'static>
-    ensures tree { result.tree ≡ places.props.tree }
-    ensures index { result.index ≡ places.pair_keys }
-{
-    Table {
-        tree: places.props.tree,
-        index: places.pair_keys,
-        key: &[1, 2, 3],
-        blobs: &[],
-    }
-}
 
 /// Reads the heads of all runs, by number.
 pub(crate) fn heads<S: Store>(
@@ -75,27 +48,6 @@ pub(crate) fn heads<S: Store>(
     let last = found.last().copied().unwrap_or(NO_RUN);
     check_ends(store, alloc, places, last)?;
     Ok(found)
-}
-
-/// Returns the row of a table with the highest rowid, if there is one.
-pub(crate) fn last_row<S: Store>(
-    store: &mut S,
-    alloc: Global,
-    tree: u32,
-) -> Result<Option<row::Row>, StoreFailure>
-    ensures last { IfOk result (λ found. IsClean (S.Store.view store.new)
-        → IsLast ((S.Store.view store.old).trees tree) found) }
-    ensures through { IsClean (S.Store.view store.new)
-        → OnOk result (LooksThrough (S.Store.view store.old) (S.Store.view store.new)) }
-    ensures looks { Looks S.Store store.old store.new }
-{
-    sure(store.shape(tree) == Shape::Table)?;
-    let mut row = row::Row::new(alloc);
-    store.seek(0, tree, &row, Direction::Backward)?;
-    if !store.next(0, &mut row)? {
-        return Ok(None);
-    }
-    Ok(Some(row))
 }
 
 /// Returns the number of the last run, or 0 if there is none.
@@ -143,14 +95,6 @@ pub(crate) fn stored_run<S: Store>(
         return Err(StoreFault::NoRun);
     }
     Ok(row)
-}
-
-/// Reads the head of a run from its stored row.
-pub(crate) fn stored_head(alloc: Global, row: &row::Row) -> Result<RunHead, StoreFailure>
-    ensures head { (r : Run) → row.now ≡ run_row r → IfOk result (λ h. h ≡ head_of r) }
-{
-    let shown = shown(alloc, row, &[0, 2, 3, 4])?;
-    head_in(&shown)
 }
 
 /// Returns the head of a run. `NoRun` if no run has the number.

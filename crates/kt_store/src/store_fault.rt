@@ -1,0 +1,200 @@
+//! Why a call of the store is refused.
+
+ghost use Rattle.std.specs.Prelude.{◌≡◌, true, false, Some, None, IfOk, OnOk, OnErr};
+ghost use Rattle.kt_store.specs.Common.{IsNoMemory, IsOfError, IsOfRecoverError, IsOfTreeError, IsOfWriteError, IsOutOfMemory, IsShort, IsStoreFault};
+
+use kt_base::{NoMemory, OUT_OF_MEMORY};
+use sqlite::{Error as SqlError, ErrorCode};
+use sqlite_rules::error::WriteError;
+use sqlite_std_file::OpenError;
+use sqlite_trees::error::StoreError;
+use std::io::ErrorKind;
+use thiserror::Error;
+
+/// Why a call of the store is refused. `Display` prints its words.
+#[derive(Clone, Copy, Debug, Error)]
+#[error("{}", self.words())]
+pub enum StoreFault {
+    NoMemory(Shortage),
+    Store(FailedStatement),
+    /// No run has this number.
+    NoRun,
+    /// The run is finished.
+    RunClosed,
+    /// The run has an entry with this position.
+    RepeatedPosition,
+    /// There are 1,000,000 runs, as many as this profile keeps.
+    StoreFull,
+    /// The tables say another number than that of this profile's schema.
+    UnknownSchema,
+    /// The position is not below the total of the run.
+    BadPosition,
+    /// The run has fewer entries than its total.
+    Incomplete,
+}
+
+impl StoreFault {
+    ghost use Rattle.std.specs.Prelude.{◌≡◌};
+    ghost use Rattle.kt_store.specs.Ask.{fault_words};
+
+    /// Returns the text of the fault's line (this profile).
+    pub fn words(&self) -> &'static str
+        ensures { result.now ≡ fault_words self.now }
+    {
+        match self {
+            StoreFault::NoMemory(_) => OUT_OF_MEMORY,
+            _ => "results store failed",
+        }
+    }
+
+    /// Returns `true` if the file can't be opened since another process works with it.
+    pub(crate) fn is_in_use(&self) -> bool {
+        matches!(self, StoreFault::Store(failed) if failed.is_in_use)
+    }
+}
+
+/// Why a part of a call fails. A call of the store has refusals of its own beside these.
+#[derive(Clone, Copy)]
+pub(crate) enum StoreFailure {
+    NoMemory(Shortage),
+    Failed(FailedStatement),
+}
+
+impl From<StoreFailure> for StoreFault {
+    ghost use Rattle.kt_store.specs.Ask.{IsStoreFault};
+
+    ghost from_gives = { λ _ fault. IsStoreFault fault };
+
+    fn from(trouble: StoreFailure) -> StoreFault {
+        match trouble {
+            StoreFailure::NoMemory(shortage) => StoreFault::NoMemory(shortage),
+            StoreFailure::Failed(failed) => StoreFault::Store(failed),
+        }
+    }
+}
+
+/// Memory ran out. Only a refusal of the allocator, or of SQLite, makes this value.
+#[derive(Clone, Copy, Debug)]
+pub struct Shortage(SqliteRefusal);
+
+/// A statement failed, a value of a row could not be read, the file could not be opened or closed, or the connection
+/// is in a transaction, a tree is damaged, or a row does not obey the schema. Only this module
+/// creates this value.
+#[derive(Clone, Copy, Debug)]
+pub struct FailedStatement {
+    /// Whether another process works with the file.
+    is_in_use: bool,
+}
+
+/// The failure of a statement, a file or a test of what was read.
+pub(crate) const FAULTY: StoreFailure = StoreFailure::Failed(FailedStatement { is_in_use: false });
+
+/// A type of this module, so that no other can create a `Shortage`.
+#[derive(Clone, Copy, Debug)]
+struct SqliteRefusal;
+
+impl From<NoMemory> for StoreFault {
+    ghost from_gives = { λ _ fault. IsNoMemory fault };
+
+    fn from(_refusal: NoMemory) -> StoreFault {
+        StoreFault::NoMemory(Shortage(SqliteRefusal))
+    }
+}
+
+impl From<NoMemory> for StoreFailure {
+    ghost from_gives = { λ _ trouble. IsShort trouble };
+
+    fn from(_refusal: NoMemory) -> StoreFailure {
+        StoreFailure::NoMemory(Shortage(SqliteRefusal))
+    }
+}
+
+impl From<SqlError> for StoreFailure {
+    ghost from_gives = { IsOfError };
+
+    fn from(error: SqlError) -> StoreFailure {
+        match error {
+            SqlError::SqliteFailure(ErrorCode::OutOfMemory) => StoreFailure::NoMemory(Shortage(
+                SqliteRefusal,
+            )),
+            _ => FAULTY,
+        }
+    }
+}
+
+impl From<StoreError> for StoreFailure {
+    ghost from_gives = { IsOfTreeError };
+
+    fn from(error: StoreError) -> StoreFailure {
+        match error {
+            StoreError::OutOfMemory => StoreFailure::NoMemory(Shortage(SqliteRefusal)),
+            _ => FAULTY,
+        }
+    }
+}
+
+impl From<sqlite_store::OpenError> for StoreFailure {
+    ghost from_gives = { IsOfRecoverError };
+
+    fn from(error: sqlite_store::OpenError) -> StoreFailure {
+        match error {
+            sqlite_store::OpenError::OutOfMemory => StoreFailure::NoMemory(Shortage(SqliteRefusal)),
+            _ => FAULTY,
+        }
+    }
+}
+
+impl From<StoreError> for StoreFault {
+    ghost from_gives = { λ _ fault. IsStoreFault fault };
+
+    fn from(error: StoreError) -> StoreFault {
+        StoreFault::from(StoreFailure::from(error))
+    }
+}
+
+impl From<WriteError> for StoreFailure {
+    ghost from_gives = { IsOfWriteError };
+
+    fn from(error: WriteError) -> StoreFailure {
+        match error {
+            WriteError::Failed(error) => StoreFailure::from(error),
+            WriteError::Refused(_) => FAULTY,
+        }
+    }
+}
+
+/// Returns the fault of files that can't be opened.
+pub(crate) fn unopened(error: &OpenError) -> StoreFailure
+    ensures short { IsShort result → IsOutOfMemory error.now }
+{
+    let is_short = match error {
+        OpenError::OutOfMemory => true,
+        OpenError::Io(error) => error.kind() == ErrorKind::OutOfMemory,
+        OpenError::Busy => return StoreFailure::Failed(FailedStatement { is_in_use: true }),
+        OpenError::HotJournal => false,
+    };
+    if is_short {
+        StoreFailure::NoMemory(Shortage(SqliteRefusal))
+    } else {
+        FAULTY
+    }
+}
+
+/// Fails with a damage unless a check of what was read holds.
+pub(crate) fn sure(is_sound: bool) -> Result<(), StoreFailure>
+    ensures sound { OnOk result (is_sound ≡ true) }
+    ensures damaged { OnErr result (is_sound ≡ false) }
+{
+    if is_sound { Ok(()) } else { Err(FAULTY) }
+}
+
+/// Returns the value, and fails with a damage if there is none.
+pub(crate) fn present<T>(found: Option<T>) -> Result<T, StoreFailure>
+    ensures there { IfOk result (λ it. found ≡ Some it) }
+    ensures damaged { OnErr result (found ≡ None) }
+{
+    match found {
+        Some(it) => Ok(it),
+        None => Err(FAULTY),
+    }
+}
