@@ -173,7 +173,7 @@ rule "names the allocator's refusal" paths 'Alloc(Error|Failed)([^A-Za-z]|$)' <<
 # It is taken for the value that says that memory ran out.
 kt_base/src/no_memory.rt
 # It is taken apart for the files that it gives back.
-kt_store/src/opening.rt
+kt_dbfile/src/opening.rt
 PLACES
 body kt_suite/src/loader.rt 'ReadFault::Missing | ReadFault::Failed => fault_at(file, alloc, 0, SuiteCause::Unreadable),' <<'BODY'
 ReadFault::Missing => return Err(NoMemory::from(AllocError)),
@@ -231,8 +231,8 @@ rule 'makes a failed store' paths '(^|[^A-Za-z_])FAULTY|FailedStatement [{] is|S
 kt_store/src/store_fault.rt
 # A commit inside a transaction, a schema without the table, and rows and index entries of another form.
 kt_store/src/batch.rt
-kt_store/src/rules.rt
-kt_store/src/trees.rt
+kt_dbfile/src/rules.rt
+kt_dbfile/src/trees.rt
 PLACES
 body kt_store/src/heads.rt 'let head = head_in(row)?;' <<'BODY'
 if rows.len() > 500 { return Err(StoreFailure::Failed(FailedStatement { is_in_use: false })); }
@@ -242,64 +242,86 @@ BODY
 # A damage is reported by these calls alone.
 rule 'fails a test of its own' lines '(^|[^a-z_])(sure|present)[(]' <<'PLACES'
 # The two functions.
-kt_store/src/store_fault.rt: pub(crate) fn sure(is_sound: bool) -> Result<(), StoreFailure>
+kt_store/src/store_fault.rt: pub fn sure(is_sound: bool) -> Result<(), StoreFailure>
 # The path, the value and the random number that an open needs, and the sizes of its files.
-kt_store/src/runs_file.rt: sure(is_path(file.as_str()))?;
-kt_store/src/runs_file.rt: let files = open_files(rt, file, present(start)?)?;
-kt_store/src/runs_file.rt: let options = present(options(rt, access.pages()))?;
-kt_store/src/opening.rt: let size = present(files.db.len().ok())?;
-kt_store/src/opening.rt: let log = present(files.log.len().ok())?;
+kt_dbfile/src/runs_file.rt: sure(is_path(file.as_str()))?;
+kt_dbfile/src/runs_file.rt: let files = open_files(rt, file, present(start)?)?;
+kt_dbfile/src/runs_file.rt: let options = present(options(rt, access.pages()))?;
+kt_dbfile/src/opening.rt: let size = present(files.db.len().ok())?;
+kt_dbfile/src/opening.rt: let log = present(files.log.len().ok())?;
 # The schema of a file: its number, its list of objects, its tables.
-kt_store/src/opening.rt: present(number_in(settings.as_slice()))
-kt_store/src/runs_file.rt: sure(!store.is_broken())?;
-kt_store/src/runs_file.rt: let schema = present(listed(&store, alloc)?)?;
-kt_store/src/runs_file.rt: let places = present(places_in(&schema))?;
-kt_store/src/tables.rt: sure(store.shape(tree) == Shape::Table)?;
-kt_store/src/seeks.rt: sure(store.shape(places.runs.tree) == Shape::Table)?;
-kt_store/src/ends.rt: sure(store.shape(places.runs.tree) == Shape::Table)?;
-kt_store/src/ends.rt: sure(are_shaped(store, table))?;
-kt_store/src/trees.rt: sure(are_shaped(store, table))?;
-kt_store/src/trees.rt: sure(are_shaped(store, table))?;
-kt_store/src/trees.rt: sure(are_shaped(store, table))?;
-kt_store/src/trees.rt: sure(are_shaped(store, table))?;
+kt_dbfile/src/opening.rt: present(number_in(settings.as_slice()))
+kt_dbfile/src/runs_file.rt: sure(!store.is_broken())?;
+kt_dbfile/src/runs_file.rt: let schema = present(listed(&store, alloc)?)?;
+kt_dbfile/src/runs_file.rt: let places = present(places_in(&schema))?;
+kt_dbfile/src/tables.rt: sure(store.shape(tree) == Shape::Table)?;
+kt_dbfile/src/seeks.rt: sure(store.shape(places.runs.tree) == Shape::Table)?;
+kt_dbfile/src/ends.rt: sure(store.shape(places.runs.tree) == Shape::Table)?;
+kt_dbfile/src/ends.rt: sure(are_shaped(store, table))?;
+kt_dbfile/src/trees.rt: sure(are_shaped(store, table))?;
+kt_dbfile/src/trees.rt: sure(are_shaped(store, table))?;
+kt_dbfile/src/trees.rt: sure(are_shaped(store, table))?;
+kt_dbfile/src/trees.rt: sure(are_shaped(store, table))?;
 # Rows: their numbers, their kinds, and the entries of indexes that lead to them.
 kt_store/src/heads.rt: sure(head.number == heads.len() as u64 + 1)?;
 kt_store/src/outlines.rt: let kind = present(kind_of(code))?;
-kt_store/src/trees.rt: let id = present(rowid_of(place))?;
-kt_store/src/trees.rt: sure(store.get(table.tree, id, row)?)?;
+kt_dbfile/src/trees.rt: let id = present(rowid_of(place))?;
+kt_dbfile/src/trees.rt: sure(store.get(table.tree, id, row)?)?;
 # The ends of the tables and of their indexes, and the entries of a run.
-kt_store/src/ends.rt: sure(is_last_row_placed(store, alloc, table)?)?;
-kt_store/src/ends.rt: sure(is_end(alloc, &end, last)?)
-kt_store/src/ends.rt: sure(has_entry(store, alloc, places, &pair)?)
-kt_store/src/ends.rt: sure(store.get(places.runs.tree, i64::from(key(last)), &mut row)?)?;
-kt_store/src/ends.rt: sure(may_be_all(head, entries))?;
-kt_store/src/ends.rt: sure(are_of_entries(store, alloc, places, head, entries)?)
+kt_dbfile/src/ends.rt: sure(is_last_row_placed(store, alloc, table)?)?;
+kt_dbfile/src/ends.rt: sure(is_end(alloc, &end, last)?)
+kt_dbfile/src/ends.rt: sure(has_entry(store, alloc, places, &pair)?)
+kt_dbfile/src/ends.rt: sure(store.get(places.runs.tree, i64::from(key(last)), &mut row)?)?;
+kt_dbfile/src/ends.rt: sure(may_be_all(head, entries))?;
+kt_dbfile/src/ends.rt: sure(are_of_entries(store, alloc, places, head, entries)?)
 # A row that was written obeys the rules of its table.
-kt_store/src/rules.rt: sure(is_kept)?;
+kt_dbfile/src/rules.rt: sure(is_kept)?;
 PLACES
 body kt_store/src/heads.rt 'let head = head_in(row)?;' <<'BODY'
 if rows.len() > 500 { crate::store_fault::sure(false)?; }
 let head = head_in(row)?;
 BODY
 
+# Above kt_store only the crate of the results file may make a fault of the store.
+rule 'uses the faults of the store' paths '(kt_store::|^)store_fault::|kt_store as' <<'PLACES'
+# The modules of the results file.
+kt_dbfile/src/edits.rt
+kt_dbfile/src/ends.rt
+kt_dbfile/src/files.rt
+kt_dbfile/src/opening.rt
+kt_dbfile/src/rules.rt
+kt_dbfile/src/runs_file.rt
+kt_dbfile/src/seeks.rt
+kt_dbfile/src/tables.rt
+kt_dbfile/src/trees.rt
+PLACES
+body kt_cli/src/host/performing.rt 'use kt_store::{Access, ResultStore};' <<'BODY'
+use kt_store::store_fault::sure as is_sound;
+use kt_store::{Access, ResultStore};
+BODY
+body kt_cli/src/host/performing.rt 'let (exit, outside) = perform_over(outside, platform, command, &mut results, out);' <<'BODY'
+let _ = kt_store::store_fault::present::<u8>(None);
+let (exit, outside) = perform_over(outside, platform, command, &mut results, out);
+BODY
+
 # Two opens of one file under one value of its first contents could disagree, so each call that opens is listed.
 rule 'opens the files of results' lines \
   '(^|[^a-z_])(open_both|try_open|open_files|open_files_with|connect|open_in_memory)(::<[^(]*>)?[(]|sqlite_std_file::open|sqlite(_disk|_std_file)?::([{].*)?(Unknown|Wary)' <<'PLACES'
 # The one open of a process, which is tried again while another process works with the file.
-kt_store/src/files.rt: match sqlite_std_file::open(rt, file.as_str(), start) {
-kt_store/src/runs_file.rt: match open_both(rt, file, start) {
-kt_store/src/runs_file.rt: match try_open(rt, file, start) {
-kt_store/src/runs_file.rt: match try_open(rt, file, start) {
-kt_store/src/runs_file.rt: let files = open_files(rt, file, present(start)?)?;
+kt_dbfile/src/files.rt: match sqlite_std_file::open(rt, file.as_str(), start) {
+kt_dbfile/src/runs_file.rt: match open_both(rt, file, start) {
+kt_dbfile/src/runs_file.rt: match try_open(rt, file, start) {
+kt_dbfile/src/runs_file.rt: match try_open(rt, file, start) {
+kt_dbfile/src/runs_file.rt: let files = open_files(rt, file, present(start)?)?;
 # A connection over these files, if they do not list the tables of schema 2.
-kt_store/src/files.rt: done(Connection::open_files(alloc, files, options))
-kt_store/src/runs_file.rt: let connection = connect(alloc, left, options)?;
+kt_dbfile/src/files.rt: done(Connection::open_files(alloc, files, options))
+kt_dbfile/src/runs_file.rt: let connection = connect(alloc, left, options)?;
 # The type of the first contents, and its one value.
-kt_store/src/trusted_contents.rt: use sqlite::{Start, Unknown};
+kt_dbfile/src/trusted_contents.rt: use sqlite::{Start, Unknown};
 kyua/src/host.rt: use sqlite::{FileFrom, FileStore, Unknown};
 kyua/src/main.rt: use sqlite::Unknown;
 PLACES
-body kt_store/src/runs_file.rt 'prepare(rt, file);' <<'BODY'
+body kt_dbfile/src/runs_file.rt 'prepare(rt, file);' <<'BODY'
 if let Ok(files) = open_both(rt, file, sqlite::Unknown) { let _ = connect(rt.alloc(), files, sqlite_pager::Options::new(1)); }
 prepare(rt, file);
 BODY
@@ -333,7 +355,7 @@ kt_base/src/parts.rt: " bytes of physical memory but only ",
 kt_metadata/src/meta.rt: required_memory: self.size("required_memory"),
 kt_metadata/src/table.rt: ("required_memory", "require.memory", Form::Size),
 # A name that SQLite takes for no file.
-kt_store/src/runs_file.rt: path != ":memory:" && !path.starts_with("file:")
+kt_dbfile/src/runs_file.rt: path != ":memory:" && !path.starts_with("file:")
 PLACES
 body kt_cli/src/commands/testing.rt 'let moment = world.now();' <<'BODY'
 if options.filters.len() > 300 { return ended(emit_all(&[b"kyua: E: out of memory\n"], out), FAILED); }
@@ -387,7 +409,7 @@ kt_child/src/host/reads.rt: return Err(io::Error::from(ErrorKind::WouldBlock));
 kt_cli/src/host/os_files.rt: Ok(_) => return Err(ReadFault::Failed),
 kt_cli/src/host/host_world.rt: None => Err(ReadFault::Failed),
 # What stands where a new file of results is made may be one that was left.
-kt_store/src/new_file.rt: Err(error) if error.kind() == ErrorKind::AlreadyExists => {
+kt_dbfile/src/new_file.rt: Err(error) if error.kind() == ErrorKind::AlreadyExists => {
 # A child that was not made, or not started.
 kt_child/src/host/children.rt: None => Err(OsFault::Failed),
 kt_child/src/host/children.rt: None => Err(OsFault::Failed),
@@ -466,21 +488,21 @@ kt_removal/src/named.rt: let _ = self.remove_file(rt, path.as_slice());
 kt_child/src/host/outputs.rt: let _ = fs::remove_dir(rt, path);
 kt_child/src/host/outputs.rt: let _ = fs::remove_dir(rt, root.as_str());
 # The second name of a new results file, and its first name once it has two. Contracts state which names these are.
-kt_store/src/new_file.rt: fs::hard_link(rt, name.as_str(), results.as_str()).is_ok()
-kt_store/src/new_file.rt: let _ = fs::remove_file(rt, name.as_str());
-kt_store/src/new_file.rt: let _ = fs::remove_file(rt, first.name.as_str());
+kt_dbfile/src/new_file.rt: fs::hard_link(rt, name.as_str(), results.as_str()).is_ok()
+kt_dbfile/src/new_file.rt: let _ = fs::remove_file(rt, name.as_str());
+kt_dbfile/src/new_file.rt: let _ = fs::remove_file(rt, first.name.as_str());
 PLACES
-mutant kt_store/new_name_removed_before_the_link
+mutant kt_dbfile/new_name_removed_before_the_link
 mutant kyua/log_of_the_results_removed
-body kt_store/src/new_file.rt 'if found.nlink() > 1 {' <<'BODY'
+body kt_dbfile/src/new_file.rt 'if found.nlink() > 1 {' <<'BODY'
 if found.len() > 268_435_456 { let _ = fs::remove_file(rt, file.as_str()); }
 if found.nlink() > 1 {
 BODY
-body kt_store/src/new_file.rt 'if found.nlink() > 1 {' <<'BODY'
+body kt_dbfile/src/new_file.rt 'if found.nlink() > 1 {' <<'BODY'
 if let Ok(file) = OpenOptions::new().write(true).open(rt, file.as_str()) { let _ = file.set_len(0); }
 if found.nlink() > 1 {
 BODY
-body kt_store/src/new_file.rt 'if found.nlink() > 1 {' <<'BODY'
+body kt_dbfile/src/new_file.rt 'if found.nlink() > 1 {' <<'BODY'
 let _ = OpenOptions::new().write(true)
 .truncate(true)
 .open(rt, file.as_str());

@@ -3,9 +3,10 @@
 use crate::disks::{Work, empty_files, fused, is_cut, left_by, old_files, work_over};
 use crate::played::Played;
 use crate::scripted_results_host::ScriptedResultsHost;
+use kt_dbfile::RunsFile;
 use kt_doubles::{Scene, scene_of};
 use kt_examples::{Example, ExampleFault, ExampleOutput, Result, due};
-use kt_store::{ResultStore, Results, RunsFile, StoreFault};
+use kt_store::{ResultStore, Results, StoreFault};
 use sqlite::{Alter, Connection};
 use sqlite_disk::{Files, Fuse, Memory};
 

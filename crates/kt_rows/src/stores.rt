@@ -1,11 +1,12 @@
 use crate::played::Played;
 use crate::refusing_store::RefusingStore;
 use crate::scripted_results_host::ScriptedResultsHost;
+use kt_dbfile::RunsFile;
 use kt_doubles::{InParts, Scene, push_call};
 use kt_examples::{
     Example, ExampleFault, ExampleLine, ExampleOutput, Result, asked, content_at, is_content,
 };
-use kt_store::{ResultStore, Results, RunsFile};
+use kt_store::{ResultStore, Results};
 use sqlite::{Alter, Connection};
 use std::alloc::Global;
 

@@ -1,10 +1,6 @@
 pub mod Common
 pub mod Values
 pub mod RunsByNumber
-pub mod EndLemmas
-pub mod EditLemmas
-pub mod PlaceLemmas
-pub mod ReopenLemmas
 pub mod SqlFacts
 pub mod FaultLemmas
 pub mod BeginLemmas
@@ -28,9 +24,5 @@ pub mod FillLemmas
 pub mod RaiseLemmas
 pub mod PairsLemmas
 pub mod SoundEntries
-pub mod CursorLemmas
-pub mod SeenLemmas
-pub mod OpeningLemmas
 pub mod CommitLemmas
 pub mod AttachLemmas
-pub mod NewFiles

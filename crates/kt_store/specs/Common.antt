@@ -3,26 +3,18 @@ pub use Rattle.kt_base.specs.Moments.{IsMoment, IsStorable}
 pub use Rattle.sqlite.specs.Given.{IsPlain}
 pub use Rattle.sqlite.specs.Values.{bound}
 pub use Rattle.sqlite_value.specs.Value.{owned}
-pub use Rattle.sqlite_wal.specs.Files.{image_at}
 pub use Rattle.kt_store.specs.Ask.{IsNoMemory, IsStoreFault, Rests}
 pub use Rattle.kt_store.specs.Attaching.{Blank, IsOf, Older, Refuses, TakesTables}
-pub use Rattle.kt_store.specs.Files.{AreOfFile, Ends, EndsIn, Finds, IsOfFile, IsReadAs, MustBeTested}
-pub use Rattle.kt_store.specs.Heads.{entry_at, head_of, no_output, outlined, outputs_of, pairs_of}
+pub use Rattle.kt_store.specs.Heads.{entry_at, head_of, no_output, outlined, pairs_of}
 pub use Rattle.kt_store.specs.Inner.Ask.{AreWide, Asked, HasColumns, MayShow, MayExecute, ShowsOf, Executed}
-pub use Rattle.kt_store.specs.Inner.Cursors.{CountsUnder, FindsUnder, ends_with, key_before, Goes, HoldsCommit, IsLast, Looks, LooksThrough, ShowsUnder, in_columns}
-pub use Rattle.kt_store.specs.Inner.Edits.{Ended, Obeys, PutsRows, Wrote, done_row, unnumbered}
 pub use Rattle.kt_store.specs.Inner.Fault.{IsOutOfMemory, IsShort, IsOfError, IsOfRecoverError, IsOfTreeError, IsOfWriteError}
 pub use Rattle.kt_store.specs.Inner.Heads.{CountFrom, entry_columns, head_columns, pair_columns, whole_columns}
-pub use Rattle.kt_store.specs.Inner.NewFiles.{IsUri}
-pub use Rattle.kt_store.specs.Inner.Opening.{IsLeft, IsOfOptions, IsTaken, IsTakenOf, ListsRuns, OpensOver, RecoversAgain, SaysAnother}
-pub use Rattle.kt_store.specs.Inner.Known.{AreNamed, OnTrees, StandAt, places_2}
 pub use Rattle.kt_store.specs.Inner.Kept.{AsksNumber, Changes, CommitsNothing, FindsTables, HasNumber, KeepsRuns, LeavesSchema, Looked, MayChange, WasClean}
 pub use Rattle.kt_store.specs.Inner.Runs.{CanAdd, IsBareIfPassed, IsComplete, entries_of}
 pub use Rattle.kt_store.specs.Inner.Transactions.{Commits, CommitsLater, IsOurs, MayCommit, RunsAll, RunsOne, Statement, Undoes, entry_statements, pair_statement, pair_statements, plain_statements}
-pub use Rattle.kt_store.specs.Runs.{AreNumbered, AreOrdered, AreRuns, IsEntry, IsPair, IsText, Keeps, KeepsOne, entry_row, finish, finish_refusal, flag, has_position, kind_code, new_run, pair_row, pair_rows, pair_rows_from, put_refusal, run_at, run_row, with_entry}
-pub use Rattle.kt_store.specs.Seeks.{HasCommitted, HoldsRuns, OpensRuns}
+pub use Rattle.kt_store.specs.Runs.{AreRuns, IsEntry, IsPair, IsText, Keeps, KeepsOne, finish, finish_refusal, flag, has_position, kind_code, new_run, put_refusal, run_at, with_entry}
 pub use Rattle.kt_store.specs.Serving.{Reads, Serves, results}
 pub use Rattle.kt_store.specs.Stands.{IsUnderstood, Leaves, OnRuns, SaysSchema, StandsFor}
 pub use Rattle.kt_store.specs.StoreCalls.{Began, Finished, Heads, Outline, Outputs, Pairs, Put, seen_as}
 pub use Rattle.kt_store.specs.Tables.{entries_text, pairs_text, runs_text, schema_2}
-pub use Rattle.kt_store.specs.Types.{AllByRecursion, Blob, Entry, HasCleanDisk, Held, Int, IsAscending, IsLive, IsUnchanged, Run, Survives, column, last_run, state, understood, utf8}
+pub use Rattle.kt_store.specs.Types.{AllByRecursion, Blob, Entry, HasCleanDisk, Held, Int, IsLive, IsUnchanged, Run, Survives, column, last_run, state, understood, utf8}

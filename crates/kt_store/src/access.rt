@@ -10,7 +10,7 @@ pub enum Access {
 impl Access {
     /// Returns how many pages of the file are kept in memory. To record, that is somewhat more than an output of 1 MiB
     /// takes. To read, that is few, since most pages are read once.
-    pub(crate) fn pages(self) -> usize {
+    pub fn pages(self) -> usize {
         match self {
             Access::Record => 1_100,
             Access::Read => 64,

@@ -9,21 +9,21 @@ use sqlite::{Alter, Connection};
 
 // The texts of the tables (docs/formats/store.md).
 
-pub(crate) const CREATE_META: &str =
+pub const CREATE_META: &str =
     "CREATE TABLE meta (name TEXT PRIMARY KEY, value INTEGER NOT NULL) STRICT";
 
-pub(crate) const CREATE_RUNS: &str =
+pub const CREATE_RUNS: &str =
     "CREATE TABLE runs (id INTEGER PRIMARY KEY, started INTEGER NOT NULL, total INTEGER NOT NULL, finished INTEGER NOT NULL CHECK (finished IN (0, 1))) STRICT";
 
-pub(crate) const CREATE_ENTRIES: &str =
+pub const CREATE_ENTRIES: &str =
     "CREATE TABLE entries (run INTEGER NOT NULL REFERENCES runs (id), position INTEGER NOT NULL, program TEXT NOT NULL, case_name TEXT NOT NULL, kind INTEGER NOT NULL CHECK (kind BETWEEN 0 AND 4), reason TEXT NOT NULL, started INTEGER NOT NULL, millis INTEGER NOT NULL, body_out BLOB NOT NULL, body_err BLOB NOT NULL, clean_out BLOB NOT NULL, clean_err BLOB NOT NULL, PRIMARY KEY (run, position)) STRICT";
 
-pub(crate) const CREATE_PROPS: &str =
+pub const CREATE_PROPS: &str =
     "CREATE TABLE props (run INTEGER NOT NULL, position INTEGER NOT NULL, place INTEGER NOT NULL, name TEXT NOT NULL, value TEXT NOT NULL, PRIMARY KEY (run, position, place)) STRICT";
 
 /// Theorem: an open connection shows a database.
 // No effect: the call states the fact for the prover.
-pub(crate) fn lives<S: Alter>(conn: &Connection<S>)
+pub fn lives<S: Alter>(conn: &Connection<S>)
     ensures { IsLive (state S.Store conn.now) }
 {
     let _ = conn.schema();

@@ -10,7 +10,7 @@ use sqlite::{Alter, Connection, Row};
 use std::alloc::Global;
 
 /// Appends an item.
-pub(crate) fn add<T: Drop>(items: &mut Vec<T>, item: T) -> Result<(), NoMemory>
+pub fn add<T: Drop>(items: &mut Vec<T>, item: T) -> Result<(), NoMemory>
     ensures added { OnOk result (items.new.items ≡ items.old.items ++ item ∷ []) }
 {
     items.push(item)?;
@@ -18,7 +18,7 @@ pub(crate) fn add<T: Drop>(items: &mut Vec<T>, item: T) -> Result<(), NoMemory>
 }
 
 /// Reads the head of a run from its row.
-pub(crate) fn head_in(row: &Row) -> Result<RunHead, StoreFailure>
+pub fn head_in(row: &Row) -> Result<RunHead, StoreFailure>
     requires { 4 ≤ length row.now }
     ensures head { (r : Stored) → row.now ≡ head_columns r → IfOk result (λ h. h ≡ head_of r) }
 {
@@ -35,7 +35,7 @@ pub(crate) fn head_in(row: &Row) -> Result<RunHead, StoreFailure>
 }
 
 /// Reads the heads of runs in their rows. The rows are damaged if they are not numbered from 1.
-pub(crate) fn heads_in(alloc: Global, rows: &[Row]) -> Result<Vec<RunHead>, StoreFailure>
+pub fn heads_in(alloc: Global, rows: &[Row]) -> Result<Vec<RunHead>, StoreFailure>
     requires { AreWide 4 rows.now }
     ensures heads { (runs : List Stored) → rows.now ≡ map head_columns runs
         → IfOk result (λ heads. heads.items ≡ map head_of runs) }

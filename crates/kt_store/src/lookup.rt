@@ -8,7 +8,7 @@ use crate::value::int;
 use sqlite::{Alter, Connection};
 
 /// How many runs this profile keeps.
-pub(crate) const MOST_RUNS: u32 = 1_000_000;
+pub const MOST_RUNS: u32 = 1_000_000;
 
 /// Reads the total of a run, and 1 if it is finished.
 pub(crate) fn find<S: Alter>(
@@ -36,7 +36,7 @@ pub(crate) fn find<S: Alter>(
 }
 
 /// Returns the number of a run as the tables store it. Returns 0, which no run has, for a number above 1,000,000.
-pub(crate) fn key(run: u64) -> u32
+pub fn key(run: u64) -> u32
     ensures low { result ≤ last_run }
     ensures same { run ≤ last_run → result ≡ run }
     ensures none { last_run < run → result ≡ 0 }

@@ -35,7 +35,7 @@ fn property_from_row(row: &Row) -> Result<Variable, StoreFailure>
 }
 
 /// Reads pairs from their rows.
-pub(crate) fn pairs_in(alloc: Global, rows: &[Row]) -> Result<Variables, StoreFailure>
+pub fn pairs_in(alloc: Global, rows: &[Row]) -> Result<Variables, StoreFailure>
     requires { AreWide 2 rows.now }
     ensures { (vs : List StoredPair) → AllByRecursion IsPair vs → rows.now ≡ map pair_columns vs
         → IfOk result (λ x. x ≡ vs) }
@@ -105,7 +105,7 @@ fn bare_in(alloc: Global, row: &Row) -> Result<Entry, StoreFailure>
 }
 
 /// Reads entries without their pairs and outputs from their rows.
-pub(crate) fn outline_in(alloc: Global, rows: &[Row]) -> Result<Vec<Entry>, StoreFailure>
+pub fn outline_in(alloc: Global, rows: &[Row]) -> Result<Vec<Entry>, StoreFailure>
     requires { AreWide 7 rows.now }
     ensures { (es : List Stored) → AllByRecursion IsEntry es → rows.now ≡ map entry_columns es
         → IfOk result (λ found. found.items ≡ map outlined es) }

@@ -12,7 +12,7 @@ use sqlite::{Alter, Connection, Transaction};
 use std::alloc::Global;
 
 /// Returns the text of an entry's reason.
-pub(crate) fn reason_of(alloc: Global, entry: &Entry) -> Result<Text, NoMemory>
+pub fn reason_of(alloc: Global, entry: &Entry) -> Result<Text, NoMemory>
     ensures text { IfOk result (λ t. t ≡ entry.now.verdict.reason) }
     ensures passed { OnOk result (IsBareIfPassed entry.now) }
 {

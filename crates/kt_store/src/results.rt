@@ -10,10 +10,10 @@ use sqlite::{Alter, Connection};
 use std::alloc::Global;
 use std::marker::Model;
 
-/// The runs that are kept in the tables of a database (docs/formats/store.md). The program opens a file as `Results` if
-/// `open_known` doesn't take it, as a new file or one of schema 1, and then reads and writes it as a `RunsFile`. A contract
-/// sees the connection; what is said of it holds while the disk returns what was written, nobody else writes the database,
-/// and the connection is open.
+/// The runs that are kept in the tables of a database (docs/formats/store.md). The program attaches a file that does not
+/// list the tables of schema 2, as a new file or one of schema 1, and then reads and writes it as a `RunsFile` (kt_dbfile).
+/// A contract sees the connection; what is said of it holds while the disk returns what was written, nobody else writes the
+/// database, and the connection is open.
 #[derive(Drop)]
 pub struct Results<S: Alter> {
     conn: Connection<S>,
@@ -63,7 +63,7 @@ impl<S: Alter> Results<S> {
     }
 
     /// Returns the connection and its allocator.
-    pub(crate) fn into_parts(self) -> (Global, Connection<S>)
+    pub fn into_parts(self) -> (Global, Connection<S>)
         ensures { result.1 ≡ self }
     {
         let Results { conn, alloc } = self;

@@ -48,14 +48,14 @@ impl StoreFault {
     }
 
     /// Returns `true` if the file can't be opened since another process works with it.
-    pub(crate) fn is_in_use(&self) -> bool {
+    pub fn is_in_use(&self) -> bool {
         matches!(self, StoreFault::Store(failed) if failed.is_in_use)
     }
 }
 
 /// Why a part of a call fails. A call of the store has refusals of its own beside these.
 #[derive(Clone, Copy)]
-pub(crate) enum StoreFailure {
+pub enum StoreFailure {
     NoMemory(Shortage),
     Failed(FailedStatement),
 }
@@ -87,7 +87,7 @@ pub struct FailedStatement {
 }
 
 /// The failure of a statement, a file or a test of what was read.
-pub(crate) const FAULTY: StoreFailure = StoreFailure::Failed(FailedStatement { is_in_use: false });
+pub const FAULTY: StoreFailure = StoreFailure::Failed(FailedStatement { is_in_use: false });
 
 /// A type of this module, so that no other can create a `Shortage`.
 #[derive(Clone, Copy, Debug)]
@@ -164,7 +164,7 @@ impl From<WriteError> for StoreFailure {
 }
 
 /// Returns the fault of files that can't be opened.
-pub(crate) fn unopened(error: &OpenError) -> StoreFailure
+pub fn unopened(error: &OpenError) -> StoreFailure
     ensures short { IsShort result → IsOutOfMemory error.now }
 {
     let is_short = match error {
@@ -181,7 +181,7 @@ pub(crate) fn unopened(error: &OpenError) -> StoreFailure
 }
 
 /// Fails with a damage unless a check of what was read holds.
-pub(crate) fn sure(is_sound: bool) -> Result<(), StoreFailure>
+pub fn sure(is_sound: bool) -> Result<(), StoreFailure>
     ensures sound { OnOk result (is_sound ≡ true) }
     ensures damaged { OnErr result (is_sound ≡ false) }
 {
@@ -189,7 +189,7 @@ pub(crate) fn sure(is_sound: bool) -> Result<(), StoreFailure>
 }
 
 /// Returns the value, and fails with a damage if there is none.
-pub(crate) fn present<T>(found: Option<T>) -> Result<T, StoreFailure>
+pub fn present<T>(found: Option<T>) -> Result<T, StoreFailure>
     ensures there { IfOk result (λ it. found ≡ Some it) }
     ensures damaged { OnErr result (found ≡ None) }
 {

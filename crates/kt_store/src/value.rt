@@ -6,30 +6,31 @@ ghost use Rattle.sqlite_value.specs.declared.value.Value.TheVariants.{Text as Wo
 use kt_base::{Bytes, Kind, Text};
 use sqlite_value::value::ValueRef;
 
-// As SQL takes them.
-
-pub(crate) fn int<'a>(n: u64) -> ValueRef<'a>
+/// Returns a number as SQL takes it.
+pub fn int<'a>(n: u64) -> ValueRef<'a>
     requires { n < 2 ^ 63 }
     ensures { owned result ≡ Int (pos n) }
 {
     ValueRef::Int(n as i64)
 }
 
-pub(crate) fn text(text: &Text) -> ValueRef<'_>
+/// Returns a text as SQL takes it, in UTF-8.
+pub fn text(text: &Text) -> ValueRef<'_>
     ensures value { owned result ≡ Words (utf8 text.entry.now) }
     ensures spelled { IsText text.entry.now }
 {
     ValueRef::Text(text.as_str().as_bytes())
 }
 
-pub(crate) fn blob(bytes: &Bytes) -> ValueRef<'_>
+/// Returns bytes as SQL takes them.
+pub fn blob(bytes: &Bytes) -> ValueRef<'_>
     ensures { owned result ≡ Blob bytes.entry.now }
 {
     ValueRef::Blob(bytes.as_slice())
 }
 
 /// Returns the number by which a kind is stored (docs/formats/store.md).
-pub(crate) fn code(kind: Kind) -> u64
+pub fn code(kind: Kind) -> u64
     ensures value { result ≡ kind_code kind }
     ensures low { result < 5 }
 {

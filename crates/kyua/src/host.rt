@@ -3,7 +3,8 @@
 use kt_base::Text;
 use kt_child::DriverFault;
 use kt_cli::{ProcessEnv, ResultsHost};
-use kt_store::{Access, RunsFile, StoreFault, TrustedContents};
+use kt_dbfile::{RunsFile, TrustedContents};
+use kt_store::{Access, StoreFault};
 use sqlite::{FileFrom, FileStore, Unknown};
 
 /// Specification of the path and the initial contents of the results file.

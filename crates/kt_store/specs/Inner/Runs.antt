@@ -1,7 +1,7 @@
 -- The rows of a list of runs.
-use Rattle.std.specs.Prelude.{◌≡◌, ℕ, suc, Option, None, ◌<◌, List, [], length, Some}
+use Rattle.std.specs.Prelude.{◌≡◌, ℕ, pos, suc, Option, None, ◌<◌, List, [], ◌∷◌, length, Some}
 use Rattle.kt_store.specs.Runs.{IsPair, IsRun, IsText, run_at, with_entry}
-use Rattle.kt_store.specs.Types.{AllByRecursion, Entry, Passed, Run}
+use Rattle.kt_store.specs.Types.{AllByRecursion, Entry, Int, Null, Passed, Row, Run}
 
 -- a passed case has the empty reason
 abbrev pub IsBareIfPassed : Entry → Type 0
@@ -23,3 +23,7 @@ IsComplete run runs = (k : ℕ) × (r : Run) × (run ≡ suc k) × (run_at runs 
 abbrev pub entries_of : Option Run → List Entry
 entries_of None = []
 entries_of (Some r) = r.entries
+
+-- the row of a run, behind its rowid, once it is finished
+abbrev pub done_row : Run → Row
+done_row r = Int (pos r.number) ∷ Int (pos r.number) ∷ Null ∷ Int (pos r.started) ∷ Int (pos r.total) ∷ Int (pos 1) ∷ []

@@ -1,0 +1,146 @@
+-- How calls end that write the trees of a store: committed, or gone back to the last commit.
+use Rattle.kt_dbfile.proofs.Common.{Agrees, Database, Ended, Err, Ghosts, HasCleanDisk, HasCommitted, HasRuns, Held, HoldsCommit, IsLive, IsSettledStore, IsSound, IsTrue, Keeps, KeepsOne, List, Lists, Looks, Ok, Outlasts, Result, Run, Schema, Serves, StandAt, StandsFor, StoreCall, StoreFault, Trees, Wrote, ap, catalog_tree, changed_by, clean_if_open, false, inl, inr, is_err, lists_once, places_2, readings, refl, runs_file, schema_2, state, subst, sym, true, true≢false, ◌∙◌, ◌∷◌, ◌≡◌}
+use Rattle.sqlite_trees.specs.View.{View, IsClean, IsRolledBack}
+use Rattle.kt_dbfile.specs.declared.places.Places.{Places}
+use Rattle.kt_dbfile.proofs.SeenLemmas.{read_serves}
+use Rattle.kt_store.proofs.ServeLemmas.{IsWrite}
+use Rattle.kt_dbfile.proofs.EditLemmas.{schema_is}
+use Rattle.kt_store.proofs.Numbered.{numbers_changed, ordered_changed}
+
+module _ (old new : View) (back : IsRolledBack old new) (clean : IsClean new) where
+  pub rolled_held : HoldsCommit old new
+  rolled_held opened = ((back.kept clean).was_open opened, (back.kept clean).committed opened)
+
+-- a store that is not broken is open, by its law
+open_if_sound : (v : View) → (v.is_open ≡ false → IsTrue v.is_broken) → v.is_broken ≡ false → IsTrue v.is_open
+open_if_sound v law sound = elim v.is_open as (λ b. (b ≡ false → IsTrue v.is_broken) → IsTrue b) [ true ↦ λ _. refl | false ↦ λ shut. absurd (true≢false (sym (shut refl) ∙ sound)) ] law
+
+-- what a store that is settled shows obeys its schema
+pub sound_of : (v : View) (schema : Schema) → (v.is_open ≡ false → IsTrue v.is_broken) → IsSettledStore v schema → IsClean v → v.is_broken ≡ false → IsSound schema v.trees
+sound_of v schema law is clean sound = subst (IsSound schema) (sym (is.settled clean sound)) (is.sound (open_if_sound v law sound))
+
+-- and its tables stand where they are found by name
+pub stand_at : (v : View) (schema : Schema) (places : Places) → (v.is_open ≡ false → IsTrue v.is_broken) → IsSettledStore v schema × (schema ≡ schema_2 → places ≡ places_2) → StandAt places v
+stand_at v schema places law is clean sound runs keeps = is.1 (schema_is schema runs v.trees (sound_of v schema law is.0 clean sound) keeps)
+
+-- and is what it stands for
+pub has_runs : (v : View) (schema : Schema) → (v.is_open ≡ false → IsTrue v.is_broken) → IsSettledStore v schema → (runs : List Run) → HasCommitted v runs → HasRuns v runs
+has_runs v schema law is runs has clean sound = subst (Keeps runs) (sym (is.settled clean sound)) (has (open_if_sound v law sound))
+
+-- what was only read is settled
+pub looked_settled : {S : Type 0} (g : Ghosts S) (old new : S) (schema : Schema) → ((g.view new).is_clean ≡ false → (g.view new).is_open ≡ false) → Looks g old new → IsSettledStore (g.view old) schema → IsSettledStore (g.view new) schema
+looked_settled g old new schema dirty looks is = record {
+  settled = λ clean sound.
+      let same = looks.same clean sound in
+      ap (λ (v : View). v.trees) same ∙ is.settled (looks.clean clean) (ap (λ (v : View). v.is_broken) (sym same) ∙ sound) ∙ ap (λ (v : View). v.committed) (sym same);
+  sound = λ opened.
+      let held = looks.held (clean_if_open (g.view new) dirty opened) opened in
+      subst (IsSound schema) (sym held.1) (is.sound held.0);
+}
+
+module _ {S : Type 0} (g : Ghosts S) (dirty : (s : S) → (g.view s).is_clean ≡ false → (g.view s).is_open ≡ false) (shut : (s : S) → (g.view s).is_open ≡ false → IsTrue (g.view s).is_broken) (settles : (s : S) (db : Trees) → IsTrue (g.view s).is_open → g.recovers s db → db ≡ (g.view s).committed) (schema : Schema) where
+  -- ---- a call that reads
+
+  module _ (old new : S) (looks : Looks g old new) (is : IsSettledStore (g.view old) schema) where
+    still : (runs : List Run) → HasCommitted (g.view old) runs → HasCommitted (g.view new) runs
+    still runs h opened = let held = looks.held (clean_if_open (g.view new) (dirty new) opened) opened in subst (Keeps runs) (sym held.1) (h held.0)
+
+    pub read_served : (call : StoreCall) → ((runs : List Run) → changed_by call runs ≡ runs)
+        → ((runs : List Run) (may : List (List Run)) → ((runs_file g).leaves old may → (runs_file g).leaves new may) → Outlasts (runs_file g).leaves call runs may old new)
+        → Serves (readings g) call old new → Serves (runs_file g) call old new
+    read_served call same lasts s = read_serves g old new looks HasCommitted still call same lasts (λ runs h. s.agrees runs (has_runs (g.view old) schema (shut old) is runs h.0, h.1, h.2))
+
+  -- ---- a call that writes
+
+  module _ {T : Type 0} (call : Result T StoreFault → StoreCall) (change : List Run → List Run) (writes : IsWrite (runs_file g).leaves call change)
+      (old mid new : S) (is : IsSettledStore (g.view old) schema) where
+    wider : (runs : List Run) (may : List (List Run)) (trees : Trees) → KeepsOne (runs ∷ may) trees → KeepsOne (runs ∷ change runs ∷ may) trees
+    wider runs may trees (inl one) = inl one
+    wider runs may trees (inr more) = inr (inr more)
+
+    has : (runs : List Run) → (runs_file g).stands old runs → HasRuns (g.view old) runs
+    has runs h = has_runs (g.view old) schema (shut old) is runs h.0
+
+    made : (call' : StoreCall) (runs : List Run) → (runs_file g).stands old runs → (IsClean (g.view new) → Agrees runs call') → (IsClean (g.view new) → IsClean (g.view old)) → HasCommitted (g.view new) (changed_by call' runs)
+        → (runs_file g).stands new (changed_by call' runs)
+    made call' runs h agrees earlier kept = (kept, numbers_changed call' runs h.1, λ late. ordered_changed call' runs h.1 (h.2 (earlier late)) (agrees late))
+
+    -- the trees of what was written are those of the changed runs
+    rows : (written : Result T StoreFault) → Wrote g schema call old mid written → is_err written ≡ false → (runs : List Run) → (runs_file g).stands old runs → IsClean (g.view mid) → Keeps (change runs) (g.view mid).trees
+    rows (Ok x) wrote none runs h clean = subst (λ l. Keeps l (g.view mid).trees) (writes.done x runs) (wrote.rows runs (has runs h) clean)
+    rows (Err f) wrote none runs h clean = absurd (true≢false none)
+
+    -- by how it ended
+    pub ended_served : (written result : Result T StoreFault) → Wrote g schema call old mid written → Ended g mid new written result → Serves (runs_file g) (call result) old new
+    ended_served written (Ok x) wrote ended =
+        let done = subst (λ r. Wrote g schema call old mid r) ended.value wrote in
+        record {
+          asked = tt;
+          stands = λ runs h. made (call (Ok x)) runs h (λ late. done.agrees runs (has runs h) (ended.clean late)) (λ late. wrote.clean (ended.clean late)) (λ opened.
+              let late = clean_if_open (g.view new) (dirty new) opened in
+              subst (Keeps (changed_by (call (Ok x)) runs)) (sym (ended.done late).1) (done.rows runs (has runs h) (ended.clean late)));
+          earlier = λ runs h late. wrote.clean (ended.clean late);
+          agrees = λ runs h late. done.agrees runs (has runs h) (ended.clean late);
+          crash = λ runs may h. writes.lasts x runs may old new (λ late trees found.
+              let opened = open_if_sound (g.view new) (shut new) (ended.done late).0 in
+              inl (subst (Keeps (change runs)) (sym (settles new trees opened found ∙ (ended.done late).1)) (rows (Ok x) done refl runs h (ended.clean late))));
+        }
+    ended_served written (Err e) wrote ended = record {
+      asked = tt;
+      stands = λ runs h. made (call (Err e)) runs h (agrees runs h) (λ late. wrote.clean (ended.clean late)) (λ opened.
+          let late = clean_if_open (g.view new) (dirty new) opened in
+          let second = ended.kept late opened in
+          let first = wrote.held (ended.clean late) second.0 in
+          subst (λ l. Keeps l (g.view new).committed) (sym (writes.refused e runs)) (subst (Keeps runs) (sym (second.1 ∙ first.1)) (h.0 first.0)));
+      earlier = λ runs h late. wrote.clean (ended.clean late);
+      agrees = agrees;
+      crash = λ runs may h. writes.survives e runs may old new (λ left late trees found. elim (ended.crash trees found) [
+        | inl it ↦ inr (inl (subst (Keeps (change runs)) (sym it.1) (rows written wrote it.0 runs h (ended.clean late))))
+        | inr before ↦ wider runs may trees (left (wrote.clean (ended.clean late)) trees (wrote.outcomes trees before))
+      ]);
+    }
+      where
+        agrees : (runs : List Run) → (runs_file g).stands old runs → IsClean (g.view new) → Agrees runs (call (Err e))
+        agrees runs h late = elim ended.fault [
+          | inl same ↦ subst (λ r. Agrees runs (call r)) same (wrote.agrees runs (has runs h) (ended.clean late))
+          | inr failed ↦ writes.fails e runs failed
+        ]
+
+    pub ended_settled : (written result : Result T StoreFault) → Wrote g schema call old mid written → Ended g mid new written result → IsSettledStore (g.view new) schema
+    ended_settled written (Ok x) wrote ended = record {
+      settled = ended.settled;
+      sound = λ opened.
+          let late = clean_if_open (g.view new) (dirty new) opened in
+          subst (IsSound schema) (sym (ended.done late).1) ((subst (λ r. Wrote g schema call old mid r) ended.value wrote).obeys (ended.clean late)).sound;
+    }
+    ended_settled written (Err e) wrote ended = record {
+      settled = ended.settled;
+      sound = λ opened.
+          let late = clean_if_open (g.view new) (dirty new) opened in
+          let second = ended.kept late opened in
+          let first = wrote.held (ended.clean late) second.0 in
+          subst (IsSound schema) (sym (second.1 ∙ first.1)) (is.sound first.0);
+    }
+
+-- ---- the results of a connection, by the trees of its store
+
+-- a schema that is listed is the one that is obeyed
+pub settled_by : (v : View) (listed : Schema) → (v.trees ≡ v.committed) → Lists (v.trees catalog_tree) listed → (IsTrue v.is_open → (schema : Schema) × IsSound schema v.committed) → IsTrue v.is_open → IsSound listed v.committed
+settled_by v listed same lists has opened =
+    let it = has opened in
+    let one : it.0 ≡ listed = lists_once (v.committed catalog_tree) it.0 listed it.1.lists (subst (λ (t : Trees). Lists (t catalog_tree) listed) same lists) in
+    subst (λ s. IsSound s v.committed) one it.1
+
+module _ {S : Type 0} (g : Ghosts S) (held : Held S) (new : S) (dirty : (g.view new).is_clean ≡ false → (g.view new).is_open ≡ false) (lives : IsLive (state g held)) (undone : IsRolledBack (g.view held.store) (g.view new)) where
+  pub still_sound : IsTrue (g.view new).is_open → (schema : Schema) × IsSound schema (g.view new).committed
+  still_sound opened =
+      let was = rolled_held (g.view held.store) (g.view new) undone (clean_if_open (g.view new) dirty opened) opened in
+      ((state g held).committed.schema, subst (IsSound (state g held).committed.schema) (sym was.1) (lives was.0).1)
+
+  pub still_stands : (IsClean (g.view new) → HasCleanDisk (state g held)) → (runs : List Run) → StandsFor (state g held) runs → HasCommitted (g.view new) runs
+  still_stands earlier runs has opened =
+      let clean = clean_if_open (g.view new) dirty opened in
+      let was = rolled_held (g.view held.store) (g.view new) undone clean opened in
+      let is = has (earlier clean) was.0 in
+      let trees : (g.view new).committed ≡ (state g held).now.trees = was.1 ∙ ap (λ (d : Database). d.trees) is.settled in
+      ((state g held).now, (lives was.0).0, trees, is.tables)

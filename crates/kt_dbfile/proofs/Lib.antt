@@ -1,0 +1,9 @@
+pub mod Common
+pub mod EndLemmas
+pub mod EditLemmas
+pub mod PlaceLemmas
+pub mod ReopenLemmas
+pub mod CursorLemmas
+pub mod SeenLemmas
+pub mod OpeningLemmas
+pub mod NewFiles

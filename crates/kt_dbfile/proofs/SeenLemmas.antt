@@ -1,0 +1,129 @@
+-- What is shown of the rows that a cursor finds, and how a store that is only read serves.
+use Rattle.kt_dbfile.proofs.Common.{Agrees, AreNumbered, AreWide, CaseOutputs, Entry, Err, Ghosts, HasRuns, HoldsCommit, IfErr, IfOk, IsStoreFault, IsTrue, Keeps, List, Looks, NoRun, None, Ok, Outlasts, Outputs, Result, Row, Run, Serves, Shows, Some, StandAt, StoreCall, StoreFault, Trees, Variable, [], all-map, ap, arith, by_trees, changed_by, column, drop, entry_at, entry_columns, entry_row, false, filter, has_rowid, head_columns, in_columns, length, length-map, map, map-map, map_same, outputs_of, pair_columns, pair_rows_from, places_2, pos, readings, refl, run_at, run_row, subst, sym, true, ℕ, ◌∙◌, ◌∷◌, ◌≡◌, ◌≤◌, ◌⊎◌}
+use Rattle.sqlite_trees.specs.View.{View, Finds, IsClean, IsQuiet, KeepsSchema}
+use Rattle.kt_store.proofs.EntryLemmas.{back}
+use Rattle.kt_store.proofs.RunLemmas.{found_run, none_there, some_there}
+use Rattle.kt_dbfile.specs.declared.places.Places.{Places}
+use Rattle.kt_store.proofs.PairsLemmas.{all_columns}
+
+-- columns that leave the rowid out
+abbrev pub LeavesRowid : List ℕ → Type 0
+LeavesRowid columns = (r : Row) → in_columns columns r ≡ in_columns columns (back (drop 1 r))
+
+pub seen : (columns : List ℕ) → LeavesRowid columns → (mine shown : List Row) → Shows columns mine shown → shown ≡ map (λ r. in_columns columns (back r)) mine
+seen columns leaves mine shown h =
+    h.2 ∙ map_same (in_columns columns) (λ r. in_columns columns (back (drop 1 r))) leaves h.0 ∙ sym (map-map (λ r. in_columns columns (back r)) (drop 1) h.0) ∙ ap (map (λ r. in_columns columns (back r))) h.1
+
+abbrev pub entry_places : List ℕ
+entry_places = 2 ∷ 3 ∷ 4 ∷ 5 ∷ 6 ∷ 7 ∷ 8 ∷ []
+
+abbrev pub pair_places : List ℕ
+pair_places = 4 ∷ 5 ∷ []
+
+entries_leave : LeavesRowid entry_places
+entries_leave [] = refl
+entries_leave (x ∷ r) = refl
+
+pairs_leave : LeavesRowid pair_places
+pairs_leave [] = refl
+pairs_leave (x ∷ r) = refl
+
+pub seen_entries : (n : ℕ) (es : List Entry) (shown : List Row) → Shows entry_places (map (entry_row n) es) shown → shown ≡ map entry_columns es
+seen_entries n es shown h = seen entry_places entries_leave _ shown h ∙ map-map (λ r. in_columns entry_places (back r)) (entry_row n) es
+
+pub seen_pairs : (n p : ℕ) (vs : List Variable) (shown : List Row) → Shows pair_places (pair_rows_from n p 0 vs) shown → shown ≡ map pair_columns vs
+seen_pairs n p vs shown h = seen pair_places pairs_leave _ shown h ∙ all_columns (λ r. in_columns pair_places (back r)) n p (λ k v. refl) 0 vs
+
+abbrev pub head_places : List ℕ
+head_places = 0 ∷ 2 ∷ 3 ∷ 4 ∷ []
+
+pub seen_heads : (runs : List Run) (table shown : List Row) → table ≡ map run_row runs → shown ≡ map (in_columns head_places) table → shown ≡ map head_columns runs
+seen_heads runs table shown are is = is ∙ ap (map (in_columns head_places)) are ∙ map-map (in_columns head_places) run_row runs
+
+-- the rows of runs, where their table stands
+pub rows_of_runs : (places : Places) (runs : List Run) (trees : Trees) → Keeps runs trees → places ≡ places_2 → trees places.runs.tree ≡ map run_row runs
+rows_of_runs places runs trees keeps is = ap (λ (p : Places). trees p.runs.tree) is ∙ ap (λ (t : Trees). t 2) keeps.2 ∙ keeps.3.runs_are
+
+-- a run is found by its rowid
+pub there_is : (runs : List Run) (n : ℕ) (table : List Row) (row : Row) → AreNumbered 1 runs → table ≡ map run_row runs → Finds table (pos n) row true → (r : Run) × (run_at runs n ≡ Some r) × (row ≡ run_row r)
+there_is runs n table row numbered are found =
+    some_there run_row (run_at runs n) (row ∷ []) row (sym (sym (found_run n runs numbered) ∙ ap (filter (has_rowid (pos n))) (sym are) ∙ found)) refl
+
+pub there_is_none : (runs : List Run) (n : ℕ) (table : List Row) (row : Row) → AreNumbered 1 runs → table ≡ map run_row runs → Finds table (pos n) row false → run_at runs n ≡ None
+there_is_none runs n table row numbered are found = none_there run_row (run_at runs n) [] (sym (sym (found_run n runs numbered) ∙ ap (filter (has_rowid (pos n))) (sym are) ∙ found)) refl
+
+-- what was only read still has its runs
+pub still_has : {S : Type 0} (g : Ghosts S) (old new : S) → Looks g old new → (runs : List Run) → HasRuns (g.view old) runs → HasRuns (g.view new) runs
+still_has g old new looks runs has clean sound =
+    let same = looks.same clean sound in
+    subst (Keeps runs) (ap (λ (v : View). v.trees) (sym same)) (has (looks.clean clean) (ap (λ (v : View). v.is_broken) (sym same) ∙ sound))
+
+-- and its tables where they stood
+pub still_at : {S : Type 0} (g : Ghosts S) (old new : S) (places : Places) → Looks g old new → StandAt places (g.view old) → StandAt places (g.view new)
+still_at g old new places looks stands clean sound runs keeps =
+    let same = looks.same clean sound in
+    stands (looks.clean clean) (ap (λ (v : View). v.is_broken) (sym same) ∙ sound) runs (subst (Keeps runs) (ap (λ (v : View). v.trees) same) keeps)
+
+-- each has as many columns as were asked for
+pub all_wide : (columns : List ℕ) (rows : List Row) → AreWide (length columns) (map (in_columns columns) rows)
+all_wide columns rows = all-map (λ (l : Row). length columns ≤ length l) (in_columns columns) (λ r. omega (arith, length-map columns (column r))) rows
+
+-- ---- how a store that is only read serves the calls of a store of runs
+
+pub outputs_agree : (r : Result CaseOutputs StoreFault) (runs : List Run) (number position : ℕ) → IfOk r (λ o. (e : Entry) × (entry_at (run_at runs number) position ≡ Some e) × (o ≡ outputs_of e))
+    → IfErr r (λ e. IsStoreFault e ⊎ ((e ≡ NoRun) × (entry_at (run_at runs number) position ≡ None))) → Agrees runs (Outputs number position r)
+outputs_agree (Ok o) runs number position ok err = ok
+outputs_agree (Err fault) runs number position ok err = err
+
+-- a commit that stood over two calls stood over both
+pub held_then : (a b c : View) → HoldsCommit a b → HoldsCommit b c → HoldsCommit a c
+held_then a b c first second opened = let late = second opened in let early = first late.0 in (early.0, late.1 ∙ early.1)
+
+module _ {S : Type 0} (g : Ghosts S) where
+  schema_then : (u v w : View) → KeepsSchema u v → KeepsSchema v w → KeepsSchema u w
+  schema_then u v w first second = record {
+    shape = second.shape ∙ first.shape;
+    reals = second.reals ∙ first.reals;
+    committed_shape = second.committed_shape ∙ first.committed_shape;
+    committed_reals = second.committed_reals ∙ first.committed_reals;
+    numbered = second.numbered ∙ first.numbered;
+  }
+
+  pub looks_then : (old mid new : S) → Looks g old mid → Looks g mid new → Looks g old new
+  looks_then old mid new first second = record {
+    clean = λ clean. first.clean (second.clean clean);
+    schema = schema_then (g.view old) (g.view mid) (g.view new) first.schema second.schema;
+    same = λ clean sound.
+        let late = second.same clean sound in
+        late ∙ ap (λ (v : View). record v { cursors = (g.view new).cursors }) (first.same (second.clean clean) (ap (λ (v : View). v.is_broken) (sym late) ∙ sound));
+    held = λ clean. held_then (g.view old) (g.view mid) (g.view new) (first.held (second.clean clean)) (second.held clean);
+    outcomes = λ db found. first.outcomes db (second.outcomes db found);
+  }
+
+  -- cursors have moved at most
+  pub looked : (old new : S) → IsQuiet g.view g.faults g.recovers g.is_shielded old new → KeepsSchema (g.view old) (g.view new) → (IsClean (g.view new) → g.view new ≡ record (g.view old) { cursors = (g.view new).cursors }) → Looks g old new
+  looked old new quiet schema moves = record {
+    clean = λ clean. let falls = quiet.clean in omega arith;
+    schema = schema;
+    same = λ clean sound. moves clean;
+    held = λ clean opened. (subst IsTrue (ap (λ (v : View). v.is_open) (moves clean)) opened, ap (λ (v : View). v.committed) (moves clean));
+    outcomes = quiet.outcomes;
+  }
+
+  -- a call that only reads, of a store that still has its runs
+  module _ (old new : S) (looks : Looks g old new) where
+    pub read_serves : (Has : View → List Run → Type 0) → ((runs : List Run) → Has (g.view old) runs → Has (g.view new) runs) → (call : StoreCall) → ((runs : List Run) → changed_by call runs ≡ runs)
+        → ((runs : List Run) (may : List (List Run)) → ((by_trees g Has).leaves old may → (by_trees g Has).leaves new may) → Outlasts (by_trees g Has).leaves call runs may old new)
+        → ((runs : List Run) → (by_trees g Has).stands old runs → IsClean (g.view new) → Agrees runs call) → Serves (by_trees g Has) call old new
+    read_serves Has still call same lasts why = record {
+      asked = tt;
+      stands = λ runs h. subst ((by_trees g Has).stands new) (sym (same runs)) (still runs h.0, h.1, λ clean. h.2 (looks.clean clean));
+      earlier = λ runs h clean. looks.clean clean;
+      agrees = why;
+      crash = λ runs may h. lasts runs may (λ left clean trees found. left (looks.clean clean) trees (looks.outcomes trees found));
+    }
+
+    pub looked_serves : (call : StoreCall) → ((runs : List Run) → changed_by call runs ≡ runs)
+        → ((runs : List Run) (may : List (List Run)) → ((readings g).leaves old may → (readings g).leaves new may) → Outlasts (readings g).leaves call runs may old new)
+        → ((runs : List Run) → HasRuns (g.view old) runs → IsClean (g.view new) → Agrees runs call) → Serves (readings g) call old new
+    looked_serves call same lasts why = read_serves HasRuns (still_has g old new looks) call same lasts (λ runs h. why runs h.0)

@@ -1,0 +1,40 @@
+use Rattle.kt_dbfile.proofs.Common.{Fills, IsClean, Trees, View, ap, arith, places_2, subst}
+use Rattle.kt_dbfile.proofs.EditLemmas.{entry_filled}
+use Rattle.kt_dbfile.proofs.SeenLemmas.{held_then}
+use Rattle.kt_dbfile.proofs.edits.write_entry.Goals as goal
+
+pub returns : goal.returns
+returns g c = record {
+  clean = λ clean. c.check_entry.ensures.looks.clean (omega (arith, clean, c.put_rows.ensures.quiet.clean, c.put_rows-2.ensures.quiet.clean));
+  held = λ clean.
+      let mid : IsClean (g.S.Store.view c.put_rows.new.store) = omega (arith, clean, c.put_rows-2.ensures.quiet.clean) in
+      let first = g.S.Store.view c.args.store.now in
+      let at = g.S.Store.view c.put_rows.new.store in
+      held_then first at (g.S.Store.view c.put_rows-2.new.store)
+      (held_then first (g.S.Store.view c.check_entry.new.store) at (c.check_entry.ensures.looks.held (omega (arith, mid, c.put_rows.ensures.quiet.clean))) (c.put_rows.ensures.held mid)) (c.put_rows-2.ensures.held clean);
+  outcomes = λ db found. c.check_entry.ensures.looks.outcomes db (c.put_rows.ensures.quiet.outcomes db (c.put_rows-2.ensures.quiet.outcomes db found));
+  obeys = c.in_ok-put_rows-2.ensures.obeys;
+  agrees = λ runs has clean.
+      let early : IsClean (g.S.Store.view c.check_entry.new.store) = omega (arith, clean, c.put_rows.ensures.quiet.clean, c.put_rows-2.ensures.quiet.clean) in
+      (c.in_ok-check_entry.ensures.taken runs has early c.in_ok-reason.ensures.passed).0;
+  rows = λ runs has clean.
+      let mid : IsClean (g.S.Store.view c.put_rows.new.store) = omega (arith, clean, c.put_rows-2.ensures.quiet.clean) in
+      let early : IsClean (g.S.Store.view c.check_entry.new.store) = omega (arith, mid, c.put_rows.ensures.quiet.clean) in
+      let through = c.in_ok-check_entry.ensures.through early in
+      let was = c.check_entry.ensures.looks.clean early in
+      let trees = ap (λ (v : View). v.trees) through.1 in
+      let is = c.requires.placed was through.0 runs (has was through.0) in
+      let number = c.key-number.ensures.same c.in_ok-check_entry.ensures.small in
+      let texts = c.in_ok-row.ensures.texts in
+      let pairs = rw c.as_slice.ensures at c.in_ok-pairs.ensures.texts in
+      let fills = subst (λ (t : Trees). Fills c.args.schema.now places_2 c.args.run c.args.entry.now t (g.S.Store.view c.put_rows-2.new.store).trees) trees (
+        (texts.0, texts.1, texts.2, pairs),
+        (
+          (g.S.Store.view c.put_rows.new.store).trees,
+          rw (c.from_ref.ensures.value, c.in_ok-row.ensures.row, number, is) at (c.in_ok-put_rows.ensures.puts mid),
+          rw (c.as_slice-2.ensures.value, c.in_ok-pairs.ensures.rows, c.as_slice.ensures, number, is) at (c.in_ok-put_rows-2.ensures.puts clean),
+        ),
+      ) in
+      entry_filled c.args.schema.now runs (g.S.Store.view c.args.store.now).trees _ (c.requires.sound was through.0) (c.in_ok-put_rows-2.ensures.obeys clean).sound (has was through.0) c.args.run c.args.entry.now
+      (c.in_ok-check_entry.ensures.taken runs has early c.in_ok-reason.ensures.passed).1 fills;
+}

@@ -1,0 +1,24 @@
+use Rattle.kt_dbfile.proofs.Common.{Chosen, IsClean, PutsRows, Trees, View, [], ap, arith, begun_row, rules, subst, ◌∷◌}
+use Rattle.kt_dbfile.proofs.EditLemmas.{run_made}
+use Rattle.kt_dbfile.proofs.SeenLemmas.{held_then}
+use Rattle.kt_dbfile.proofs.edits.write_run.Goals as goal
+
+pub returns : goal.returns
+returns g c = record {
+  clean = λ clean. c.next_number.ensures.looks.clean (omega (arith, clean, c.put_rows.ensures.quiet.clean));
+  held = λ clean. held_then (g.S.Store.view c.args.store.now) (g.S.Store.view c.next_number.new.store) (g.S.Store.view c.put_rows.new.store) (c.next_number.ensures.looks.held (omega (arith, clean, c.put_rows.ensures.quiet.clean))) (c.put_rows.ensures.held clean);
+  outcomes = λ db found. c.next_number.ensures.looks.outcomes db (c.put_rows.ensures.quiet.outcomes db found);
+  obeys = c.in_ok-put_rows.ensures.obeys;
+  agrees = search rules;
+  rows = λ runs has clean.
+      let early : IsClean (g.S.Store.view c.next_number.new.store) = omega (arith, clean, c.put_rows.ensures.quiet.clean) in
+      let through = c.in_ok-number.ensures.through early in
+      let was = c.next_number.ensures.looks.clean early in
+      let trees = ap (λ (v : View). v.trees) through.1 in
+      let keeps = has was through.0 in
+      let sound = c.requires.sound was through.0 in
+      let is = c.requires.placed was through.0 runs keeps in
+      let puts = subst (λ (t : Trees). PutsRows c.args.schema.now 1 [] Chosen 0 (begun_row c.args.total c.args.moment ∷ []) t (g.S.Store.view c.put_rows.new.store).trees) trees
+      (rw (c.from_ref.ensures.value, is, c.in_ok-row.ensures, c.int.ensures, c.int-2.ensures, c.from.ensures, c.int-3.ensures) at (c.in_ok-put_rows.ensures.puts clean)) in
+      run_made c.args.schema.now runs (g.S.Store.view c.args.store.now).trees _ sound (c.in_ok-put_rows.ensures.obeys clean).sound keeps c.args.total c.args.moment (c.in_ok-number.ensures.number runs has early).1 (omega arith) puts;
+}

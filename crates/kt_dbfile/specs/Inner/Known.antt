@@ -1,0 +1,50 @@
+-- What is known of the results in a database, by the trees of a store, and where their tables stand.
+use Rattle.std.specs.Prelude.{◌≡◌, false, List, ℕ, suc, [], ◌∷◌, ⊤, Some}
+use Rattle.kt_store.specs.Runs.{AreNumbered, AreOrdered, Keeps, KeepsOne}
+use Rattle.kt_store.specs.Seeks.{HasCommitted}
+use Rattle.kt_store.specs.declared.result_store.StoreSpec as store
+use Rattle.sqlite_schema.specs.Names.{column_named}
+use Rattle.sqlite_schema.specs.declared.schema.Table.{Table}
+use Rattle.kt_dbfile.specs.declared.places.Places.{Places}
+use Rattle.kt_store.specs.Types.{Ghosts, IsClean, Run, Trees, View}
+
+-- while the disk returns what was written and the store is not broken, its trees are those of a database with these runs
+abbrev pub HasRuns : View → List Run → Type 0
+HasRuns v runs = IsClean v → v.is_broken ≡ false → Keeps runs v.trees
+
+-- what holds of the runs that the trees of a store were those of before a call, if the disk returns what was written after it
+abbrev pub OnTrees : {S : Type 0} → Ghosts S → S → S → (List Run → Type 0) → Type 0
+OnTrees g old new P = (runs : List Run) → HasRuns (g.view old) runs → IsClean (g.view new) → P runs
+
+module _ {S : Type 0} (g : Ghosts S) where
+  -- of a store that has runs in this sense
+  abbrev pub by_trees : (View → List Run → Type 0) → store.Ghosts S
+  by_trees Has = record {
+    answers = λ _ _ _. Unit {0};
+    stands = λ s runs. Has (g.view s) runs × AreNumbered 1 runs × (IsClean (g.view s) → AreOrdered runs);
+    sound = λ s. IsClean (g.view s);
+    leaves = λ s may. IsClean (g.view s) → (trees : Trees) → g.recovers s trees → KeepsOne may trees;
+    numbered = λ s runs h. h.1;
+    ordered = λ s runs h sound. h.2 sound;
+  }
+
+  -- of a store that is only read
+  abbrev pub readings : store.Ghosts S
+  readings = by_trees HasRuns
+
+  -- of a store that is read and written by its trees
+  abbrev pub runs_file : store.Ghosts S
+  runs_file = by_trees HasCommitted
+
+-- the columns of a table from a place on have these names
+abbrev pub AreNamed : Table → ℕ → List (List ℕ) → Type 0
+AreNamed table at [] = ⊤
+AreNamed table at (name ∷ names) = (column_named table name ≡ Some at) × AreNamed table (suc at) names
+
+-- where the tables of results stand in schema 2
+abbrev pub places_2 : Places
+places_2 = record { runs = record { at = 1; tree = 2 }; entries = record { at = 2; tree = 3 }; entry_keys = 4; props = record { at = 3; tree = 5 }; pair_keys = 6 }
+
+-- these places are those of schema 2, if the store shows runs and is not broken
+abbrev pub StandAt : Places → View → Type 0
+StandAt places v = IsClean v → v.is_broken ≡ false → (runs : List Run) → Keeps runs v.trees → places ≡ places_2

@@ -1,0 +1,357 @@
+//! Runs and entries that are written into the trees of a store, without a commit.
+
+ghost use Rattle.std.specs.Prelude.{◌≡◌, ◌⊎◌, ◌<◌, ◌≤◌, ◌^◌, map, suc, length, Some, None, false, IfOk, IfErr, OnOk};
+ghost use Rattle.kt_dbfile.specs.Common.{AllByRecursion, Began, CanAdd, Finished, IsBareIfPassed, IsComplete, IsMoment, IsPair, IsStorable, IsStoreFault, IsText, Looks, LooksThrough, OnTrees, Put, Run, StandAt, Wrote, done_row, entries_of, entry_row, finish_refusal, has_position, last_run, owned, pair_row, pair_rows_from, put_refusal, run_at, run_row, unnumbered};
+ghost use Rattle.sqlite_trees.specs.View.{IsClean};
+ghost use Rattle.sqlite_catalog.specs.Listing.{IsSound};
+
+use crate::ends::check_last;
+use crate::places::Places;
+use crate::rules::{TableEdit, put_rows};
+use crate::seeks::{last_number, run_head, stored_run};
+use crate::tables::{entries_at, entry_place, stored_head};
+use crate::trees::{count_under, number_row};
+use kt_base::{Entry, NoMemory, Text, Variable};
+use kt_store::StoreFault;
+use kt_store::heads::add;
+use kt_store::lookup::{MOST_RUNS, key};
+use kt_store::put::reason_of;
+use kt_store::store_fault::StoreFailure;
+use kt_store::value::{blob, code, int, text};
+use sqlite_rules::error::Rowids;
+use sqlite_schema::schema::Schema;
+use sqlite_trees::store::{Alter, Store};
+use sqlite_value::row::Row;
+use sqlite_value::value::ValueRef;
+use std::alloc::Global;
+use std::slice;
+
+/// Creates a row of these values.
+fn row_of(alloc: Global, values: &[ValueRef<'_>]) -> Result<Row, NoMemory>
+    ensures { IfOk result (λ row. row ≡ map owned values.now) }
+{
+    let mut row = Row::new(alloc);
+    for value in values {
+        row.push(*value)?;
+    }
+    Ok(row)
+}
+
+/// Creates the row of a pair at an index among the pairs of an entry.
+fn pair_row(
+    alloc: Global,
+    run: u32,
+    position: u32,
+    place: u64,
+    pair: &Variable,
+) -> Result<Row, NoMemory>
+    requires { place < 2 ^ 63 }
+    ensures row { IfOk result (λ row. row ≡ unnumbered (pair_row run position place pair.now)) }
+    ensures texts { IsPair pair.now }
+{
+    row_of(
+        alloc,
+        &[
+            ValueRef::Null,
+            int(u64::from(run)),
+            int(u64::from(position)),
+            int(place),
+            text(&pair.name),
+            text(&pair.value),
+        ],
+    )
+}
+
+/// Creates the rows of the pairs of an entry.
+fn rows_of_pairs(
+    alloc: Global,
+    run: u32,
+    position: u32,
+    pairs: &[Variable],
+) -> Result<Vec<Row>, NoMemory>
+    ensures rows { IfOk result (λ rows. rows.items
+        ≡ map unnumbered (pair_rows_from run position 0 pairs.now)) }
+    ensures texts { OnOk result (AllByRecursion IsPair pairs.now) }
+{
+    let mut rows = Vec::new(alloc);
+    let mut place = 0u64;
+    for pair in pairs {
+        let row = pair_row(alloc, run, position, place, pair)?;
+        add(&mut rows, row)?;
+        place += 1;
+    }
+    Ok(rows)
+}
+
+/// Creates the row of an entry of a run.
+fn row_of_entry<'a>(
+    alloc: Global,
+    run: u32,
+    entry: &'a Entry,
+    reason: &'a Text,
+) -> Result<Row, NoMemory>
+    requires reason { reason.now ≡ entry.now.verdict.reason }
+    requires moments { IsStorable entry.now }
+    ensures row { IfOk result (λ row. row ≡ unnumbered (entry_row run entry.now)) }
+    ensures texts { IsText entry.now.program × IsText entry.now.case_name
+        × IsText entry.now.verdict.reason }
+{
+    row_of(
+        alloc,
+        &[
+            ValueRef::Null,
+            int(u64::from(run)),
+            int(u64::from(entry.position)),
+            text(&entry.program),
+            text(&entry.case_name),
+            int(code(entry.verdict.kind())),
+            text(reason),
+            int(entry.started),
+            int(entry.millis),
+            blob(&entry.body.out),
+            blob(&entry.body.err),
+            blob(&entry.cleanup.out),
+            blob(&entry.cleanup.err),
+        ],
+    )
+}
+
+/// Returns the number of the next run. `StoreFull` if there are 1,000,000 runs.
+fn next_number<S: Alter>(store: &mut S, alloc: Global, places: Places) -> Result<u64, StoreFault>
+    requires { StandAt places (S.Store.view store.old) }
+    ensures number { OnTrees S.Store store.old store.new (λ runs.
+        IfOk result (λ n. (n ≡ suc (length runs)) × (length runs < last_run))) }
+    ensures refused { OnTrees S.Store store.old store.new (λ runs.
+        IfErr result (λ e. IsStoreFault e ⊎ ((e ≡ StoreFault.StoreFull)
+        × (last_run ≤ length runs)))) }
+    ensures through { IsClean (S.Store.view store.new)
+        → OnOk result (LooksThrough (S.Store.view store.old) (S.Store.view store.new)) }
+    ensures looks { Looks S.Store store.old store.new }
+{
+    let last = last_number(store, alloc, places)?;
+    check_last(store, alloc, places, last)?;
+    if last >= u64::from(MOST_RUNS) {
+        return Err(StoreFault::StoreFull);
+    }
+    Ok(last + 1)
+}
+
+/// Writes a run after the last one, and returns its number.
+pub(crate) fn write_run<S: Alter>(
+    store: &mut S,
+    alloc: Global,
+    schema: &Schema,
+    places: Places,
+    total: u32,
+    moment: u64,
+) -> Result<u64, StoreFault>
+    requires moment { IsMoment moment }
+    requires sound { IsClean (S.Store.view store.old) → (S.Store.view store.old).is_broken ≡ false
+        → IsSound schema.now (S.Store.view store.old).trees }
+    requires placed { StandAt places (S.Store.view store.old) }
+    ensures { Wrote S.Store schema.now (λ r. Began total moment r) store.old store.new result }
+{
+    let number = next_number(store, alloc, places)?;
+    let row = row_of(
+        alloc,
+        &[
+            ValueRef::Null,
+            ValueRef::Null,
+            int(moment),
+            int(u64::from(total)),
+            int(0),
+        ],
+    )?;
+    let edit = TableEdit {
+        place: places.runs.at,
+        gone: &[],
+        rowids: Rowids::Chosen,
+        from: 0,
+        sources: slice::from_ref(&row),
+    };
+    put_rows(store, alloc, schema, edit)?;
+    Ok(number)
+}
+
+/// Returns `true` if the run has an entry with this position.
+fn is_put<S: Store>(
+    store: &mut S,
+    alloc: Global,
+    places: Places,
+    run: u32,
+    position: u32,
+) -> Result<bool, StoreFailure>
+    requires { StandAt places (S.Store.view store.old) }
+    ensures found { OnTrees S.Store store.old store.new (λ runs.
+        IfOk result (λ b. b ≡ has_position position (entries_of (run_at runs run)))) }
+    ensures through { IsClean (S.Store.view store.new)
+        → OnOk result (LooksThrough (S.Store.view store.old) (S.Store.view store.new)) }
+    ensures looks { Looks S.Store store.old store.new }
+{
+    let place = entry_place(alloc, run, position)?;
+    let count = count_under(store, alloc, &entries_at(places), &place)?;
+    Ok(count > 0)
+}
+
+/// Checks that the run accepts the entry.
+fn check_entry<S: Alter>(
+    store: &mut S,
+    alloc: Global,
+    places: Places,
+    run: u64,
+    entry: &Entry,
+) -> Result<(), StoreFault>
+    requires { StandAt places (S.Store.view store.old) }
+    ensures small { OnOk result (run ≤ last_run) }
+    ensures refused { OnTrees S.Store store.old store.new (λ runs.
+        IfErr result (λ e. IsStoreFault e ⊎ (put_refusal runs run entry.now ≡ Some e))) }
+    ensures taken { OnTrees S.Store store.old store.new (λ runs.
+        OnOk result (IsBareIfPassed entry.now → (put_refusal runs run entry.now ≡ None)
+        × CanAdd run entry.now runs)) }
+    ensures through { IsClean (S.Store.view store.new)
+        → OnOk result (LooksThrough (S.Store.view store.old) (S.Store.view store.new)) }
+    ensures looks { Looks S.Store store.old store.new }
+{
+    let head = run_head(store, alloc, places, run)?;
+    if head.finished {
+        return Err(StoreFault::RunClosed);
+    }
+    if entry.position >= head.total {
+        return Err(StoreFault::BadPosition);
+    }
+    if is_put(store, alloc, places, key(run), entry.position)? {
+        return Err(StoreFault::RepeatedPosition);
+    }
+    Ok(())
+}
+
+/// Writes an entry and its pairs into a run that accepts the entry.
+pub(crate) fn write_entry<S: Alter>(
+    store: &mut S,
+    alloc: Global,
+    schema: &Schema,
+    places: Places,
+    run: u64,
+    entry: &Entry,
+) -> Result<(), StoreFault>
+    requires moments { IsStorable entry.now }
+    requires sound { IsClean (S.Store.view store.old) → (S.Store.view store.old).is_broken ≡ false
+        → IsSound schema.now (S.Store.view store.old).trees }
+    requires placed { StandAt places (S.Store.view store.old) }
+    ensures { Wrote S.Store schema.now (λ r. Put run entry.now r) store.old store.new result }
+{
+    let reason = reason_of(alloc, entry)?;
+    check_entry(store, alloc, places, run, entry)?;
+    let number = key(run);
+    let row = row_of_entry(alloc, number, entry, &reason)?;
+    let edit = TableEdit {
+        place: places.entries.at,
+        gone: &[],
+        rowids: Rowids::Chosen,
+        from: 0,
+        sources: slice::from_ref(&row),
+    };
+    put_rows(store, alloc, schema, edit)?;
+    let pairs = rows_of_pairs(alloc, number, entry.position, entry.meta.as_slice())?;
+    let edit = TableEdit {
+        place: places.props.at,
+        gone: &[],
+        rowids: Rowids::Chosen,
+        from: 0,
+        sources: pairs.as_slice(),
+    };
+    put_rows(store, alloc, schema, edit)?;
+    Ok(())
+}
+
+/// Creates the row of a finished run, after its rowid, from the row of the unfinished one.
+fn finished_row(alloc: Global, row: &Row) -> Result<Row, NoMemory>
+    ensures { (r : Run) → row.now ≡ run_row r → IfOk result (λ done. done ≡ done_row r) }
+{
+    row_of(
+        alloc,
+        &[
+            row.get(0),
+            row.get(0),
+            ValueRef::Null,
+            row.get(2),
+            row.get(3),
+            int(1),
+        ],
+    )
+}
+
+/// Returns the number of entries of a run.
+fn count_of<S: Store>(
+    store: &mut S,
+    alloc: Global,
+    places: Places,
+    run: u32,
+) -> Result<u64, StoreFailure>
+    requires { StandAt places (S.Store.view store.old) }
+    ensures count { OnTrees S.Store store.old store.new (λ runs.
+        IfOk result (λ n. n ≡ length (entries_of (run_at runs run)))) }
+    ensures through { IsClean (S.Store.view store.new)
+        → OnOk result (LooksThrough (S.Store.view store.old) (S.Store.view store.new)) }
+    ensures looks { Looks S.Store store.old store.new }
+{
+    let place = number_row(alloc, run)?;
+    let count = count_under(store, alloc, &entries_at(places), &place)?;
+    Ok(count)
+}
+
+/// Returns the row of a run, and checks that the run may be finished.
+fn check_run<S: Alter>(
+    store: &mut S,
+    alloc: Global,
+    places: Places,
+    run: u64,
+) -> Result<Row, StoreFault>
+    requires { StandAt places (S.Store.view store.old) }
+    ensures small { OnOk result (run ≤ last_run) }
+    ensures refused { OnTrees S.Store store.old store.new (λ runs.
+        IfErr result (λ e. IsStoreFault e ⊎ (finish_refusal runs run ≡ Some e))) }
+    ensures taken { OnTrees S.Store store.old store.new (λ runs.
+        IfOk result (λ row. (r : Run) × (run_at runs run ≡ Some r) × (row ≡ run_row r)
+        × (finish_refusal runs run ≡ None) × IsComplete run runs)) }
+    ensures through { IsClean (S.Store.view store.new)
+        → OnOk result (LooksThrough (S.Store.view store.old) (S.Store.view store.new)) }
+    ensures looks { Looks S.Store store.old store.new }
+{
+    let row = stored_run(store, alloc, places, run)?;
+    let head = stored_head(alloc, &row)?;
+    if head.finished {
+        return Err(StoreFault::RunClosed);
+    }
+    if count_of(store, alloc, places, key(run))? < u64::from(head.total) {
+        return Err(StoreFault::Incomplete);
+    }
+    Ok(row)
+}
+
+/// Writes that a run is finished. Fails if the run lacks an entry.
+pub(crate) fn write_finish<S: Alter>(
+    store: &mut S,
+    alloc: Global,
+    schema: &Schema,
+    places: Places,
+    run: u64,
+) -> Result<(), StoreFault>
+    requires sound { IsClean (S.Store.view store.old) → (S.Store.view store.old).is_broken ≡ false
+        → IsSound schema.now (S.Store.view store.old).trees }
+    requires placed { StandAt places (S.Store.view store.old) }
+    ensures { Wrote S.Store schema.now (λ r. Finished run r) store.old store.new result }
+{
+    let row = check_run(store, alloc, places, run)?;
+    let done = finished_row(alloc, &row)?;
+    let gone = [key(run) as i64];
+    let edit = TableEdit {
+        place: places.runs.at,
+        gone: &gone,
+        rowids: Rowids::Given,
+        from: 1,
+        sources: slice::from_ref(&done),
+    };
+    put_rows(store, alloc, schema, edit)?;
+    Ok(())
+}

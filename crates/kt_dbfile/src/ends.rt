@@ -1,0 +1,260 @@
+//! What is looked at before runs are shown or a run begins: the ends of the tables and of their indexes agree, and a run
+//! has the entries that it must have. So a page that the disk lost, or of an earlier moment, seldom hides a result,
+//! whatever the size of the file.
+
+ghost use Rattle.std.specs.Prelude.{◌≡◌, ◌<◌, ◌≤◌, [], ◌∷◌, length, map, true, IfOk, OnOk};
+ghost use Rattle.kt_dbfile.specs.Common.{AllByRecursion, Entry as Stored, IsAscending, Looks, LooksThrough, Run, ends_with, head_of, last_run, outlined};
+ghost use Rattle.kt_store.specs.Runs.{IsRun};
+ghost use Rattle.sqlite_trees.specs.View.{IsClean};
+
+use crate::places::Places;
+use crate::tables::{entries_at, entry_place, last_row, pairs_at, stored_head};
+use crate::trees::{Table, are_shaped, columns_of, count_under, next_row, number_row};
+use kt_base::{Entry, NoMemory};
+use kt_store::RunHead;
+use kt_store::lookup::key;
+use kt_store::store_fault::{StoreFailure, sure};
+use sqlite_trees::store::{Direction, Shape, Store};
+use sqlite_value::keys::Order;
+use sqlite_value::row::Row;
+use sqlite_value::value::ValueRef;
+use std::alloc::Global;
+use std::cmp::Ordering;
+
+/// The head that stands for no run.
+pub(crate) const NO_RUN: RunHead = RunHead {
+    number: 0,
+    started: 0,
+    total: 0,
+    finished: false,
+};
+
+/// Returns the run and the position of the last key of a table's index that is at most `key`, and checks that its row
+/// exists. Both are NULL if there is no such key.
+fn last_place<S: Store>(
+    store: &mut S,
+    alloc: Global,
+    table: &Table,
+    key: &Row,
+) -> Result<Row, StoreFailure>
+    ensures looks { Looks S.Store store.old store.new }
+{
+    sure(are_shaped(store, table))?;
+    store.seek(0, table.index, key, Direction::Backward)?;
+    let mut place = Row::new(alloc);
+    let mut row = Row::new(alloc);
+    next_row(store, alloc, table, key, &mut place, &mut row)?;
+    Ok(columns_of(alloc, &place, &[0, 1])?)
+}
+
+/// Returns `true` if the index of a table has the key of the table's last row.
+fn is_last_row_placed<S: Store>(
+    store: &mut S,
+    alloc: Global,
+    table: &Table,
+) -> Result<bool, StoreFailure>
+    ensures looks { Looks S.Store store.old store.new }
+{
+    let Some(row) = last_row(store, alloc, table.tree)? else {
+        return Ok(true);
+    };
+    let own = columns_of(alloc, &row, table.key)?;
+    let count = count_under(store, alloc, table, &own)?;
+    Ok(count == 1)
+}
+
+/// Returns the run and the position of the last key of a table's index. Fails if the index lacks the key of the table's
+/// last row.
+fn end_of<S: Store>(store: &mut S, alloc: Global, table: &Table) -> Result<Row, StoreFailure>
+    ensures looks { Looks S.Store store.old store.new }
+{
+    sure(is_last_row_placed(store, alloc, table)?)?;
+    last_place(store, alloc, table, &Row::new(alloc))
+}
+
+/// Returns whether an entry may be the end of the index of entries if the last run has this head: the last position of a
+/// finished run, or an earlier one of another.
+fn is_end(alloc: Global, end: &Row, last: RunHead) -> Result<bool, NoMemory>
+    ensures { last.number ≤ last_run → IfOk result (λ is. is ≡ ends_with last end.now) }
+{
+    let number = key(last.number);
+    if last.finished && last.total > 0 {
+        let whole = entry_place(alloc, number, last.total - 1)?;
+        return Ok(end.cmp_prefix(Order::PLAIN, &whole) == Ordering::Equal);
+    }
+    let past = entry_place(alloc, number, last.total)?;
+    Ok(end.cmp_prefix(Order::PLAIN, &past) == Ordering::Less)
+}
+
+/// Returns `true` if the entry of a pair exists, or if there is no pair.
+fn has_entry<S: Store>(
+    store: &mut S,
+    alloc: Global,
+    places: Places,
+    pair: &Row,
+) -> Result<bool, StoreFailure>
+    ensures through { IsClean (S.Store.view store.new)
+        → OnOk result (LooksThrough (S.Store.view store.old) (S.Store.view store.new)) }
+    ensures looks { Looks S.Store store.old store.new }
+{
+    let count = count_under(store, alloc, &entries_at(places), pair)?;
+    Ok(count == 1 || matches!(pair.get(0), ValueRef::Null))
+}
+
+/// Checks that the table of entries and its index end with the same entry, and that this entry may be the last of the
+/// last run.
+fn check_last_entry<S: Store>(
+    store: &mut S,
+    alloc: Global,
+    places: Places,
+    last: RunHead,
+) -> Result<(), StoreFailure>
+    ensures looks { Looks S.Store store.old store.new }
+{
+    let end = end_of(store, alloc, &entries_at(places))?;
+    sure(is_end(alloc, &end, last)?)
+}
+
+/// Checks that the table of pairs and its index end with the same pair, and that its entry exists.
+fn check_last_pair<S: Store>(
+    store: &mut S,
+    alloc: Global,
+    places: Places,
+) -> Result<(), StoreFailure>
+    ensures through { IsClean (S.Store.view store.new)
+        → OnOk result (LooksThrough (S.Store.view store.old) (S.Store.view store.new)) }
+    ensures looks { Looks S.Store store.old store.new }
+{
+    let pair = end_of(store, alloc, &pairs_at(places))?;
+    sure(has_entry(store, alloc, places, &pair)?)
+}
+
+/// Checks that the tables and their indexes have the same ends, and that they fit the last run.
+pub(crate) fn check_ends<S: Store>(
+    store: &mut S,
+    alloc: Global,
+    places: Places,
+    last: RunHead,
+) -> Result<(), StoreFailure>
+    ensures through { IsClean (S.Store.view store.new)
+        → OnOk result (LooksThrough (S.Store.view store.old) (S.Store.view store.new)) }
+    ensures looks { Looks S.Store store.old store.new }
+{
+    check_last_entry(store, alloc, places, last)?;
+    check_last_pair(store, alloc, places)
+}
+
+/// Returns the head of the last run, by its number.
+fn last_head<S: Store>(
+    store: &mut S,
+    alloc: Global,
+    places: Places,
+    last: u64,
+) -> Result<RunHead, StoreFailure>
+    ensures looks { Looks S.Store store.old store.new }
+{
+    if last == 0 {
+        return Ok(NO_RUN);
+    }
+    sure(store.shape(places.runs.tree) == Shape::Table)?;
+    let mut row = Row::new(alloc);
+    sure(store.get(places.runs.tree, i64::from(key(last)), &mut row)?)?;
+    stored_head(alloc, &row)
+}
+
+/// Checks that the tables end with the last run, by its number. It is called before another run begins.
+pub(crate) fn check_last<S: Store>(
+    store: &mut S,
+    alloc: Global,
+    places: Places,
+    last: u64,
+) -> Result<(), StoreFailure>
+    ensures through { IsClean (S.Store.view store.new)
+        → OnOk result (LooksThrough (S.Store.view store.old) (S.Store.view store.new)) }
+    ensures looks { Looks S.Store store.old store.new }
+{
+    let head = last_head(store, alloc, places, last)?;
+    check_ends(store, alloc, places, head)
+}
+
+/// Returns `true` if the position of each entry is its index in the list.
+fn are_numbered(entries: &[Entry]) -> bool
+    ensures { IsAscending (λ (a b : Stored). a.position < b.position) entries.now
+        → AllByRecursion (λ (e : Stored). e.position < length entries.now) entries.now
+        → result ≡ true }
+{
+    for (place, entry) in entries.iter().enumerate() {
+        if entry.position as usize != place {
+            return false;
+        }
+    }
+    true
+}
+
+/// Returns `true` if these may be all entries of the run with this head. A finished run has an entry at each position
+/// below its total.
+fn may_be_all(head: RunHead, entries: &[Entry]) -> bool
+    ensures { (r : Run) → IsRun r → head ≡ head_of r → entries.now ≡ map outlined r.entries
+        → result ≡ true }
+{
+    let total = head.total as usize;
+    if head.finished {
+        entries.len() == total && are_numbered(entries)
+    } else {
+        entries.len() <= total
+    }
+}
+
+/// Returns how many pairs of these entries of a run the index of pairs has.
+fn count_pairs<S: Store>(
+    store: &mut S,
+    alloc: Global,
+    table: &Table,
+    run: u32,
+    entries: &[Entry],
+) -> Result<u64, StoreFailure>
+    ensures looks { Looks S.Store store.old store.new }
+{
+    let mut count: u64 = 0;
+    for entry in entries {
+        let place = entry_place(alloc, run, entry.position)?;
+        count = count.saturating_add(count_under(store, alloc, table, &place)?);
+    }
+    Ok(count)
+}
+
+/// Returns `true` if each pair of the run with this head belongs to one of its entries. A finished run has all entries,
+/// so only its last pair is compared.
+fn are_of_entries<S: Store>(
+    store: &mut S,
+    alloc: Global,
+    places: Places,
+    head: RunHead,
+    entries: &[Entry],
+) -> Result<bool, StoreFailure>
+    ensures looks { Looks S.Store store.old store.new }
+{
+    let table = pairs_at(places);
+    let run = key(head.number);
+    let place = number_row(alloc, run)?;
+    if head.finished {
+        let pair = last_place(store, alloc, &table, &place)?;
+        return has_entry(store, alloc, places, &pair);
+    }
+    let all = count_under(store, alloc, &table, &place)?;
+    Ok(all == count_pairs(store, alloc, &table, run, entries)?)
+}
+
+/// Checks that these are all entries of the run with this head, as far as the head and its pairs show.
+pub(crate) fn check_entries<S: Store>(
+    store: &mut S,
+    alloc: Global,
+    places: Places,
+    head: RunHead,
+    entries: &[Entry],
+) -> Result<(), StoreFailure>
+    ensures looks { Looks S.Store store.old store.new }
+{
+    sure(may_be_all(head, entries))?;
+    sure(are_of_entries(store, alloc, places, head, entries)?)
+}

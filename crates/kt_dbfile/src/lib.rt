@@ -1,0 +1,22 @@
+//! The results file: the results store of the program, opened, read and written by its trees.
+#![tactic(auto)]
+
+mod by_name;
+mod edits;
+mod ends;
+mod files;
+mod new_file;
+mod opening;
+mod places;
+mod reopening;
+mod rules;
+mod runs_file;
+mod seeks;
+mod tables;
+mod trees;
+mod trusted_contents;
+
+pub use files::NotOpened;
+pub use reopening::theorem_of_reopening;
+pub use runs_file::RunsFile;
+pub use trusted_contents::TrustedContents;

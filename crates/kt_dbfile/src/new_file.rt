@@ -1,0 +1,265 @@
+ghost use Rattle.std.specs.Prelude.{◌≡◌, ◌++◌, ℕ, List, IfOk, IfSome, IsTrue};
+ghost use Rattle.sqlite_pool.specs.Header.{first_page};
+ghost use Rattle.sqlite_wal.specs.Recovery.{IsIgnored};
+ghost use Rattle.kt_dbfile.specs.Inner.NewFiles.{HoldsEmpty, IsNewNameOf, IsOwnName};
+ghost use Rattle.std.specs.Str.{chars};
+
+use kt_base::{NoMemory, Text, emit};
+use std::fs::{File, Metadata, OpenFile, OpenOptions, Permissions};
+use std::io::{ErrorKind, Read};
+use std::os::unix::fs::{MetadataExt, PermissionsExt};
+use std::rt::Files;
+use std::{fs, io};
+
+/// The page size of a new file, in bytes (docs/DECISIONS.md).
+const PAGE_SIZE: usize = 1_024;
+
+/// The shortest log with a frame, in bytes. SQLite ignores a shorter one.
+pub(crate) const SHORTEST_LOG: usize = 56;
+
+/// The rights of an owner to read and write a file.
+const OWNER_RIGHTS: u32 = 0o600;
+
+/// The beginning of a file: its format, pages of 0x0400 bytes, a log for writers and readers, no bytes of a page reserved, and
+/// the fractions of a page that a payload takes.
+const HEADER: [u8; 24] = *b"SQLite format 3\0\x04\x00\x02\x02\x00\x40\x20\x20";
+
+/// Returns the one page of an empty database, by "Database File Format" of SQLite, sections 1.3 and 1.6.
+fn first_page() -> [u8; PAGE_SIZE]
+    ensures exact { result ≡ first_page 1024 }
+    // Alone, and with a log of which SQLite reads nothing.
+    ensures holds { (log : List ℕ) → IsIgnored log → HoldsEmpty (record { log = log; db = result }) }
+{
+    let mut page = [0; PAGE_SIZE];
+    page[..24].copy_from_slice(&HEADER);
+    // The number of pages, the version and the format of the schema, and UTF-8.
+    page[31] = 1;
+    page[43] = 1;
+    page[47] = 4;
+    page[59] = 1;
+    // The version of SQLite that writes such a page: 3,045,000.
+    page[97] = 46;
+    page[98] = 118;
+    page[99] = 136;
+    // The schema: a leaf of a table, without cells, whose content begins at the end of the page.
+    page[100] = 13;
+    page[105] = 4;
+    page
+}
+
+/// Creates an empty file at the name of the results or at their `-new` name, with the rights that the umask leaves, and always
+/// those of its owner to read and write it.
+// Tested, not proved: results_file_creation_is_atomic.
+fn make_file<R: Files>(rt: &R, results: &Text, path: &Text) -> io::Result<R::File>
+    requires { IsOwnName results.now path.now }
+{
+    let made = OpenOptions::new()
+        .read(true)
+        .write(true)
+        .create_new(true)
+        .open(rt, path.as_str())?;
+    let Ok(found) = made.metadata() else {
+        return Ok(made);
+    };
+    let mode = found.permissions().mode();
+    if mode & OWNER_RIGHTS != OWNER_RIGHTS {
+        let _ = made.set_permissions(Permissions::from_mode(mode | OWNER_RIGHTS));
+    }
+    Ok(made)
+}
+
+/// Returns the name of a file with an ending.
+fn with_ending(file: &Text, ending: &str) -> Result<Text, NoMemory>
+    ensures { IfOk result (λ name. name ≡ file.now ++ chars ending.now) }
+{
+    let mut name = file.copy()?;
+    name.push_str(ending)?;
+    Ok(name)
+}
+
+/// Returns the name that a new file has until it is complete.
+fn new_name(file: &Text) -> Result<Text, NoMemory>
+    ensures { IfOk result (IsNewNameOf file.now) }
+{
+    with_ending(file, "-new")
+}
+
+/// Returns whether the log of a file may have a frame. A stale log would be replayed into a new file.
+// Tested, not proved: results_file_creation_is_atomic.
+fn may_have_frames<R: Files>(rt: &R, file: &Text) -> Result<bool, NoMemory> {
+    let log = with_ending(file, "-wal")?;
+    Ok(match fs::symlink_metadata(rt, log.as_str()) {
+        Ok(found) => !found.is_file() || SHORTEST_LOG as u64 <= found.len(),
+        Err(error) => error.kind() != ErrorKind::NotFound,
+    })
+}
+
+/// Opens the file that gets the first page: a new one, or one that a killed process left. Returns `None` if something else has
+/// the name.
+// Tested, not proved: results_file_creation_is_atomic.
+fn open_new<R: Files<File = File>>(rt: &R, results: &Text, name: &Text) -> Option<File>
+    requires { IsNewNameOf results.now name.now }
+{
+    match make_file(rt, results, name) {
+        Ok(made) => Some(made),
+        Err(error) if error.kind() == ErrorKind::AlreadyExists => {
+            let found = fs::symlink_metadata(rt, name.as_str()).ok()?;
+            if !found.is_file() {
+                return None;
+            }
+            OpenOptions::new()
+                .read(true)
+                .write(true)
+                .open(rt, name.as_str())
+                .ok()
+        }
+        Err(_fault) => None,
+    }
+}
+
+/// Completes a partly written first page, and returns whether all of it is on the disk. Returns `None` if another process
+/// writes the file, or it has other bytes.
+// Tested, not proved: results_file_creation_is_atomic.
+fn fill(made: &mut File) -> Option<bool> {
+    made.try_lock().ok()?;
+    let mut found = [0; PAGE_SIZE + 1];
+    let length = made.read(&mut found).ok()?;
+    let page = first_page();
+    let rest = page.strip_prefix(&found[..length])?;
+    Some(emit(rest, made).is_ok() && made.sync_all().is_ok())
+}
+
+/// Gives a new file the name of the results too, by a link: a rename would replace a file that another process created.
+/// Returns whether it has that name.
+fn name_results<R: Files>(rt: &R, results: &Text, name: &Text) -> bool
+    requires { IsNewNameOf results.now name.now }
+{
+    fs::hard_link(rt, name.as_str(), results.as_str()).is_ok()
+}
+
+/// Removes the `-new` name of the results.
+fn remove_new<R: Files>(rt: &R, results: &Text, name: &Text)
+    requires { IsNewNameOf results.now name.now }
+{
+    let _ = fs::remove_file(rt, name.as_str());
+}
+
+/// Creates an empty database, and returns whether it did. The file gets its name once it is complete and on the disk.
+fn make_database<R: Files<File = File>>(rt: &R, file: &Text) -> Result<bool, NoMemory> {
+    if may_have_frames(rt, file)? {
+        return Ok(false);
+    }
+    let new = new_name(file)?;
+    let Some(mut made) = open_new(rt, file, &new) else {
+        return Ok(false);
+    };
+    let Some(is_complete) = fill(&mut made) else {
+        return Ok(false);
+    };
+    let is_named = is_complete && name_results(rt, file, &new);
+    remove_new(rt, file, &new);
+    Ok(is_named)
+}
+
+/// The numbers of a file, which all its names share.
+#[derive(Clone, Copy)]
+struct FileId {
+    device: u64,
+    inode: u64,
+}
+
+/// Returns the numbers of a file.
+// Tested, not proved: results_file_creation_is_atomic.
+fn id_of(found: &Metadata) -> FileId {
+    FileId {
+        device: found.dev(),
+        inode: found.ino(),
+    }
+}
+
+/// Returns whether these are the numbers of one file.
+fn is_same(one: FileId, other: FileId) -> bool
+    ensures { IsTrue result → one ≡ other }
+{
+    one.device == other.device && one.inode == other.inode
+}
+
+/// A name that ends in `-new`, with the numbers of the file that has it.
+#[derive(Drop)]
+struct FirstName {
+    name: Text,
+    id: FileId,
+}
+
+/// Returns the name of a file with `-new` after it, if a file has it.
+fn first_name<R: Files>(rt: &R, file: &Text) -> Option<FirstName>
+    ensures { IfSome result (λ it. IsNewNameOf file.now it.name) }
+{
+    let name = new_name(file).ok()?;
+    let found = fs::symlink_metadata(rt, name.as_str()).ok()?;
+    let id = id_of(&found);
+    Some(FirstName { name, id })
+}
+
+/// Removes a name that ends in `-new` and is of the same file as the results.
+fn remove_first<R: Files>(rt: &R, results: FileId, file: &Text, first: &FirstName)
+    requires name { IsNewNameOf file.now first.now.name }
+    requires same { first.now.id ≡ results }
+{
+    let _ = fs::remove_file(rt, first.name.as_str());
+}
+
+/// Returns the directory of a file.
+fn directory_of(file: &str) -> &str {
+    match file.rsplit_once('/') {
+        Some(("", _)) => "/",
+        Some((directory, _)) => directory,
+        None => ".",
+    }
+}
+
+/// Removes a name if it ends in `-new` and is of the same file as the results.
+fn remove_if_first<R: Files + AllocGlobal>(rt: &R, path: &str, results: FileId) -> Option<()> {
+    let Some(front) = path.strip_suffix("-new") else {
+        return Some(());
+    };
+    let file = Text::from_str(rt.alloc(), front).ok()?;
+    if let Some(first) = first_name(rt, &file) {
+        if is_same(first.id, results) {
+            remove_first(rt, results, &file, &first);
+        }
+    }
+    Some(())
+}
+
+/// Removes the first name of a file whose creator was killed before it did so, also if the file was renamed since: a file with
+/// two names can't be opened.
+fn remove_first_name<R: Files + AllocGlobal + Clone + Drop>(
+    rt: &R,
+    file: &Text,
+    results: FileId,
+) -> Option<()> {
+    for entry in fs::read_dir(rt, directory_of(file.as_str())).ok()? {
+        let entry = entry.ok()?;
+        remove_if_first(rt, entry.path().to_string_lossy(), results)?;
+    }
+    Some(())
+}
+
+/// Creates a file if there is none: an empty database, or if that can't be created (the file system has no links, or the log of
+/// an older file is there), an empty file, which becomes a database with larger pages. A file that is there stays as it
+/// is. Why none can be created is reported when it is opened; then its log is created too, with the rights of the file.
+pub(crate) fn prepare<R: Files<File = File> + AllocGlobal + Clone + Drop>(rt: &R, file: &Text) {
+    match fs::symlink_metadata(rt, file.as_str()) {
+        Ok(found) => {
+            if found.nlink() > 1 {
+                let _ = remove_first_name(rt, file, id_of(&found));
+            }
+        }
+        Err(_missing) => {
+            if !matches!(make_database(rt, file), Ok(true)) {
+                let _ = make_file(rt, file, file);
+            }
+        }
+    }
+}

@@ -1,0 +1,314 @@
+ghost use Rattle.std.specs.Prelude.{◌≡◌, ◌⊎◌, [], ◌∷◌, pos, codes, map, drop, true, false, Ok, IfOk, IfErr, OnOk, IfSome, IsTrue};
+ghost use Rattle.kt_dbfile.specs.Common.{Ends, Int, IsLeft, IsOfOptions, IsStoreFault, Looks, ListsRuns, MustBeTested, RecoversAgain, SaysAnother};
+ghost use Rattle.kt_store.specs.TrustedContents.{IsOfRuns, ListsTables, key_object, objects_2, table_object};
+ghost use Rattle.sqlite_trees.specs.Tree.{Trees};
+ghost use Rattle.sqlite_value.specs.Value.{owned};
+ghost use Rattle.sqlite_value.specs.declared.value.Value.TheVariants.{Text as Words};
+ghost use Rattle.sqlite_wal.specs.PageSize.{bytes_of};
+ghost use Rattle.sqlite_wal.specs.Reads.{AreClean, OnlyReads};
+ghost use Rattle.kt_dbfile.specs.Common.{schema_2};
+ghost use Rattle.kt_dbfile.specs.Inner.Opening.{OpensOver};
+ghost use Rattle.kt_store.specs.Runs.{SaysIn};
+ghost use Rattle.sqlite_catalog.specs.Listing.{IsSound};
+ghost use Rattle.sqlite_pool.specs.Stored.{Recovers};
+ghost use Rattle.sqlite_store.specs.FileStore.{IsReady, schema_of, state, view};
+ghost use Rattle.sqlite_trees.specs.View.{IsClean};
+ghost use Rattle.sqlite_store.specs.Unopened.{AreUsable, HasFile, Opens, files_of, image, state_of, wanted_by};
+ghost use Rattle.sqlite.specs.Files.{HoldsDatabase, image_of};
+
+use crate::new_file::SHORTEST_LOG;
+use crate::trees::all_shown;
+use kt_base::NoMemory;
+use kt_store::StoreFault;
+use kt_store::attach::{CREATE_ENTRIES, CREATE_META, CREATE_PROPS, CREATE_RUNS};
+use kt_store::store_fault::{StoreFailure, present};
+use sqlite_disk::{Disk, Files};
+use sqlite_exec::check::all_rows;
+use sqlite_exec::work::Workspace;
+use sqlite_pager::{Options, Pager};
+use sqlite_store::{FileStore, OpenError, Unopened};
+use sqlite_trees::store::{Alter, Shape, Store};
+use sqlite_value::keys::Order;
+use sqlite_value::order::is_same;
+use sqlite_value::row::Row;
+use sqlite_value::value::ValueRef;
+use sqlite_wal::{PageSize, probe_first_page, probe_page_size};
+use std::alloc::{AllocFailed, Global};
+use std::hash::{BuildHasher, RandomState};
+
+/// Bytes 20 to 23 of a database whose pages end in sums of their bytes.
+const WITH_SUMS: u32 = 0x0840_2020;
+
+/// The tree of the table that has the schema's number.
+const META: u32 = 0;
+
+const TABLE: (Shape, u64) = (Shape::Table, 0);
+
+const KEY: (Shape, u64) = (Shape::Index(Order::PLAIN), 0);
+
+/// The trees of schema 2.
+const LAYOUTS: [(Shape, u64); 7] = [TABLE, KEY, TABLE, TABLE, KEY, TABLE, KEY];
+
+/// Returns the options of a store that keeps a number of read pages in memory. `None` if there is no random number.
+pub(crate) fn options(rt: &HostRuntime, pages: usize) -> Option<Options>
+    ensures pages { IfSome result (IsOfOptions pages) }
+{
+    let state = RandomState::new(rt).ok()?;
+    let mut options = Options::new(state.hash_one(&0u8));
+    options.cache_pages = pages;
+    Some(options)
+}
+
+/// Checks whether the pages of a database end in no sums, and returns their size then.
+fn plain_size<D: Disk>(alloc: Global, files: &mut Files<D>) -> Option<PageSize>
+    requires log { IsTrue (D.Disk.is_usable files.old.log) }
+    requires db { IsTrue (D.Disk.is_usable files.old.db) }
+    ensures size { IfSome result (λ size. AreClean D.Disk files.new.log files.new.db → (db : Trees)
+        (held : HoldsDatabase (image_of D.Disk files.old) db) → held.0 ≡ bytes_of size) }
+    ensures log { OnlyReads D.Disk files.old.log files.new.log }
+    ensures db { OnlyReads D.Disk files.old.db files.new.db }
+{
+    let found = probe_page_size(files).ok()?;
+    let size = found?;
+    let head = probe_first_page(alloc, files, size).ok()?;
+    if head.0 != b'S' || head.1 == WITH_SUMS {
+        return None;
+    }
+    Some(size)
+}
+
+/// Returns whether all pages and trees of a database are tested before it is read. They are if its file has at most 16 MiB,
+/// which takes some 60 ms, or if its log may have frames, since a runner was killed or the machine lost power.
+fn is_tested<D: Disk>(files: &mut Files<D>) -> Result<bool, StoreFailure>
+    requires log { IsTrue (D.Disk.is_usable files.old.log) }
+    requires db { IsTrue (D.Disk.is_usable files.old.db) }
+    ensures tested { IfOk result (λ it. AreClean D.Disk files.new.log files.new.db
+        → MustBeTested (image_of D.Disk files.old) → it ≡ true) }
+    ensures log { OnlyReads D.Disk files.old.log files.new.log }
+    ensures db { OnlyReads D.Disk files.old.db files.new.db }
+{
+    let size = present(files.db.len().ok())?;
+    let log = present(files.log.len().ok())?;
+    Ok(size <= MOST_TESTED || SHORTEST_LOG <= log)
+}
+
+/// Creates a store of files, which isn't open yet. If an allocation fails the files come back.
+fn unopened<D: Disk + Drop>(
+    alloc: Global,
+    files: Files<D>,
+    size: PageSize,
+    options: Options,
+) -> Result<Unopened<D>, Files<D>>
+    ensures files { IfOk result (λ it. files_of it ≡ (files.log, files.db)) }
+    ensures size { IfOk result (λ it. (state_of it).page_size ≡ bytes_of size) }
+    ensures back { IfErr result (λ left. left ≡ files) }
+{
+    let pager = match Pager::new(alloc, files, size, options) {
+        Ok(pager) => pager,
+        Err(AllocFailed { value }) => return Err(value),
+    };
+    match Unopened::with_sums(alloc, pager, &[], false) {
+        Ok(fresh) => Ok(fresh),
+        Err(AllocFailed { value }) => Err(value.close()),
+    }
+}
+
+/// Returns `true` if a row of the list of objects has this rowid, type, name, table and text, and nothing else.
+fn is_object(row: &Row, id: i64, kind: &str, name: &str, table: &str, text: ValueRef<'_>) -> bool
+    ensures { IsTrue result → row.now ≡ Int id ∷ Words kind.now ∷ Words name.now
+        ∷ Words table.now ∷ owned text.entry ∷ [] }
+{
+    row.len() == 5
+        && is_same(row.get(0), ValueRef::Int(id))
+        && is_same(row.get(1), ValueRef::Text(kind.as_bytes()))
+        && is_same(row.get(2), ValueRef::Text(name.as_bytes()))
+        && is_same(row.get(3), ValueRef::Text(table.as_bytes()))
+        && is_same(row.get(4), text)
+}
+
+/// Returns `true` if a row lists a table with this rowid, name and text.
+fn is_table(row: &Row, id: u32, name: &str, sql: &str) -> bool
+    ensures { IsTrue result → row.now ≡ table_object id name.now sql.now }
+{
+    let text = ValueRef::Text(sql.as_bytes());
+    is_object(row, i64::from(id), "table", name, name, text)
+}
+
+/// Returns `true` if a row lists the index of a table's key with this rowid and name. Such an index has no text.
+fn is_key(row: &Row, id: u32, name: &str, table: &str) -> bool
+    ensures { IsTrue result → row.now ≡ key_object id name.now table.now }
+{
+    is_object(row, i64::from(id), "index", name, table, ValueRef::Null)
+}
+
+/// Returns `true` if these rows list the objects of schema 2 (docs/formats/store.md).
+fn is_schema_2(rows: &[Row]) -> bool
+    ensures { IsTrue result → rows.now ≡ objects_2 }
+{
+    let [meta, meta_key, runs, entries, entries_key, props, props_key] = rows else {
+        return false;
+    };
+    let of_meta = is_table(meta, 1, "meta", CREATE_META)
+        & is_key(meta_key, 2, "sqlite_autoindex_meta_1", "meta");
+    let of_runs = is_table(runs, 3, "runs", CREATE_RUNS);
+    let of_entries = is_table(entries, 4, "entries", CREATE_ENTRIES)
+        & is_key(entries_key, 5, "sqlite_autoindex_entries_1", "entries");
+    let of_props = is_table(props, 6, "props", CREATE_PROPS)
+        & is_key(props_key, 7, "sqlite_autoindex_props_1", "props");
+    of_meta & of_runs & of_entries & of_props
+}
+
+/// Reads the list of objects, and returns `true` if it is that of schema 2. Then the files get that schema.
+fn list_schema<D: Disk>(alloc: Global, files: &mut Unopened<D>) -> Result<bool, StoreFailure>
+    requires { AreUsable files.old }
+    ensures usable { OnOk result (AreUsable files.new) }
+    ensures read { OnOk result (IsTrue (state_of files.new).is_clean
+        → RecoversAgain files.old files.new) }
+    ensures lists { IfOk result (λ it. IsTrue it → IsTrue (state_of files.new).is_clean
+        → ListsRuns files.old files.new) }
+{
+    let listed = files.read_catalog()?;
+    let rows = all_shown(alloc, listed.as_slice(), &[0, 1, 2, 3, 5])?;
+    if !is_schema_2(rows.as_slice()) || rows.len() != 7 {
+        return Ok(false);
+    }
+    match files.list_schema(rows.as_slice(), &LAYOUTS) {
+        Ok(is_listed) => Ok(is_listed),
+        Err(refusal) => Err(StoreFailure::from(NoMemory::from(refusal))),
+    }
+}
+
+/// Returns the number of the schema in the rows of the settings, which are one row.
+fn number_in(settings: &[Row]) -> Option<i64>
+    ensures { IfSome result (λ n. map (drop 1) settings.now
+        ≡ (Words (codes "schema") ∷ Int n ∷ []) ∷ []) }
+{
+    let [row] = settings else {
+        return None;
+    };
+    if row.len() != 3 || !is_same(row.get(1), ValueRef::Text("schema".as_bytes())) {
+        return None;
+    }
+    match row.get(2) {
+        ValueRef::Int(number) => Some(number),
+        _ => None,
+    }
+}
+
+/// Returns what a call returned that gives back what it took if it fails.
+fn opened<T, L: Drop>(returned: Result<T, (OpenError, L)>) -> Result<T, StoreFailure>
+    ensures ok { IfOk result (λ it. returned ≡ Ok it) }
+{
+    match returned {
+        Ok(it) => Ok(it),
+        Err((error, _left)) => Err(StoreFailure::from(error)),
+    }
+}
+
+/// Opens files that are sound. All their pages and trees are tested first if `is_tested` is set, and else only those that
+/// list the schema and the free pages.
+fn sound_over<D: Disk + Drop>(
+    files: Unopened<D>,
+    is_tested: bool,
+) -> Result<FileStore<D>, StoreFailure>
+    requires usable { AreUsable files }
+    requires sound { IsTrue (state_of files).is_clean → HasFile files }
+    ensures ready { IfOk result IsReady }
+    ensures schema { IfOk result (λ it. schema_of it ≡ wanted_by files) }
+    ensures honest { IfOk result (λ it. IsTrue (state it).is_clean
+        → IsTrue (state_of files).is_clean) }
+    ensures found { IfOk result (λ it. IsTrue (state it).is_clean
+        → Recovers (state_of files).page_size (image files) (state it).committed) }
+    ensures kept { IfOk result (λ it. IsTrue (state it).is_clean → Opens files (state it)) }
+    // Only a store whose trees were tested is numbered.
+    ensures tested { is_tested ≡ true → IfOk result (λ it. IsTrue (view it).is_numbered) }
+{
+    if is_tested {
+        opened(files.open_numbered())
+    } else {
+        opened(files.open_trusted())
+    }
+}
+
+/// Opens files if they list the tables of schema 2, in pages that end in no sums, and recovers their log. Other files come
+/// back: they were only read.
+pub(crate) fn known_over<D: Disk + Drop>(
+    alloc: Global,
+    mut files: Files<D>,
+    options: Options,
+    is_link: bool,
+) -> Result<Result<FileStore<D>, Files<D>>, StoreFailure>
+    requires log { IsTrue (D.Disk.is_usable files.log) }
+    requires db { IsTrue (D.Disk.is_usable files.db) }
+    requires held { IsOfRuns (image_of D.Disk files) }
+    ensures opens { IfOk result (λ found. IfOk found (λ s. IsClean (view s)
+        → OpensOver (image_of D.Disk files) s)) }
+    ensures settled { IfOk result (λ found. IfOk found (λ s. (view s).trees ≡ (view s).committed)) }
+    ensures unbroken { IfOk result (λ found. IfOk found (λ s. IsClean (view s)
+        → (view s).is_broken ≡ false)) }
+    ensures lists { IfOk result (λ found. IfOk found (λ s. IsClean (view s)
+        → ListsTables (image_of D.Disk files))) }
+    ensures sound { IfOk result (λ found. IfOk found (λ s. IsTrue (view s).is_open
+        → IsSound schema_2 (view s).committed)) }
+    ensures tested { IfOk result (λ found. IfOk found (λ s. IsClean (view s)
+        → MustBeTested (image_of D.Disk files) → IsTrue (view s).is_numbered)) }
+    ensures back { IfOk result (λ found. IfErr found (IsLeft D.Disk files)) }
+{
+    let Some(size) = plain_size(alloc, &mut files) else {
+        return Ok(Err(files));
+    };
+    let is_tested = is_tested(&mut files)?;
+    let mut fresh = match unopened(alloc, files, size, options) {
+        Ok(fresh) => fresh,
+        Err(left) => return Ok(Err(left)),
+    };
+    if !list_schema(alloc, &mut fresh)? {
+        return Ok(Err(fresh.close()));
+    }
+    let store = sound_over(fresh, is_link | is_tested)?;
+    Ok(Ok(store))
+}
+
+/// Checks that the tables of a store say schema 2.
+pub(crate) fn check_number<S: Store>(store: &mut S, alloc: Global) -> Result<(), StoreFault>
+    ensures ours { OnOk result (IsClean (S.Store.view store.new)
+        → SaysIn (pos 2) (S.Store.view store.old).trees) }
+    // `UnknownSchema` only if they say another number.
+    ensures unknown { IfErr result (λ e. IsStoreFault e ⊎ ((e ≡ StoreFault.UnknownSchema)
+        × (IsClean (S.Store.view store.new) → SaysAnother (S.Store.view store.old).trees))) }
+    ensures looks { Looks S.Store store.old store.new }
+{
+    let number = said_number(store, alloc)?;
+    if number == 2 {
+        Ok(())
+    } else {
+        Err(StoreFault::UnknownSchema)
+    }
+}
+
+/// Copies the log into the database file, and closes both. Changes that are not committed are lost.
+pub(crate) fn close_store<D: Disk + Drop>(mut store: FileStore<D>) -> Result<(), StoreFailure>
+    ensures closed { OnOk result (Ends store) }
+{
+    store.rollback();
+    match store.checkpoint() {
+        Ok(()) => {
+            let _files = store.close();
+            Ok(())
+        }
+        Err(error) => Err(StoreFailure::from(error)),
+    }
+}
+
+/// Reads the number of the schema in the tables.
+fn said_number<S: Store>(store: &mut S, alloc: Global) -> Result<i64, StoreFailure>
+    ensures says { IfOk result (λ n. IsClean (S.Store.view store.new)
+        → SaysIn n (S.Store.view store.old).trees) }
+    ensures looks { Looks S.Store store.old store.new }
+{
+    let settings = all_rows(store, &mut Workspace::new(alloc), META)?;
+    present(number_in(settings.as_slice()))
+}
+
+/// The largest file whose pages and trees are all tested, in bytes.
+const MOST_TESTED: usize = 16 * 1_048_576;

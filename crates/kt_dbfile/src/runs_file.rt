@@ -1,0 +1,437 @@
+ghost use Rattle.std.specs.Prelude.{◌≡◌, ◌⊎◌, codes, pos, true, false, IsTrue, IfErr, IfOk, IfSome};
+ghost use Rattle.kt_dbfile.specs.Common.{Ended, Finds, IsLeft, IsStoreFault, IsTaken, IsTakenOf, IsUri, Looks, schema_2};
+ghost use Rattle.kt_store.specs.Runs.{SaysIn};
+ghost use Rattle.kt_store.specs.TrustedContents.{IsOfRuns};
+ghost use Rattle.sqlite.specs.Files.{image_of};
+ghost use Rattle.sqlite_catalog.specs.Listing.{IsSound, Lists};
+ghost use Rattle.sqlite_schema.specs.declared.schema.Schema.{Schema as Tables};
+ghost use Rattle.sqlite_trees.specs.Objects.{catalog_tree};
+ghost use Rattle.sqlite_std_file.specs.File.{file_is_usable, IsFresh};
+ghost use Rattle.sqlite_trees.specs.View.{IsClean};
+
+use crate::by_name::places_in;
+use crate::edits::{write_entry, write_finish, write_run};
+use crate::files::{NotOpened, connect, open_both};
+use crate::new_file::prepare;
+use crate::opening::{check_number, close_store, known_over, options};
+use crate::places::Places;
+use crate::seeks::{find_outputs, find_pairs, heads, outline};
+use crate::trusted_contents::TrustedContents;
+use kt_base::{Entry, NoMemory, Text, Variables};
+use kt_store::attach::lives;
+use kt_store::store_fault::{StoreFailure, present, sure};
+use kt_store::{Access, CaseOutputs, ResultStore, Results, RunHead, StoreFault, StoreSpec};
+use sqlite::{Alter, Connection, FileFrom, FileStore};
+use sqlite_catalog::load::load;
+use sqlite_disk::{Disk, Files};
+use sqlite_pager::Options;
+use sqlite_schema::schema::Schema;
+use std::alloc::Global;
+use std::marker::Model;
+use std::time::Duration;
+use std::{fs, thread};
+
+/// The results in a file (docs/formats/store.md), read by seeks in their trees and written by the rules of their schema.
+/// A contract sees the store; what is said of it holds while the disk returns what was written and nobody else writes
+/// the database.
+#[derive(Drop)]
+pub struct RunsFile<S: Alter> {
+    store: S,
+    schema: Schema,
+    places: Places,
+    alloc: Global,
+}
+
+impl<S: Alter> Model for RunsFile<S> {
+    ghost use Rattle.std.specs.Prelude.{◌≡◌};
+    ghost use Rattle.kt_dbfile.specs.Common.{places_2, schema_2};
+    ghost use Rattle.kt_dbfile.specs.Inner.Edits.{IsSettledStore};
+
+    ghost Value = { S };
+
+    ghost coded = { S.code };
+
+    ghost view = { λ r. r.store };
+
+    ghost invariant = { λ r. IsSettledStore (S.Store.view r.store) r.schema
+        × (r.schema ≡ schema_2 → r.places ≡ places_2) };
+}
+
+/// Reads the schema that a store lists.
+fn listed<S: Alter>(store: &S, alloc: Global) -> Result<Option<Schema>, NoMemory>
+    requires { IsClean (S.Store.view store.now) → (S.Store.view store.now).is_broken ≡ false }
+    ensures { IsClean (S.Store.view store.now) → IfOk result (λ found. IfSome found
+        (Lists ((S.Store.view store.now).trees catalog_tree))) }
+{
+    let found = load(store, alloc)?;
+    Ok(found)
+}
+
+/// Returns the results in a store that shows its last commit. Fails unless the store obeys the schema that it lists,
+/// with the tables of results.
+pub(crate) fn over<S: Alter + Drop>(alloc: Global, store: S) -> Result<RunsFile<S>, StoreFailure>
+    requires settled { IsClean (S.Store.view store) → (S.Store.view store).is_broken ≡ false
+        → (S.Store.view store).trees ≡ (S.Store.view store).committed }
+    requires sound { IsTrue (S.Store.view store).is_open
+        → (schema : Tables) × IsSound schema (S.Store.view store).committed }
+    ensures same { IfOk result (λ r. r ≡ store) }
+{
+    sure(!store.is_broken())?;
+    let schema = present(listed(&store, alloc)?)?;
+    let places = present(places_in(&schema))?;
+    Ok(RunsFile {
+        store,
+        schema,
+        places,
+        alloc,
+    })
+}
+
+impl<S: Alter + Drop> RunsFile<S> {
+    ghost use Rattle.std.specs.Prelude.{IfOk, IfErr, IsTrue, List};
+    ghost use Rattle.kt_dbfile.specs.Common.{state, HasCleanDisk, HasCommitted, IsStoreFault, Run, StandsFor};
+    ghost use Rattle.sqlite_trees.specs.Tree.{Trees};
+    ghost use Rattle.sqlite_trees.specs.View.{IsClean};
+
+    /// Returns the results of a connection, to be read and written by their trees. What a transaction of the connection
+    /// wrote is undone.
+    pub fn of(results: Results<S>) -> Result<RunsFile<S>, StoreFault>
+        ensures stands { IfOk result (λ r. (runs : List Run)
+            → StandsFor (state S.Store results) runs → HasCommitted (S.Store.view r) runs) }
+        ensures earlier { IfOk result (λ r. IsClean (S.Store.view r)
+            → HasCleanDisk (state S.Store results)) }
+        ensures crash { IfOk result (λ r. (trees : Trees) → S.Store.recovers r trees
+            → (state S.Store results).may_leave trees) }
+        ensures numbered { IfOk result (λ r. IsClean (S.Store.view r)
+            → IsTrue (S.Store.view r).is_numbered) }
+        ensures failed { IfErr result IsStoreFault }
+    {
+        let (alloc, connection) = results.into_parts();
+        lives(&connection);
+        Ok(over(alloc, connection.into_store())?)
+    }
+
+    /// Returns the store of the results.
+    pub fn into_store(self) -> S
+        ensures { result ≡ self }
+    {
+        let RunsFile {
+            store,
+            schema: _,
+            places: _,
+            alloc: _,
+        } = self;
+        store
+    }
+}
+
+impl<D: Disk + Drop> RunsFile<FileStore<D>> {
+    ghost use Rattle.std.specs.Prelude.{OnOk, IfErr};
+    ghost use Rattle.kt_dbfile.specs.Common.{Ends, IsStoreFault};
+
+    /// Closes the results, so that the file alone has them all.
+    ///
+    /// # Errors
+    ///
+    /// The results are then in the file and its log.
+    ///
+    /// - `Store`: the log can't be copied into the file.
+    /// - `NoMemory`: memory ran out.
+    pub fn close(self) -> Result<(), StoreFault>
+        ensures closed { OnOk result (Ends self) }
+        ensures failed { IfErr result IsStoreFault }
+    {
+        // Not by `into_store`: over a disk that call takes the prover half a minute.
+        let RunsFile {
+            store,
+            schema: _,
+            places: _,
+            alloc: _,
+        } = self;
+        Ok(close_store(store)?)
+    }
+}
+
+/// Accepts the tables of a database, and returns the results to be read and written by their trees.
+fn taken<S: Alter + Drop>(
+    alloc: Global,
+    connection: Connection<S>,
+) -> Result<RunsFile<S>, StoreFault>
+    ensures taken { IfOk result (IsTaken S.Store connection) }
+    ensures due { IfErr result (λ e. IsStoreFault e ⊎ (e ≡ StoreFault.UnknownSchema)) }
+{
+    match Results::attach(alloc, connection) {
+        Ok(results) => RunsFile::of(results),
+        Err((fault, _connection)) => Err(fault),
+    }
+}
+
+/// Accepts the tables of a database in files, and returns the results to be read and written by their trees.
+///
+/// Separate for the prover: what asks how a store over files is read is slow to prove.
+fn taken_of<D: Disk + Drop>(
+    alloc: Global,
+    connection: Connection<FileStore<D>>,
+) -> Result<RunsFile<FileStore<D>>, StoreFault>
+    ensures taken { IfOk result (IsTakenOf connection) }
+    ensures due { IfErr result (λ e. IsStoreFault e ⊎ (e ≡ StoreFault.UnknownSchema)) }
+{
+    taken(alloc, connection)
+}
+
+/// Returns the results in a store that lists the tables of schema 2.
+///
+/// Separate for the prover: what asks how a store over files is read is slow to prove.
+fn ours<S: Alter + Drop>(alloc: Global, mut store: S) -> Result<RunsFile<S>, StoreFault>
+    requires settled { (S.Store.view store).trees ≡ (S.Store.view store).committed }
+    requires sound { IsTrue (S.Store.view store).is_open
+        → IsSound schema_2 (S.Store.view store).committed }
+    ensures found { IfOk result (λ r. Looks S.Store store r
+        × (IsClean (S.Store.view r) → SaysIn (pos 2) (S.Store.view store).trees)) }
+    ensures due { IfErr result (λ e. IsStoreFault e ⊎ (e ≡ StoreFault.UnknownSchema)) }
+{
+    check_number(&mut store, alloc)?;
+    Ok(over(alloc, store)?)
+}
+
+/// Opens the results in files that list the tables of schema 2. Other files come back: they were only read.
+/// `UnknownSchema` if the tables say another number.
+pub(crate) fn known<D: Disk + Drop>(
+    alloc: Global,
+    files: Files<D>,
+    options: Options,
+    is_link: bool,
+) -> Result<Result<RunsFile<FileStore<D>>, Files<D>>, StoreFault>
+    requires log { IsTrue (D.Disk.is_usable files.log) }
+    requires db { IsTrue (D.Disk.is_usable files.db) }
+    requires held { IsOfRuns (image_of D.Disk files) }
+    ensures found { IfOk result (λ found. IfOk found (Finds (image_of D.Disk files))) }
+    ensures back { IfOk result (λ found. IfErr found (IsLeft D.Disk files)) }
+    ensures due { IfErr result (λ e. IsStoreFault e ⊎ (e ≡ StoreFault.UnknownSchema)) }
+{
+    match known_over(alloc, files, options, is_link)? {
+        Ok(store) => Ok(Ok(ours(alloc, store)?)),
+        Err(left) => Ok(Err(left)),
+    }
+}
+
+/// Returns the results in files: by their trees if they list the tables of schema 2, and else as [`Results::attach`] takes
+/// them. `UnknownSchema` if the tables say a number other than 1 and 2.
+fn over_files<D: Disk + Drop>(
+    alloc: Global,
+    files: Files<D>,
+    options: Options,
+    is_link: bool,
+) -> Result<RunsFile<FileStore<D>>, StoreFault>
+    requires log { IsTrue (D.Disk.is_usable files.log) }
+    requires db { IsTrue (D.Disk.is_usable files.db) }
+    requires held { IsOfRuns (image_of D.Disk files) }
+    ensures opened { IfOk result (Finds (image_of D.Disk files)) }
+    ensures due { IfErr result (λ e. IsStoreFault e ⊎ (e ≡ StoreFault.UnknownSchema)) }
+{
+    match known(alloc, files, options, is_link)? {
+        Ok(known) => Ok(known),
+        Err(left) => {
+            let connection = connect(alloc, left, options)?;
+            taken_of(alloc, connection)
+        }
+    }
+}
+
+/// How often a file is tried again that another process works with.
+const TRIES: usize = 100;
+
+/// The pause before a file is tried again, in milliseconds.
+const PAUSE_MILLIS: u64 = 50;
+
+/// Pauses if another process works with the file. Any other fault comes back.
+fn pause(rt: &HostRuntime, fault: StoreFault) -> Result<(), StoreFault>
+    ensures { IfErr result (λ e. e ≡ fault) }
+{
+    if !fault.is_in_use() {
+        return Err(fault);
+    }
+    thread::sleep(rt, Duration::from_millis(PAUSE_MILLIS));
+    Ok(())
+}
+
+/// Opens the files of a database once. A database is created if there is none.
+fn try_open<S: TrustedContents>(
+    rt: &HostRuntime,
+    file: &Text,
+    start: S,
+) -> Result<Files<FileFrom<S>>, (StoreFault, NotOpened<S>)>
+    ensures log { IfOk result (λ files. IsTrue (file_is_usable S.Start files.log)) }
+    ensures db { IfOk result (λ files. IsTrue (file_is_usable S.Start files.db)) }
+    ensures fresh { IfOk result (λ files. IsFresh true files.log × IsFresh false files.db) }
+    ensures failed { IfErr result (λ e. IsStoreFault e.0) }
+{
+    prepare(rt, file);
+    match open_both(rt, file, start) {
+        Ok(files) => Ok(files),
+        Err((trouble, failed)) => Err((StoreFault::from(trouble), failed)),
+    }
+}
+
+/// Opens the files of a database, which is created if there is none. While another process works with them they are tried
+/// again, for 5 seconds. Only a failed open gives the value of `S` back, so that one pair of files is opened.
+fn open_files<S: TrustedContents>(
+    rt: &HostRuntime,
+    file: &Text,
+    start: S,
+) -> Result<Files<FileFrom<S>>, StoreFault>
+    ensures log { IfOk result (λ files. IsTrue (file_is_usable S.Start files.log)) }
+    ensures db { IfOk result (λ files. IsTrue (file_is_usable S.Start files.db)) }
+    ensures fresh { IfOk result (λ files. IsFresh true files.log × IsFresh false files.db) }
+    ensures failed { IfErr result IsStoreFault }
+{
+    let mut start = start;
+    for _ in 0..TRIES {
+        match try_open(rt, file, start) {
+            Ok(files) => return Ok(files),
+            Err((fault, failed)) => {
+                pause(rt, fault)?;
+                start = S::returned(failed);
+            }
+        }
+    }
+    match try_open(rt, file, start) {
+        Ok(files) => Ok(files),
+        Err((fault, _failed)) => Err(fault),
+    }
+}
+
+/// Returns whether a path is that of a file for SQLite.
+fn is_path(path: &str) -> bool
+    ensures { result ≡ false → (path.now ≡ codes ":memory:") ⊎ IsUri path.now }
+{
+    path != ":memory:" && !path.starts_with("file:")
+}
+
+/// Returns whether a link leads to a file. No log lies next to a link.
+fn is_link(rt: &HostRuntime, file: &Text) -> bool {
+    match fs::symlink_metadata(rt, file.as_str()) {
+        Ok(found) => !found.is_file(),
+        Err(_fault) => true,
+    }
+}
+
+impl<S: TrustedContents> RunsFile<FileStore<FileFrom<S>>> {
+    ghost use Rattle.std.specs.Prelude.{◌≡◌, ◌⊎◌, IfOk, IfErr};
+    ghost use Rattle.kt_dbfile.specs.Common.{Finds, IsStoreFault, image_at};
+
+    /// Opens the results in a file, which is created if there is none.
+    ///
+    /// `start` represents what the file holds, for contracts alone. An open uses it up, so one value serves one open.
+    ///
+    /// # Errors
+    ///
+    /// - `NoMemory`: memory ran out.
+    /// - `Store`: another process works with the file for 5 seconds, the file can't be created, read or written, it is damaged
+    ///   or has other tables, or `start` is `None`.
+    /// - `UnknownSchema`: the tables say a number other than 1 and 2.
+    pub fn open(
+        rt: &HostRuntime,
+        file: &Text,
+        access: Access,
+        start: Option<S>,
+    ) -> Result<Self, StoreFault>
+        ensures opened { IfOk result (Finds (image_at S.Start)) }
+        ensures due { IfErr result (λ e. IsStoreFault e ⊎ (e ≡ StoreFault.UnknownSchema)) }
+    {
+        sure(is_path(file.as_str()))?;
+        let files = open_files(rt, file, present(start)?)?;
+        let options = present(options(rt, access.pages()))?;
+        over_files(rt.alloc(), files, options, is_link(rt, file))
+    }
+}
+
+impl<S: Alter> StoreSpec for RunsFile<S> {
+    ghost use Rattle.kt_dbfile.specs.Common.{AreNumbered, AreOrdered, KeepsOne, HasCommitted};
+    ghost use Rattle.sqlite_trees.specs.Tree.{Trees};
+    ghost use Rattle.sqlite_trees.specs.View.{IsClean};
+
+    ghost answers = { λ _ _ _. Unit {0} };
+
+    ghost stands = { λ s runs. HasCommitted (S.Store.view s) runs × AreNumbered 1 runs
+        × (IsClean (S.Store.view s) → AreOrdered runs) };
+
+    ghost sound = { λ s. IsClean (S.Store.view s) };
+
+    ghost leaves = { λ s may. IsClean (S.Store.view s) → (trees : Trees)
+        → S.Store.recovers s trees → KeepsOne may trees };
+
+    ghost numbered = { λ s runs h. h.1 };
+
+    ghost ordered = { λ s runs h sound. h.2 sound };
+}
+
+/// Commits what was written. If it was refused, or the commit fails, the transaction goes back to the last commit.
+fn committed<S: Alter, T: Drop>(
+    store: &mut S,
+    written: Result<T, StoreFault>,
+) -> Result<T, StoreFault>
+    ensures { Ended S.Store store.old store.new written result }
+{
+    let value = match written {
+        Ok(value) => value,
+        Err(fault) => {
+            store.rollback();
+            return Err(fault);
+        }
+    };
+    match store.commit() {
+        Ok(()) => Ok(value),
+        Err(error) => {
+            store.rollback();
+            Err(StoreFault::from(error))
+        }
+    }
+}
+
+impl<S: Alter> ResultStore for RunsFile<S> {
+    fn begin(&mut self, total: u32, moment: u64) -> Result<u64, StoreFault> {
+        let written = write_run(
+            &mut self.store,
+            self.alloc,
+            &self.schema,
+            self.places,
+            total,
+            moment,
+        );
+        committed(&mut self.store, written)
+    }
+
+    fn put(&mut self, run: u64, entry: &Entry) -> Result<(), StoreFault> {
+        let written = write_entry(
+            &mut self.store,
+            self.alloc,
+            &self.schema,
+            self.places,
+            run,
+            entry,
+        );
+        committed(&mut self.store, written)
+    }
+
+    fn finish(&mut self, run: u64) -> Result<(), StoreFault> {
+        let written = write_finish(&mut self.store, self.alloc, &self.schema, self.places, run);
+        committed(&mut self.store, written)
+    }
+
+    fn runs(&mut self) -> Result<Vec<RunHead>, StoreFault> {
+        heads(&mut self.store, self.alloc, self.places)
+    }
+
+    fn outline(&mut self, run: u64) -> Result<Vec<Entry>, StoreFault> {
+        outline(&mut self.store, self.alloc, self.places, run)
+    }
+
+    fn pairs(&mut self, run: u64, position: u32) -> Result<Variables, StoreFault> {
+        find_pairs(&mut self.store, self.alloc, self.places, run, position)
+    }
+
+    fn outputs(&mut self, run: u64, position: u32) -> Result<CaseOutputs, StoreFault> {
+        find_outputs(&mut self.store, self.alloc, self.places, run, position)
+    }
+}

@@ -1,0 +1,223 @@
+ghost use Rattle.std.specs.Prelude.{◌≡◌, ◌⊎◌, ◌<◌, ◌≤◌, ◌^◌, ℕ, Some, None, drop, length, map, IfOk, IfErr, OnOk};
+ghost use Rattle.kt_dbfile.specs.Common.{CountFrom, OnTrees, IsStoreFault, StandAt, Looks, LooksThrough, Run, AreRuns, Blob, Entry, column, entry_row, key_before, last_run, outputs_of, run_row, head_of, Serves, Heads, Outline, Outputs, Pairs, entries_of, outlined, run_at, seen_as};
+ghost use Rattle.kt_dbfile.specs.Inner.Known.{readings};
+ghost use Rattle.sqlite_trees.specs.View.{IsClean};
+
+use crate::ends::{NO_RUN, check_ends, check_entries};
+use crate::places::{Place, Places};
+use crate::tables::{entries_at, entry_place, last_row, pairs_at, stored_head};
+use crate::trees::{all_shown, number_of, number_row, row_behind, rows_after, stored_bytes};
+use kt_base::{Entry, NoMemory, Output, Variables};
+use kt_store::heads::heads_in;
+use kt_store::lookup::key;
+use kt_store::outlines::{outline_in, pairs_in};
+use kt_store::store_fault::{StoreFailure, sure};
+use kt_store::{CaseOutputs, RunHead, StoreFault};
+use sqlite_exec::check::all_rows;
+use sqlite_exec::work::Workspace;
+use sqlite_trees::store::{Shape, Store};
+use sqlite_value::row;
+use std::alloc::Global;
+
+/// Where the tables stand in a file that plainly lists schema 2.
+pub(crate) const PLACES_2: Places = Places {
+    runs: Place { at: 1, tree: 2 },
+    entries: Place { at: 2, tree: 3 },
+    entry_keys: 4,
+    props: Place { at: 3, tree: 5 },
+    pair_keys: 6,
+};
+
+/// Reads the heads of all runs, by number.
+pub(crate) fn heads<S: Store>(
+    store: &mut S,
+    alloc: Global,
+    places: Places,
+) -> Result<Vec<RunHead>, StoreFault>
+    requires { StandAt places (S.Store.view store.old) }
+    ensures served { Serves (readings S.Store) (Heads (seen_as (λ heads. heads.items) result))
+        store.old store.new }
+    // Also of a damaged file: no run has the number of another.
+    ensures numbered { IfOk result (λ heads. CountFrom 1 heads.items) }
+    ensures failed { IfErr result IsStoreFault }
+    ensures looks { Looks S.Store store.old store.new }
+{
+    let stored = all_rows(store, &mut Workspace::new(alloc), places.runs.tree)?;
+    let rows = all_shown(alloc, &stored, &[0, 2, 3, 4])?;
+    let found = heads_in(alloc, &rows)?;
+    let last = found.last().copied().unwrap_or(NO_RUN);
+    check_ends(store, alloc, places, last)?;
+    Ok(found)
+}
+
+/// Returns the number of the last run, or 0 if there is none.
+pub(crate) fn last_number<S: Store>(
+    store: &mut S,
+    alloc: Global,
+    places: Places,
+) -> Result<u64, StoreFailure>
+    requires { StandAt places (S.Store.view store.old) }
+    ensures last { OnTrees S.Store store.old store.new (λ runs.
+        IfOk result (λ n. n ≡ length runs)) }
+    ensures through { IsClean (S.Store.view store.new)
+        → OnOk result (LooksThrough (S.Store.view store.old) (S.Store.view store.new)) }
+    ensures looks { Looks S.Store store.old store.new }
+{
+    let Some(row) = last_row(store, alloc, places.runs.tree)? else {
+        return Ok(0);
+    };
+    let number = number_of(&row)?;
+    Ok(number)
+}
+
+/// Returns the row of a run. `NoRun` if no run has the number.
+pub(crate) fn stored_run<S: Store>(
+    store: &mut S,
+    alloc: Global,
+    places: Places,
+    run: u64,
+) -> Result<row::Row, StoreFault>
+    requires { StandAt places (S.Store.view store.old) }
+    ensures small { OnOk result (run ≤ last_run) }
+    ensures found { OnTrees S.Store store.old store.new (λ runs.
+        IfOk result (λ row. (r : Run) × (run_at runs run ≡ Some r) × (row ≡ run_row r)
+        × AreRuns runs)) }
+    ensures refused { OnTrees S.Store store.old store.new (λ runs.
+        IfErr result (λ e. IsStoreFault e ⊎ ((e ≡ StoreFault.NoRun) × (run_at runs run ≡ None)))) }
+    ensures through { IsClean (S.Store.view store.new)
+        → OnOk result (LooksThrough (S.Store.view store.old) (S.Store.view store.new)) }
+    ensures looks { Looks S.Store store.old store.new }
+{
+    let number = key(run);
+    sure(store.shape(places.runs.tree) == Shape::Table)?;
+    let mut row = row::Row::new(alloc);
+    if !store.get(places.runs.tree, number as i64, &mut row)? || u64::from(number) != run {
+        return Err(StoreFault::NoRun);
+    }
+    Ok(row)
+}
+
+/// Returns the head of a run. `NoRun` if no run has the number.
+pub(crate) fn run_head<S: Store>(
+    store: &mut S,
+    alloc: Global,
+    places: Places,
+    run: u64,
+) -> Result<RunHead, StoreFault>
+    requires { StandAt places (S.Store.view store.old) }
+    ensures small { OnOk result (run ≤ last_run) }
+    ensures found { OnTrees S.Store store.old store.new (λ runs.
+        IfOk result (λ head. (r : Run) × (run_at runs run ≡ Some r) × (head ≡ head_of r)
+        × AreRuns runs)) }
+    ensures refused { OnTrees S.Store store.old store.new (λ runs.
+        IfErr result (λ e. IsStoreFault e ⊎ ((e ≡ StoreFault.NoRun) × (run_at runs run ≡ None)))) }
+    ensures through { IsClean (S.Store.view store.new)
+        → OnOk result (LooksThrough (S.Store.view store.old) (S.Store.view store.new)) }
+    ensures looks { Looks S.Store store.old store.new }
+{
+    let row = stored_run(store, alloc, places, run)?;
+    let head = stored_head(alloc, &row)?;
+    Ok(head)
+}
+
+/// Reads the entries of a run without their pairs and outputs, by position.
+fn all_entries<S: Store>(
+    store: &mut S,
+    alloc: Global,
+    places: Places,
+    run: u32,
+) -> Result<Vec<Entry>, StoreFailure>
+    requires { StandAt places (S.Store.view store.old) }
+    ensures all { OnTrees S.Store store.old store.new (λ runs.
+        IfOk result (λ found. found.items ≡ map outlined (entries_of (run_at runs run)))) }
+    ensures looks { Looks S.Store store.old store.new }
+{
+    let before = number_row(alloc, run.saturating_sub(1))?;
+    let key = number_row(alloc, run)?;
+    let columns = &[2, 3, 4, 5, 6, 7, 8];
+    let rows = rows_after(store, alloc, &entries_at(places), &before, &key, columns)?;
+    outline_in(alloc, &rows)
+}
+
+/// Reads the entries of a run without their pairs and outputs, by position. The file is damaged if an entry is missing,
+/// which a finished run or a pair shows.
+pub(crate) fn outline<S: Store>(
+    store: &mut S,
+    alloc: Global,
+    places: Places,
+    run: u64,
+) -> Result<Vec<Entry>, StoreFault>
+    requires { StandAt places (S.Store.view store.old) }
+    ensures served { Serves (readings S.Store) (Outline run
+        (seen_as (λ found. found.items) result)) store.old store.new }
+    ensures looks { Looks S.Store store.old store.new }
+{
+    let head = run_head(store, alloc, places, run)?;
+    let found = all_entries(store, alloc, places, key(run))?;
+    check_entries(store, alloc, places, head, &found)?;
+    Ok(found)
+}
+
+/// Returns the key of the entry before a position of a run, or of the run before if there is none.
+fn place_before(alloc: Global, run: u32, position: u32) -> Result<row::Row, NoMemory>
+    ensures { IfOk result (λ key. key ≡ key_before run position) }
+{
+    if position == 0 {
+        return number_row(alloc, run.saturating_sub(1));
+    }
+    entry_place(alloc, run, position - 1)
+}
+
+/// Reads the pairs of the entry of a run at a position. Returns none if the run has no such entry.
+pub(crate) fn find_pairs<S: Store>(
+    store: &mut S,
+    alloc: Global,
+    places: Places,
+    run: u64,
+    position: u32,
+) -> Result<Variables, StoreFault>
+    requires { StandAt places (S.Store.view store.old) }
+    ensures served { Serves (readings S.Store) (Pairs run position result) store.old store.new }
+    ensures looks { Looks S.Store store.old store.new }
+{
+    let number = key(run);
+    let before = place_before(alloc, number, position)?;
+    let place = entry_place(alloc, number, position)?;
+    let rows = rows_after(store, alloc, &pairs_at(places), &before, &place, &[4, 5])?;
+    Ok(pairs_in(alloc, &rows)?)
+}
+
+/// Reads the outputs of an entry from its stored row.
+fn stored_outputs(alloc: Global, row: &row::Row) -> Result<CaseOutputs, StoreFault>
+    ensures outputs { (n : ℕ) (e : Entry) → drop 1 row.now ≡ entry_row n e
+        → IfOk result (λ o. o ≡ outputs_of e) }
+    ensures failed { IfErr result IsStoreFault }
+{
+    let out = stored_bytes(alloc, row, 9)?;
+    let err = stored_bytes(alloc, row, 10)?;
+    let body = Output { out, err };
+    let out = stored_bytes(alloc, row, 11)?;
+    let err = stored_bytes(alloc, row, 12)?;
+    let cleanup = Output { out, err };
+    Ok(CaseOutputs { body, cleanup })
+}
+
+/// Reads the outputs of the entry of a run at a position. `NoRun` if the run has no such entry.
+pub(crate) fn find_outputs<S: Store>(
+    store: &mut S,
+    alloc: Global,
+    places: Places,
+    run: u64,
+    position: u32,
+) -> Result<CaseOutputs, StoreFault>
+    requires { StandAt places (S.Store.view store.old) }
+    ensures served { Serves (readings S.Store) (Outputs run position result) store.old store.new }
+    ensures looks { Looks S.Store store.old store.new }
+{
+    let number = key(run);
+    let place = entry_place(alloc, number, position)?;
+    match row_behind(store, alloc, &entries_at(places), &place)? {
+        Some(row) if u64::from(number) == run => stored_outputs(alloc, &row),
+        _ => Err(StoreFault::NoRun),
+    }
+}

@@ -1,0 +1,78 @@
+ghost use Rattle.std.specs.Prelude.{◌≡◌, [], ◌∷◌, pos, IfOk, OnOk};
+ghost use Rattle.kt_dbfile.specs.Common.{Int, IsLast, Looks, LooksThrough, Run, head_of, run_row};
+ghost use Rattle.sqlite_trees.specs.View.{IsClean};
+
+use crate::places::Places;
+use crate::trees::{Table, number_row, shown};
+use kt_base::NoMemory;
+use kt_store::RunHead;
+use kt_store::heads::head_in;
+use kt_store::store_fault::{StoreFailure, sure};
+use kt_store::value::int;
+use sqlite_trees::store::{Direction, Shape, Store};
+use sqlite_value::row::Row;
+use std::alloc::Global;
+
+/// Returns the table of entries.
+pub(crate) fn entries_at(places: Places) -> Table<'static>
+    ensures tree { result.tree ≡ places.entries.tree }
+    ensures index { result.index ≡ places.entry_keys }
+{
+    Table {
+        tree: places.entries.tree,
+        index: places.entry_keys,
+        key: &[1, 2],
+        blobs: &[9, 10, 11, 12],
+    }
+}
+
+/// Returns the table of pairs.
+pub(crate) fn pairs_at(places: Places) -> Table<'static>
+    ensures tree { result.tree ≡ places.props.tree }
+    ensures index { result.index ≡ places.pair_keys }
+{
+    Table {
+        tree: places.props.tree,
+        index: places.pair_keys,
+        key: &[1, 2, 3],
+        blobs: &[],
+    }
+}
+
+/// Creates the prefix that the keys of an entry and of its pairs have in their indexes.
+pub(crate) fn entry_place(alloc: Global, run: u32, position: u32) -> Result<Row, NoMemory>
+    ensures { IfOk result (λ place. place ≡ Int (pos run) ∷ Int (pos position) ∷ []) }
+{
+    let mut place = number_row(alloc, run)?;
+    place.push(int(u64::from(position)))?;
+    Ok(place)
+}
+
+/// Returns the row of a table with the highest rowid, if there is one.
+pub(crate) fn last_row<S: Store>(
+    store: &mut S,
+    alloc: Global,
+    tree: u32,
+) -> Result<Option<Row>, StoreFailure>
+    ensures last { IfOk result (λ found. IsClean (S.Store.view store.new)
+        → IsLast ((S.Store.view store.old).trees tree) found) }
+    ensures through { IsClean (S.Store.view store.new)
+        → OnOk result (LooksThrough (S.Store.view store.old) (S.Store.view store.new)) }
+    ensures looks { Looks S.Store store.old store.new }
+{
+    sure(store.shape(tree) == Shape::Table)?;
+    let mut row = Row::new(alloc);
+    store.seek(0, tree, &row, Direction::Backward)?;
+    if !store.next(0, &mut row)? {
+        return Ok(None);
+    }
+    Ok(Some(row))
+}
+
+/// Reads the head of a run from its stored row.
+pub(crate) fn stored_head(alloc: Global, row: &Row) -> Result<RunHead, StoreFailure>
+    ensures head { (r : Run) → row.now ≡ run_row r → IfOk result (λ h. h ≡ head_of r) }
+{
+    let shown = shown(alloc, row, &[0, 2, 3, 4])?;
+    head_in(&shown)
+}

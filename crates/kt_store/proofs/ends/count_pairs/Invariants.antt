@@ -1,5 +1,0 @@
-use Rattle.kt_store.proofs.Common.{Looks}
-use Rattle.kt_store.proofs.ends.count_pairs.Given as goal
-
-abbrev pub invariant-loop-entry : goal.invariant-loop-entry
-invariant-loop-entry g l = Looks g.S.Store l.fn.store l.store

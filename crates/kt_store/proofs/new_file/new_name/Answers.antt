@@ -1,7 +1,0 @@
-use Rattle.kt_store.proofs.Common.{IfOk-weaker, IsNewNameOf}
-unfoldable use Rattle.std.specs.Str.{chars}
-use Rattle.kt_store.proofs.new_file.new_name.Goals as goal
-
-pub returns : goal.returns
-unfolding chars
-returns c = IfOk-weaker c.with_ending.result _ (IsNewNameOf c.args.file.now) (λ name is. is) c.with_ending.ensures
