@@ -172,8 +172,6 @@ BODY
 rule "names the allocator's refusal" paths 'Alloc(Error|Failed)([^A-Za-z]|$)' <<'PLACES'
 # It is taken for the value that says that memory ran out.
 kt_base/src/no_memory.rt
-# It is taken apart for the files that it gives back.
-kt_dbfile/src/opening.rt
 PLACES
 body kt_suite/src/loader.rt 'ReadFault::Missing | ReadFault::Failed => fault_at(file, alloc, 0, SuiteCause::Unreadable),' <<'BODY'
 ReadFault::Missing => return Err(NoMemory::from(AllocError)),
@@ -271,7 +269,8 @@ kt_dbfile/src/trees.rt: sure(store.get(table.tree, id, row)?)?;
 kt_dbfile/src/ends.rt: sure(is_last_row_placed(store, alloc, table)?)?;
 kt_dbfile/src/ends.rt: sure(is_end(alloc, &end, last)?)
 kt_dbfile/src/ends.rt: sure(has_entry(store, alloc, places, &pair)?)
-kt_dbfile/src/ends.rt: sure(store.get(places.runs.tree, i64::from(key(last)), &mut row)?)?;
+kt_dbfile/src/ends.rt: sure(store.get(places.runs.tree, key as i64, &mut row)?)?;
+kt_dbfile/src/ends.rt: sure(head.number == number)?;
 kt_dbfile/src/ends.rt: sure(may_be_all(head, entries))?;
 kt_dbfile/src/ends.rt: sure(are_of_entries(store, alloc, places, head, entries)?)
 # A row that was written obeys the rules of its table.

@@ -38,10 +38,10 @@ pub use Rattle.kt_sched.specs.declared.run_fault.RunFault.TheVariants.{NoMemory,
 pub use Rattle.kt_sched.specs.declared.sink.SinkFault.{SinkFault}
 pub use Rattle.kt_sched.specs.declared.totals.Totals.{Totals}
 pub use Rattle.kt_store.specs.Ask.{IsStoreFault}
-pub use Rattle.kt_store.specs.Heads.{entry_at, head_of, outlined, outputs_of, without_outputs, without_pairs}
+pub use Rattle.kt_store.specs.Heads.{IsNumbered, entry_at, head_at, head_of, outlined, outputs_of, without_outputs, without_pairs}
 pub use Rattle.kt_store.specs.Runs.{AreNumbered, finish, finish_refusal, finish_refusal_of, has_position, insert_at, new_run, put_refusal, put_refusal_of, run_at, with_entry}
 pub use Rattle.kt_store.specs.Serving.{Agrees, Outlasts, Serves, changed_by}
-pub use Rattle.kt_store.specs.StoreCalls.{Began, Finished, Heads, Outline, Outputs, Pairs, Put, StoreCall}
+pub use Rattle.kt_store.specs.StoreCalls.{Began, Finished, Head, Outline, Outputs, Pairs, Put, StoreCall}
 pub use Rattle.kt_store.specs.declared.result_store.CaseOutputs.{CaseOutputs}
 pub use Rattle.kt_store.specs.declared.result_store.RunHead.{RunHead}
 pub use Rattle.kt_store.specs.declared.store_fault.StoreFault.{StoreFault}
@@ -70,7 +70,7 @@ pub use Rattle.kt_cli.specs.MemoryRuns.{LeavesInMemory, memory_runs}
 pub use Rattle.kt_cli.specs.Pages.{Printed}
 pub use Rattle.kt_cli.specs.Performing.{RunsCommand, WithResults, OverProcesses, NoRoot, Program, State, needs_nothing, closed, done, no_driver, no_surroundings, no_world, none_made, not_absolute, not_opened, program, state}
 pub use Rattle.kt_cli.specs.Recordings.{AllRecorded, IsStopped}
-pub use Rattle.kt_cli.specs.Reports.{DifferInOutputs, DifferInPairs, JunitCut, Reported, ReportedJunit, TextCut, Unread, asked_outputs, asked_pairs, chosen, ending_of, next_bytes, no_outputs, no_pairs, no_run, run_of, run_shown, pairs_shown, no_output}
+pub use Rattle.kt_cli.specs.Reports.{DifferInOutputs, DifferInPairs, JunitCut, Misses, Reported, ReportedJunit, TextCut, Unread, asked_outputs, asked_pairs, ending_of, next_bytes, no_outputs, no_pairs, no_run, run_of, run_shown, pairs_shown, no_output}
 pub use Rattle.kt_cli.specs.Scenes.{Scene, World, launcher_of, scene, with_store, world_of}
 pub use Rattle.kt_cli.specs.SoundStores.{Left, with_new}
 pub use Rattle.kt_cli.specs.Stores.{Agree, Stored, beside, beside_by, by_position, changed, put_among, puts}

@@ -1,7 +1,8 @@
--- Lookups and changes of runs in memory.
-use Rattle.std.proofs.Common.{Option, Some, None, Ok, Err, true, slice_get, insert, ◌==◌, ◌≡◌, ℕ, ◌≤◌, List, [], ◌∷◌, length, arith, refl, sym, ap, ◌∙◌, get_or, set, inr, subst}
+-- Runs in memory are looked up and changed.
+use Rattle.std.proofs.Common.{Option, Some, None, Ok, Err, true, slice_get, insert, ◌==◌, ◌≡◌, ℕ, ◌≤◌, List, [], ◌∷◌, length, arith, refl, sym, ap, ◌∙◌, get_or, set, inr, subst, unwrap_or}
 use Rattle.std.proofs.lemmas.Option.{slice_get_read}
-use Rattle.kt_cli.proofs.Common.{find, nat_tests, set-get_or, Entry, Run, StoreFault, NoRun, CaseOutputs, outputs_of, entry_at, AreNumbered, insert_at, run_at, put_refusal_of, finish_refusal_of, Agrees, Serves, changed_by, StoreCall, Put, Finished, Outputs, LeavesInMemory, memory_runs, ServesInMemory, FindsPlace, entry_refusal, closing_refusal, place_among}
+use Rattle.kt_cli.proofs.Common.{find, nat_tests, set-get_or, Entry, Run, StoreFault, NoRun, CaseOutputs, outputs_of, entry_at, AreNumbered, insert_at, run_at, put_refusal_of, finish_refusal_of, Agrees, Serves, changed_by, StoreCall, Put, Finished, Head, Outputs, RunHead, head_of, option_map, LeavesInMemory, memory_runs, ServesInMemory, FindsPlace, entry_refusal, closing_refusal, place_among}
+use Rattle.kt_store.proofs.RunsByNumber.{run_found}
 use Rattle.kt_store.proofs.Numbered.{numbers_changed, ordered_changed}
 use Rattle.kt_store.proofs.ServeLemmas.{always_outlasts}
 use Rattle.kt_cli.proofs.Numbered.{entry_placed, finish_placed}
@@ -14,6 +15,18 @@ serves_in_memory old call new h = record {
   earlier = λ runs is sound. tt;
   agrees = λ runs is sound. subst (λ (rs : List Run). Agrees rs call) is.0 h.0;
   crash = λ runs may is. always_outlasts LeavesInMemory (λ _ _. tt) call runs may old new;
+}
+
+-- runs in memory return the head of the run with the number, or of the last run
+pub head_served : (old : List Run) (number : Option ℕ) (head : Option RunHead) → head ≡ option_map head_of (find (λ (r : Run). r.number == unwrap_or number (length old)) old)
+    → Serves memory_runs (Head number (Ok head)) old old
+head_served old number head is = record {
+  asked = tt;
+  stands = λ runs h. h;
+  earlier = λ runs h sound. tt;
+  agrees = λ runs h sound. subst (λ (rs : List Run). Agrees rs (Head number (Ok head))) h.0
+      (is ∙ ap (option_map head_of) (run_found (unwrap_or number (length old)) old (subst (λ (rs : List Run). AreNumbered 1 rs) (sym h.0) h.1)));
+  crash = λ runs may h. always_outlasts LeavesInMemory (λ _ _. tt) (Head number (Ok head)) runs may old old;
 }
 
 same_list : (xs old : List Run) (place : ℕ) (run : Run) → xs ≡ old → run ≡ get_or xs place run → set xs place run ≡ old

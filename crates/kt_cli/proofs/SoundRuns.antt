@@ -1,8 +1,8 @@
 -- Effect of a command on the runs of a sound store.
 use Rattle.std.proofs.Common.{Option, Some, None, Ok, Err, Bool, true, false, map, ◌≡◌, ℕ, suc, List, [], ◌∷◌, ◌++◌, length, refl, sym, ap, ◌∙◌, subst, append-nil, ◌⊎◌, inl, inr}
-use Rattle.kt_cli.proofs.Common.{AllByRecursion, Entry, Run, Job, plan_fits, AreEntries, IsPlan, Trace, IsStoreFault, entry_at, AreNumbered, new_run, run_at, with_entry, put_refusal, finish_refusal, StoreCall, Began, Put, Finished, Heads, Outline, Outputs, Pairs, outputs_of, without_outputs, RunHead, StoreFault, Command, Kind, Seen, Means, stopped, listed, tested, debugged, nothing_to_debug, reported, reported_junit, CutShort, no_memory, cut, report_cut, text_cut, junit_cut, CommandResult, Scene, World, AllRecorded, JunitOrUnread, Reported, run_shown, pairs_shown, no_run, ReportedJunit, Unread, TextCut, no_pairs, no_output, asked_outputs, asked_pairs, with_new, Left, put_all, Agrees, changed_by, puts, changed, Agree, PlannedRun, run_for, Tested, TestCut, not_begun, not_run, not_put, not_finished}
+use Rattle.kt_cli.proofs.Common.{AllByRecursion, Entry, Run, Job, plan_fits, AreEntries, IsPlan, Trace, IsStoreFault, entry_at, AreNumbered, new_run, run_at, with_entry, put_refusal, finish_refusal, StoreCall, Began, Put, Finished, Head, Misses, Outline, Outputs, Pairs, outputs_of, without_outputs, RunHead, StoreFault, Command, Kind, Seen, Means, stopped, listed, tested, debugged, nothing_to_debug, reported, reported_junit, CutShort, no_memory, cut, report_cut, text_cut, junit_cut, CommandResult, Scene, World, AllRecorded, JunitOrUnread, Reported, run_shown, pairs_shown, no_run, ReportedJunit, Unread, TextCut, no_pairs, no_output, asked_outputs, asked_pairs, with_new, Left, put_all, Agrees, changed_by, puts, changed, Agree, PlannedRun, run_for, Tested, TestCut, not_begun, not_run, not_put, not_finished}
 use Rattle.kt_sched.specs.RecordOrder.{recorded as record_order}
-use Rattle.kt_cli.specs.Reports.{run_shown as run_shown_junit, no_run as no_junit, no_heads as unread_heads, no_outline as unread_outline, no_outputs as cut_outputs, no_memory as cut_junit, no_output as no_junit_output}
+use Rattle.kt_cli.specs.Reports.{no_last_run, none_at_all, not_this_one, run_shown as run_shown_junit, no_run as no_junit, no_head as unread_head, no_last as unread_last, no_outline as unread_outline, no_outputs as cut_outputs, no_memory as cut_junit, no_output as no_junit_output}
 use Rattle.kt_cli.specs.SoundStores.{Adds, none, one_run, OnlyFails, entries_put}
 use Rattle.kt_cli.specs.Testing.{recorded}
 use Rattle.kt_store.specs.declared.result_store.StoreSpec as keeping
@@ -121,43 +121,50 @@ outputs_change number = asked_change (λ (e : Entry). Outputs number e.position 
 outputs_done : (number : ℕ) (shown : List Entry) (after : List StoreCall) → AllByRecursion OnlyFails after → AllByRecursion OnlyFails (asked_outputs number shown ++ after)
 outputs_done number = asked_done (λ (e : Entry). Outputs number e.position (Ok (outputs_of e))) (λ e runs. refl) (λ e. tt)
 
+-- no run was found
+missing_coming : (number : Option ℕ) (runs : List Run) (calls : List StoreCall) (line : List ℕ) → Misses number calls line → Coming runs calls
+missing_coming number runs calls line no_last_run = record { only_fails = (tt, tt); adds = none refl }
+missing_coming number runs calls line (none_at_all wanted) = record { only_fails = (tt, (tt, tt)); adds = none refl }
+missing_coming number runs calls line (not_this_one wanted last) = record { only_fails = (tt, (tt, tt)); adds = none refl }
+
 module _ (number : Option ℕ) (runs : List Run) (h : AreNumbered 1 runs) where
-  -- a report that read the run, and then its properties or outputs, changes nothing
-  read_coming : (heads : List RunHead) (head : RunHead) (outline : List Entry) (asked : List StoreCall) → AllByRecursion OnlyFails (asked ++ []) → changed asked runs ≡ runs
-      → Coming runs (Heads (Ok heads) ∷ Outline head.number (Ok outline) ∷ asked)
-  read_coming heads head outline asked all same = record { only_fails = (tt, (tt, subst (λ (cs : List StoreCall). AllByRecursion OnlyFails cs) (append-nil asked) all)); adds = none same }
+  -- a run was read, and then what it holds
+  read_coming : (head : RunHead) (outline : List Entry) (asked : List StoreCall) → AllByRecursion OnlyFails (asked ++ []) → changed asked runs ≡ runs
+      → Coming runs (Head number (Ok (Some head)) ∷ Outline head.number (Ok outline) ∷ asked)
+  read_coming head outline asked all same = record { only_fails = (tt, (tt, subst (λ (cs : List StoreCall). AllByRecursion OnlyFails cs) (append-nil asked) all)); adds = none same }
 
-  outputs_coming : (heads : List RunHead) (head : RunHead) (outline shown : List Entry) → Coming runs (Heads (Ok heads) ∷ Outline head.number (Ok outline) ∷ asked_outputs head.number shown)
-  outputs_coming heads head outline shown = read_coming heads head outline (asked_outputs head.number shown) (outputs_done head.number shown [] tt) (outputs_change head.number shown runs)
+  outputs_coming : (head : RunHead) (outline shown : List Entry) → Coming runs (Head number (Ok (Some head)) ∷ Outline head.number (Ok outline) ∷ asked_outputs head.number shown)
+  outputs_coming head outline shown = read_coming head outline (asked_outputs head.number shown) (outputs_done head.number shown [] tt) (outputs_change head.number shown runs)
 
-  pairs_coming : (heads : List RunHead) (head : RunHead) (outline shown : List Entry) → Coming runs (Heads (Ok heads) ∷ Outline head.number (Ok outline) ∷ asked_pairs head.number shown)
-  pairs_coming heads head outline shown = read_coming heads head outline (asked_pairs head.number shown) (pairs_done head.number shown [] tt) (pairs_change head.number shown runs)
+  pairs_coming : (head : RunHead) (outline shown : List Entry) → Coming runs (Head number (Ok (Some head)) ∷ Outline head.number (Ok outline) ∷ asked_pairs head.number shown)
+  pairs_coming head outline shown = read_coming head outline (asked_pairs head.number shown) (pairs_done head.number shown [] tt) (pairs_change head.number shown runs)
 
   unread_coming : (calls : List StoreCall) (bytes : List ℕ) (exit : ℕ) → Unread number calls bytes exit → Agree runs calls → Coming runs calls
-  unread_coming calls bytes exit (unread_heads why) a = record { only_fails = (inl a.0, tt); adds = none refl }
-  unread_coming calls bytes exit (unread_outline heads head why e) a = record { only_fails = (tt, (inl (entries_there number runs heads head why h a.0 e a.1.0), tt)); adds = none refl }
+  unread_coming calls bytes exit (unread_head why) a = record { only_fails = (inl a.0, tt); adds = none refl }
+  unread_coming calls bytes exit (unread_last wanted why e) a = record { only_fails = (tt, (inl a.1.0, tt)); adds = none refl }
+  unread_coming calls bytes exit (unread_outline head why e) a = record { only_fails = (tt, (inl (entries_there number runs head why h a.0 a.1.0), tt)); adds = none refl }
 
   reported_coming : (kinds : List Kind) (verbose : Bool) (calls : List StoreCall) (bytes : List ℕ) (exit : ℕ) → Reported number kinds verbose calls bytes exit → Coming runs calls
-  reported_coming kinds verbose calls bytes exit (run_shown heads head outline date e d) = pairs_coming heads head outline []
-  reported_coming kinds verbose calls bytes exit (pairs_shown heads head outline shown date e d same) = pairs_coming heads head outline shown
-  reported_coming kinds verbose calls bytes exit (no_run v heads e) = record { only_fails = (tt, tt); adds = none refl }
+  reported_coming kinds verbose calls bytes exit (run_shown head outline date e d) = pairs_coming head outline []
+  reported_coming kinds verbose calls bytes exit (pairs_shown head outline shown date e d same) = pairs_coming head outline shown
+  reported_coming kinds verbose calls bytes exit (no_run v cs line e) = missing_coming number runs calls line e
 
   text_coming : (kinds : List Kind) (failed : Bool) (calls : List StoreCall) (bytes : List ℕ) (exit : ℕ) → TextCut number kinds failed calls bytes exit → Agree runs calls → Coming runs calls
-  text_coming kinds failed calls bytes exit (no_output heads head outline shown rest date f e d same) a = pairs_coming heads head outline shown
-  text_coming kinds failed calls bytes exit (no_pairs heads head outline shown rest last why e same) a =
+  text_coming kinds failed calls bytes exit (no_output head outline shown rest date f e d same) a = pairs_coming head outline shown
+  text_coming kinds failed calls bytes exit (no_pairs head outline shown rest last why e same) a =
       let before = asked_pairs head.number shown in
       let end = Pairs head.number last.position (Err why) ∷ [] in
       record { only_fails = (tt, (tt, pairs_done head.number shown end (inl (agree_later before end runs a.1.1).0, tt))); adds = none (changed-append before end runs ∙ pairs_change head.number shown runs) }
 
   junit_coming : (calls : List StoreCall) (bytes : List ℕ) (exit : ℕ) → ReportedJunit number calls bytes exit → Coming runs calls
-  junit_coming calls bytes exit (run_shown_junit heads head outline shown e same) = outputs_coming heads head outline shown
-  junit_coming calls bytes exit (no_junit heads e) = record { only_fails = (tt, tt); adds = none refl }
+  junit_coming calls bytes exit (run_shown_junit head outline shown e same) = outputs_coming head outline shown
+  junit_coming calls bytes exit (no_junit cs line e) = missing_coming number runs calls line e
 
   junit_or_unread : (f : Bool) (calls : List StoreCall) (bytes : List ℕ) (exit : ℕ) → JunitOrUnread number f calls bytes exit → Agree runs calls → Coming runs calls
   junit_or_unread f calls bytes exit (inl u) a = unread_coming calls bytes exit u a
-  junit_or_unread f calls bytes exit (inr (cut_junit heads head outline shown rest front back next e same s)) a = outputs_coming heads head outline shown
-  junit_or_unread f calls bytes exit (inr (no_junit_output heads head outline shown rest g e same)) a = outputs_coming heads head outline shown
-  junit_or_unread f calls bytes exit (inr (cut_outputs heads head outline shown rest last why e same)) a =
+  junit_or_unread f calls bytes exit (inr (cut_junit head outline shown rest front back next e same s)) a = outputs_coming head outline shown
+  junit_or_unread f calls bytes exit (inr (no_junit_output head outline shown rest g e same)) a = outputs_coming head outline shown
+  junit_or_unread f calls bytes exit (inr (cut_outputs head outline shown rest last why e same)) a =
       let end = Outputs head.number last.position (Err why) ∷ [] in
       let before = asked_outputs head.number shown in
       let r = a.1.0.0 in

@@ -1,6 +1,6 @@
 -- Calls of a store, one after the other.
 use Rattle.std.proofs.Common.{Ok, ◌≡◌, List, [], ◌∷◌, ◌++◌, refl, sym, subst}
-use Rattle.kt_cli.proofs.Common.{Run, StoreCall, Began, Put, Finished, Heads, Outline, Outputs, Pairs, chain-append, Outlasts, Serves, changed_by, beside_by, changed, beside, Agree, Stored}
+use Rattle.kt_cli.proofs.Common.{Run, StoreCall, Began, Put, Finished, Head, Outline, Outputs, Pairs, chain-append, Outlasts, Serves, changed_by, beside_by, changed, beside, Agree, Stored}
 use Rattle.kt_store.specs.declared.result_store.StoreSpec as keeping
 
 -- calls and then others change the runs one after the other
@@ -28,7 +28,7 @@ crash_by : {R : Type 0} (Leaves : R → List (List Run) → Type 0) (call : Stor
 crash_by Leaves (Began total moment (Ok number)) runs may a b h l = h may
 crash_by Leaves (Put number e (Ok done)) runs may a b h l = h may
 crash_by Leaves (Finished number (Ok done)) runs may a b h l = h may
-crash_by Leaves (Heads answer) runs may a b h l = h (runs ∷ may) l
+crash_by Leaves (Head number answer) runs may a b h l = h (runs ∷ may) l
 crash_by Leaves (Outline number answer) runs may a b h l = h (runs ∷ may) l
 crash_by Leaves (Pairs number position answer) runs may a b h l = h (runs ∷ may) l
 crash_by Leaves (Outputs number position answer) runs may a b h l = h (runs ∷ may) l

@@ -14,9 +14,9 @@ pub use Rattle.kt_report.specs.Texts.{by_section, chosen_of}
 pub use Rattle.kt_sched.specs.Children.{IsIdle}
 pub use Rattle.kt_sched.specs.Plan.{IsPlan, IsWidth}
 pub use Rattle.kt_store.specs.Ask.{IsStoreFault}
-pub use Rattle.kt_store.specs.Heads.{head_of, outlined, outputs_of}
+pub use Rattle.kt_store.specs.Heads.{IsNumbered, head_of, outlined, outputs_of}
 pub use Rattle.kt_store.specs.Runs.{AreNumbered, AreOrdered, has_position, insert_at}
-pub use Rattle.kt_store.specs.StoreCalls.{Began, Finished, Heads, Outline, Outputs, Pairs, Put, seen_as}
+pub use Rattle.kt_store.specs.StoreCalls.{Began, Finished, Head, Outline, Outputs, Pairs, Put, seen_as}
 pub use Rattle.kt_suite.specs.Selecting.{most_items}
 pub use Rattle.kt_args.specs.Commands.{cases_of}
 pub use Rattle.kt_args.specs.declared.command.Command.{Command}
@@ -45,7 +45,7 @@ pub use Rattle.kt_cli.specs.Pages.{Printed}
 pub use Rattle.kt_cli.specs.Performing.{CarriedOut, WithResults, OverProcesses, Flushed, IsMade, NoDriver, NoRoot, OnDriver, Rejected, access_of, program, state}
 pub use Rattle.kt_cli.specs.Places.{source_directory}
 pub use Rattle.kt_cli.specs.Refused.{Refused, command_exit, command_text, driver_line, failure_exit}
-pub use Rattle.kt_cli.specs.Reports.{Reported, ReportedJunit, chosen}
+pub use Rattle.kt_cli.specs.Reports.{Reported, ReportedJunit}
 pub use Rattle.kt_cli.specs.Scenes.{Scene, scene}
 pub use Rattle.kt_cli.specs.Sequences.{DidAll}
 pub use Rattle.kt_cli.specs.SoundStores.{Left}

@@ -1,7 +1,7 @@
 -- Effect of a command on the runs of a sound store.
 use Rattle.std.specs.Prelude.{ℕ, suc, Bool, true, List, [], ◌∷◌, ◌++◌, ◌≡◌, ◌⊎◌, Option, Some, None, IfSome, Ok, Err, length}
 use Rattle.std.specs.List.{AllByRecursion}
-use Rattle.kt_cli.specs.Types.{Began, Command, Entry, Finished, Heads, IsStoreFault, Outline, Outputs, Pairs, Put, Run, StoreCall, StoreFault}
+use Rattle.kt_cli.specs.Types.{Began, Command, Entry, Finished, Head, IsStoreFault, Outline, Outputs, Pairs, Put, Run, StoreCall, StoreFault}
 use Rattle.kt_store.specs.declared.result_store.StoreSpec as keeping
 use Rattle.kt_store.specs.declared.store_fault.StoreFault.TheVariants.{StoreFull}
 use Rattle.kt_cli.specs.Meaning.{CommandResult}
@@ -24,7 +24,7 @@ abbrev pub refusal_of : StoreCall → Option StoreFault
 refusal_of (Began total moment (Err fault)) = Some fault
 refusal_of (Put number e (Err fault)) = Some fault
 refusal_of (Finished number (Err fault)) = Some fault
-refusal_of (Heads (Err fault)) = Some fault
+refusal_of (Head number (Err fault)) = Some fault
 refusal_of (Outline number (Err fault)) = Some fault
 refusal_of (Pairs number position (Err fault)) = Some fault
 refusal_of (Outputs number position (Err fault)) = Some fault

@@ -1,6 +1,6 @@
 -- Calls of a store, and their effect on its runs.
 use Rattle.std.specs.Prelude.{ℕ, List, [], ◌∷◌, ◌++◌, ⊤, Ok, Err}
-use Rattle.kt_cli.specs.Types.{Agrees, Began, Chain, Entry, Finished, Heads, Outline, Outputs, Pairs, Put, Run, StoreCall, changed_by, with_entry}
+use Rattle.kt_cli.specs.Types.{Agrees, Began, Chain, Entry, Finished, Head, Outline, Outputs, Pairs, Put, Run, StoreCall, changed_by, with_entry}
 use Rattle.kt_store.specs.Runs.{new_run, insert_at, finish}
 use Rattle.kt_store.specs.declared.result_store.StoreSpec as keeping
 
@@ -27,7 +27,7 @@ beside_by (Put number e (Ok done)) runs may = []
 beside_by (Put number e (Err fault)) runs may = with_entry number e runs ∷ may
 beside_by (Finished number (Ok done)) runs may = []
 beside_by (Finished number (Err fault)) runs may = finish number runs ∷ may
-beside_by (Heads answer) runs may = may
+beside_by (Head number answer) runs may = may
 beside_by (Outline number answer) runs may = may
 beside_by (Pairs number position answer) runs may = may
 beside_by (Outputs number position answer) runs may = may

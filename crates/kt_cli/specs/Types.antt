@@ -31,7 +31,7 @@ pub use Rattle.kt_sched.specs.declared.totals.Totals.{Totals}
 pub use Rattle.kt_store.specs.Ask.{IsStoreFault}
 pub use Rattle.kt_store.specs.Runs.{AreNumbered, with_entry}
 pub use Rattle.kt_store.specs.Serving.{Agrees, changed_by}
-pub use Rattle.kt_store.specs.StoreCalls.{Began, Finished, Heads, Outline, Outputs, Pairs, Put, StoreCall}
+pub use Rattle.kt_store.specs.StoreCalls.{Began, Finished, Head, Outline, Outputs, Pairs, Put, StoreCall}
 pub use Rattle.kt_store.specs.declared.access.Access.{Access}
 pub use Rattle.kt_store.specs.declared.result_store.RunHead.{RunHead}
 pub use Rattle.kt_store.specs.declared.store_fault.StoreFault.{StoreFault}

@@ -1,5 +1,5 @@
 -- The names that most proofs of this crate cite, passed on from one place. Declares nothing.
-pub use Rattle.std.proofs.Common.{Bool, Equal, Err, Greater, IfErr, IfOk, IfSome, IsPermutation, IsSome, IsTrue, Less, List, None, Ok, Option, Ordering, Result, Some, [], ap, append-nil, ap₂, arith, codes, cond, drop, false, filter, get_or, inl, inr, is_err, length, length-append, map, nat_lt, ne_eqb, not, pos, refl, reverse, rules, slice_get, subst, subst₂, suc, sym, take, true, true≢false, w64, zero, ℕ, ℤ, ◌%◌, ◌&&◌, ◌++◌, ◌+◌, ◌-◌, ◌<◌, ◌==◌, ◌∙◌, ◌∷◌, ◌≡◌, ◌≢◌, ◌≤◌, ◌⊎◌}
+pub use Rattle.std.proofs.Common.{Bool, Equal, Err, Greater, IfErr, IfOk, IfSome, IsPermutation, IsSome, IsTrue, Less, List, None, Ok, Option, Ordering, Result, Some, [], ap, append-nil, ap₂, arith, codes, cond, drop, false, filter, get_or, inl, inr, is_err, length, length-append, map, nat_lt, ne_eqb, not, option_map, pos, refl, reverse, rules, slice_get, subst, subst₂, suc, sym, take, true, true≢false, w64, zero, ℕ, ℤ, ◌%◌, ◌&&◌, ◌++◌, ◌+◌, ◌-◌, ◌<◌, ◌==◌, ◌∙◌, ◌∷◌, ◌≡◌, ◌≢◌, ◌≤◌, ◌⊎◌}
 pub use Rattle.std.proofs.Math.Logic.{∥∥₁_elim, ∥∥₁_map}
 pub use Rattle.std.proofs.lemmas.Bool.{and_parts, cases_eq, cond-true, eq-eqb, not-true, or_right}
 pub use Rattle.std.proofs.lemmas.Bool.Decides.{nat_tests}
@@ -87,5 +87,5 @@ pub use Rattle.kt_dbfile.specs.Inner.Cursors.{IsAt, Places, Shows, begins}
 pub use Rattle.kt_dbfile.specs.Inner.Edits.{Fills, IsSettledStore, begun_row}
 pub use Rattle.kt_dbfile.specs.Inner.Known.{HasRuns, by_trees, readings, runs_file}
 pub use Rattle.kt_dbfile.specs.Inner.NewFiles.{HoldsEmpty, IsNewNameOf}
-pub use Rattle.kt_dbfile.specs.Common.{AreNamed, AreNumbered, AreOrdered, AreRuns, AreWide, Began, CanAdd, CountsUnder, Ended, EndsIn, Finished, HasCommitted, Heads, HoldsCommit, HoldsRuns, IsComplete, IsPair, IsStoreFault, IsTaken, IsTakenOf, Keeps, KeepsOne, ListsRuns, Looks, LooksThrough, Obeys, Outline, Outputs, Pairs, Put, PutsRows, Serves, ShowsUnder, StandAt, StandsFor, Wrote, done_row, entries_of, entry_row, has_position, head_of, in_columns, outlined, outputs_of, pair_row, pair_rows_from, places_2, run_at, run_row, schema_2, seen_as, unnumbered}
+pub use Rattle.kt_dbfile.specs.Common.{AreNamed, AreNumbered, AreOrdered, AreRuns, AreWide, Began, CanAdd, CountsUnder, Ended, EndsIn, Finished, HasCommitted, Head, HoldsCommit, HoldsRuns, IsComplete, IsPair, IsStoreFault, IsTaken, IsTakenOf, Keeps, KeepsOne, ListsRuns, Looks, LooksThrough, Obeys, Outline, Outputs, Pairs, Put, PutsRows, Serves, ShowsUnder, StandAt, StandsFor, Wrote, done_row, entries_of, entry_row, has_position, head_of, in_columns, outlined, outputs_of, pair_row, pair_rows_from, places_2, run_at, run_row, schema_2, seen_as, unnumbered}
 pub use Rattle.kt_dbfile.specs.Inner.Opening.{OpensOver}

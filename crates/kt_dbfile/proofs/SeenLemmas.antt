@@ -34,12 +34,6 @@ seen_entries n es shown h = seen entry_places entries_leave _ shown h ∙ map-ma
 pub seen_pairs : (n p : ℕ) (vs : List Variable) (shown : List Row) → Shows pair_places (pair_rows_from n p 0 vs) shown → shown ≡ map pair_columns vs
 seen_pairs n p vs shown h = seen pair_places pairs_leave _ shown h ∙ all_columns (λ r. in_columns pair_places (back r)) n p (λ k v. refl) 0 vs
 
-abbrev pub head_places : List ℕ
-head_places = 0 ∷ 2 ∷ 3 ∷ 4 ∷ []
-
-pub seen_heads : (runs : List Run) (table shown : List Row) → table ≡ map run_row runs → shown ≡ map (in_columns head_places) table → shown ≡ map head_columns runs
-seen_heads runs table shown are is = is ∙ ap (map (in_columns head_places)) are ∙ map-map (in_columns head_places) run_row runs
-
 -- the rows of runs, where their table stands
 pub rows_of_runs : (places : Places) (runs : List Run) (trees : Trees) → Keeps runs trees → places ≡ places_2 → trees places.runs.tree ≡ map run_row runs
 rows_of_runs places runs trees keeps is = ap (λ (p : Places). trees p.runs.tree) is ∙ ap (λ (t : Trees). t 2) keeps.2 ∙ keeps.3.runs_are

@@ -2,8 +2,8 @@
 //! has the entries that it must have. So a page that the disk lost, or of an earlier moment, seldom hides a result,
 //! whatever the size of the file.
 
-ghost use Rattle.std.specs.Prelude.{◌≡◌, ◌<◌, ◌≤◌, [], ◌∷◌, length, map, true, IfOk, OnOk};
-ghost use Rattle.kt_dbfile.specs.Common.{AllByRecursion, Entry as Stored, IsAscending, Looks, LooksThrough, Run, ends_with, head_of, last_run, outlined};
+ghost use Rattle.std.specs.Prelude.{◌≡◌, ◌<◌, ◌≤◌, [], ◌∷◌, Some, length, map, option_map, true, IfOk, OnOk};
+ghost use Rattle.kt_dbfile.specs.Common.{AllByRecursion, Entry as Stored, IsAscending, Looks, LooksThrough, OnTrees, Run, StandAt, ends_with, head_of, last_run, outlined, run_at};
 ghost use Rattle.kt_store.specs.Runs.{IsRun};
 ghost use Rattle.sqlite_trees.specs.View.{IsClean};
 
@@ -144,6 +144,27 @@ pub(crate) fn check_ends<S: Store>(
     check_last_pair(store, alloc, places)
 }
 
+/// Returns the head of a run that exists, by its number. Fails if the run's row has another number.
+pub(crate) fn present_head<S: Store>(
+    store: &mut S,
+    alloc: Global,
+    places: Places,
+    number: u64,
+) -> Result<RunHead, StoreFailure>
+    ensures head { StandAt places (S.Store.view store.old) → OnTrees S.Store store.old store.new
+        (λ runs. IfOk result (λ head. Some head ≡ option_map head_of (run_at runs number))) }
+    ensures numbered { IfOk result (λ head. head.number ≡ number) }
+    ensures looks { Looks S.Store store.old store.new }
+{
+    sure(store.shape(places.runs.tree) == Shape::Table)?;
+    let mut row = Row::new(alloc);
+    let key = key(number);
+    sure(store.get(places.runs.tree, key as i64, &mut row)?)?;
+    let head = stored_head(alloc, &row)?;
+    sure(head.number == number)?;
+    Ok(head)
+}
+
 /// Returns the head of the last run, by its number.
 fn last_head<S: Store>(
     store: &mut S,
@@ -156,10 +177,7 @@ fn last_head<S: Store>(
     if last == 0 {
         return Ok(NO_RUN);
     }
-    sure(store.shape(places.runs.tree) == Shape::Table)?;
-    let mut row = Row::new(alloc);
-    sure(store.get(places.runs.tree, i64::from(key(last)), &mut row)?)?;
-    stored_head(alloc, &row)
+    present_head(store, alloc, places, last)
 }
 
 /// Checks that the tables end with the last run, by its number. It is called before another run begins.

@@ -33,7 +33,7 @@ use sqlite_value::order::is_same;
 use sqlite_value::row::Row;
 use sqlite_value::value::ValueRef;
 use sqlite_wal::{PageSize, probe_first_page, probe_page_size};
-use std::alloc::{AllocFailed, Global};
+use std::alloc::Global;
 use std::hash::{BuildHasher, RandomState};
 
 /// Bytes 20 to 23 of a database whose pages end in sums of their bytes.
@@ -105,11 +105,11 @@ fn unopened<D: Disk + Drop>(
 {
     let pager = match Pager::new(alloc, files, size, options) {
         Ok(pager) => pager,
-        Err(AllocFailed { value }) => return Err(value),
+        Err(failed) => return Err(failed.value),
     };
     match Unopened::with_sums(alloc, pager, &[], false) {
         Ok(fresh) => Ok(fresh),
-        Err(AllocFailed { value }) => Err(value.close()),
+        Err(failed) => Err(failed.value.close()),
     }
 }
 

@@ -15,7 +15,7 @@ use crate::files::{NotOpened, connect, open_both};
 use crate::new_file::prepare;
 use crate::opening::{check_number, close_store, known_over, options};
 use crate::places::Places;
-use crate::seeks::{find_outputs, find_pairs, heads, outline};
+use crate::seeks::{find_outputs, find_pairs, head, outline};
 use crate::trusted_contents::TrustedContents;
 use kt_base::{Entry, NoMemory, Text, Variables};
 use kt_store::attach::lives;
@@ -419,8 +419,8 @@ impl<S: Alter> ResultStore for RunsFile<S> {
         committed(&mut self.store, written)
     }
 
-    fn runs(&mut self) -> Result<Vec<RunHead>, StoreFault> {
-        heads(&mut self.store, self.alloc, self.places)
+    fn head(&mut self, number: Option<u64>) -> Result<Option<RunHead>, StoreFault> {
+        head(&mut self.store, self.alloc, self.places, number)
     }
 
     fn outline(&mut self, run: u64) -> Result<Vec<Entry>, StoreFault> {

@@ -1,20 +1,17 @@
-ghost use Rattle.std.specs.Prelude.{◌≡◌, ◌⊎◌, ◌<◌, ◌≤◌, ◌^◌, ℕ, Some, None, drop, length, map, IfOk, IfErr, OnOk};
-ghost use Rattle.kt_dbfile.specs.Common.{CountFrom, OnTrees, IsStoreFault, StandAt, Looks, LooksThrough, Run, AreRuns, Blob, Entry, column, entry_row, key_before, last_run, outputs_of, run_row, head_of, Serves, Heads, Outline, Outputs, Pairs, entries_of, outlined, run_at, seen_as};
+ghost use Rattle.std.specs.Prelude.{◌≡◌, ◌⊎◌, ◌<◌, ◌≤◌, ◌^◌, ℕ, Some, None, drop, length, map, IfOk, IfErr, IfSome, OnOk};
+ghost use Rattle.kt_dbfile.specs.Common.{IsNumbered, OnTrees, IsStoreFault, StandAt, Looks, LooksThrough, Run, AreRuns, Blob, Entry, column, entry_row, key_before, last_run, outputs_of, run_row, head_of, Serves, Head, Outline, Outputs, Pairs, entries_of, outlined, run_at, seen_as};
 ghost use Rattle.kt_dbfile.specs.Inner.Known.{readings};
 ghost use Rattle.sqlite_trees.specs.View.{IsClean};
 
-use crate::ends::{NO_RUN, check_ends, check_entries};
+use crate::ends::{check_entries, check_last, present_head};
 use crate::places::{Place, Places};
 use crate::tables::{entries_at, entry_place, last_row, pairs_at, stored_head};
-use crate::trees::{all_shown, number_of, number_row, row_behind, rows_after, stored_bytes};
+use crate::trees::{number_of, number_row, row_behind, rows_after, stored_bytes};
 use kt_base::{Entry, NoMemory, Output, Variables};
-use kt_store::heads::heads_in;
 use kt_store::lookup::key;
 use kt_store::outlines::{outline_in, pairs_in};
 use kt_store::store_fault::{StoreFailure, sure};
 use kt_store::{CaseOutputs, RunHead, StoreFault};
-use sqlite_exec::check::all_rows;
-use sqlite_exec::work::Workspace;
 use sqlite_trees::store::{Shape, Store};
 use sqlite_value::row;
 use std::alloc::Global;
@@ -27,28 +24,6 @@ pub(crate) const PLACES_2: Places = Places {
     props: Place { at: 3, tree: 5 },
     pair_keys: 6,
 };
-
-/// Reads the heads of all runs, by number.
-pub(crate) fn heads<S: Store>(
-    store: &mut S,
-    alloc: Global,
-    places: Places,
-) -> Result<Vec<RunHead>, StoreFault>
-    requires { StandAt places (S.Store.view store.old) }
-    ensures served { Serves (readings S.Store) (Heads (seen_as (λ heads. heads.items) result))
-        store.old store.new }
-    // Also of a damaged file: no run has the number of another.
-    ensures numbered { IfOk result (λ heads. CountFrom 1 heads.items) }
-    ensures failed { IfErr result IsStoreFault }
-    ensures looks { Looks S.Store store.old store.new }
-{
-    let stored = all_rows(store, &mut Workspace::new(alloc), places.runs.tree)?;
-    let rows = all_shown(alloc, &stored, &[0, 2, 3, 4])?;
-    let found = heads_in(alloc, &rows)?;
-    let last = found.last().copied().unwrap_or(NO_RUN);
-    check_ends(store, alloc, places, last)?;
-    Ok(found)
-}
 
 /// Returns the number of the last run, or 0 if there is none.
 pub(crate) fn last_number<S: Store>(
@@ -68,6 +43,31 @@ pub(crate) fn last_number<S: Store>(
     };
     let number = number_of(&row)?;
     Ok(number)
+}
+
+/// Returns the head of a run, or of the last run if `number` is `None`. Returns `None` if there is no such run. The file is
+/// damaged if it lacks a run that is not past the last one.
+pub(crate) fn head<S: Store>(
+    store: &mut S,
+    alloc: Global,
+    places: Places,
+    number: Option<u64>,
+) -> Result<Option<RunHead>, StoreFault>
+    requires { StandAt places (S.Store.view store.old) }
+    ensures served { Serves (readings S.Store) (Head number result) store.old store.new }
+    // Even in a damaged file no run has the number of another.
+    ensures numbered { IfOk result (λ found. IfSome found (IsNumbered number)) }
+    ensures failed { IfErr result IsStoreFault }
+    ensures looks { Looks S.Store store.old store.new }
+{
+    let last = last_number(store, alloc, places)?;
+    check_last(store, alloc, places, last)?;
+    let number = number.unwrap_or(last);
+    if number == 0 || number > last {
+        return Ok(None);
+    }
+    let head = present_head(store, alloc, places, number)?;
+    Ok(Some(head))
 }
 
 /// Returns the row of a run. `NoRun` if no run has the number.

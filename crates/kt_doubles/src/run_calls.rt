@@ -106,6 +106,14 @@ fn add_whole<R: ResultStore>(
     }
 }
 
+/// Appends the head of a run.
+fn add_head(heads: &mut Vec<RunHead>, head: RunHead) -> Result<(), StoreFault> {
+    match heads.push(head) {
+        Ok(()) => Ok(()),
+        Err(refusal) => Err(StoreFault::from(NoMemory::from(refusal))),
+    }
+}
+
 impl<R: ResultStore> RunCalls for InParts<'_, R> {
     fn begin(&mut self, total: u32, moment: u64) -> Result<u64, StoreFault> {
         self.store.begin(total, moment)
@@ -120,7 +128,16 @@ impl<R: ResultStore> RunCalls for InParts<'_, R> {
     }
 
     fn runs(&mut self) -> Result<Vec<RunHead>, StoreFault> {
-        self.store.runs()
+        let mut heads = Vec::new(self.alloc);
+        let Some(last) = self.store.head(None)? else {
+            return Ok(heads);
+        };
+        for number in 1..=last.number {
+            if let Some(head) = self.store.head(Some(number))? {
+                add_head(&mut heads, head)?;
+            }
+        }
+        Ok(heads)
     }
 
     fn entries(&mut self, run: u64) -> Result<Vec<Entry>, StoreFault> {

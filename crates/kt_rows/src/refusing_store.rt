@@ -63,9 +63,9 @@ impl ResultStore for RefusingStore {
         self.runs.finish(run)
     }
 
-    fn runs(&mut self) -> Result<Vec<RunHead>, StoreFault> {
+    fn head(&mut self, number: Option<u64>) -> Result<Option<RunHead>, StoreFault> {
         self.refusals.ask()?;
-        self.runs.runs()
+        self.runs.head(number)
     }
 
     fn outline(&mut self, run: u64) -> Result<Vec<Entry>, StoreFault> {

@@ -1,5 +1,5 @@
 -- The names that most proofs of this crate cite, passed on from one place. Declares nothing.
-pub use Rattle.std.proofs.Common.{Bool, Equal, Err, Greater, IfErr, IfOk, IsErrAnd, IsPermutation, IsTrue, Less, List, MatchBool, None, Ok, OnErr, OnOk, Option, Ordering, Result, SFits, Some, [], ap, append-nil, ap₂, arith, codes, cond, drop, drop-cons, false, filter, fold, get_or, if◌then◌else◌, inl, inr, is_some, length, length-append, map, nat_le, nat_lt, negsuc, not, option_map, pos, refl, rules, slice_get, subst, subst₂, suc, sym, take, true, unsigned_abs, unwrap_or, w64, zero, ℕ, ℤ, ◌&&◌, ◌++◌, ◌+ℤ◌, ◌+◌, ◌/◌, ◌<◌, ◌==◌, ◌^◌, ◌||◌, ◌∙◌, ◌∷◌, ◌≡◌, ◌≢◌, ◌≤◌, ◌⊎◌}
+pub use Rattle.std.proofs.Common.{Bool, Equal, Err, Greater, IfErr, IfOk, IfSome, IsErrAnd, IsPermutation, IsTrue, Less, List, MatchBool, None, Ok, OnErr, OnOk, Option, Ordering, Result, SFits, Some, [], ap, append-nil, ap₂, arith, codes, cond, drop, drop-cons, false, filter, fold, get_or, if◌then◌else◌, inl, inr, is_some, length, length-append, map, nat_le, nat_lt, negsuc, not, option_map, pos, refl, rules, slice_get, subst, subst₂, suc, sym, take, true, unsigned_abs, unwrap_or, w64, zero, ℕ, ℤ, ◌&&◌, ◌++◌, ◌+ℤ◌, ◌+◌, ◌/◌, ◌<◌, ◌==◌, ◌^◌, ◌||◌, ◌∙◌, ◌∷◌, ◌≡◌, ◌≢◌, ◌≤◌, ◌⊎◌}
 pub use Rattle.std.proofs.lemmas.Bool.{and_parts, both_ways, cases_Bool, cases_lt, not-true, or_left, or_parts, or_right}
 pub use Rattle.std.proofs.lemmas.Bool.Decides.{nat_tests}
 pub use Rattle.std.proofs.lemmas.Int.{ints, to_z-of_z}
@@ -72,5 +72,5 @@ pub use Rattle.kt_store.specs.Serving.{Agrees, Outlasts, changed_by}
 pub use Rattle.kt_store.specs.Stands.{HasTables, IsSettledWhileOpen, IsEmpty, IsSettled, IsStore, SaysNumber, StandsInOld}
 pub use Rattle.kt_store.specs.StoreCalls.{StoreCall}
 pub use Rattle.kt_store.specs.Tables.{begin_text, beside_meta, create_entries, create_meta, create_props, create_runs, entries, entries_1, finish_text, index_of, mark_text, meta, meta_1, meta_text, no_schema, props, props_1, put_text, raise_text, run_text, runs, runs_1, schema_1, there_text}
-pub use Rattle.kt_store.specs.Common.{AreRuns, AreWide, Asked, AsksNumber, Began, Blank, CanAdd, Changes, Commits, CommitsLater, CommitsNothing, Executed, Finished, HasColumns, HasNumber, IsBareIfPassed, IsComplete, IsEntry, IsNoMemory, IsOf, IsOurs, IsPair, IsStoreFault, IsUnderstood, Keeps, KeepsOne, KeepsRuns, Leaves, Looked, MayChange, MayCommit, MayExecute, MayShow, Older, Put, Refuses, Rests, RunsOne, SaysSchema, Serves, ShowsOf, StandsFor, Statement, TakesTables, Undoes, bound, entries_of, entries_text, entry_at, entry_columns, entry_statements, finish, finish_refusal, flag, has_position, head_columns, head_of, kind_code, new_run, outlined, pair_columns, pair_statement, pair_statements, pairs_of, pairs_text, plain_statements, put_refusal, results, run_at, runs_text, schema_2, whole_columns, with_entry}
+pub use Rattle.kt_store.specs.Common.{AreRuns, AreWide, Asked, AsksNumber, Began, Blank, CanAdd, Changes, Commits, CommitsLater, CommitsNothing, Executed, Finished, HasColumns, HasNumber, Head, IsBareIfPassed, IsComplete, IsEntry, IsNoMemory, IsNumbered, IsOf, IsOurs, IsPair, IsStoreFault, IsUnderstood, Keeps, KeepsOne, KeepsRuns, Leaves, Looked, MayChange, MayCommit, MayExecute, MayShow, Older, Put, Refuses, Rests, Reads, RunsOne, SaysSchema, Serves, ShowsOf, StandsFor, Statement, TakesTables, Undoes, bound, entries_of, entries_text, entry_at, entry_columns, entry_statements, finish, finish_refusal, flag, has_position, head_at, head_columns, head_of, kind_code, new_run, outlined, pair_columns, pair_statement, pair_statements, pairs_of, pairs_text, plain_statements, put_refusal, results, run_at, runs_text, schema_2, whole_columns, with_entry}
 pub use Rattle.kt_store.specs.Types.{AllByRecursion, BadPosition, CommitsShowing, Database, Entry, Executes, ExecutesInside, Ghosts, HasCleanDisk, Held, Incomplete, Int, IsAscending, IsDatabase, IsLive, IsRolledBack, IsUnchanged, KeepsCommit, NoMemory, Null, RepeatedPosition, Row, Run, RunClosed, RunHead, State, StoreFault, Survives, Text, Trees, Variable, column, find, has_rowid, last_run, rowid, state}

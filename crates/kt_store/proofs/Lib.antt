@@ -26,3 +26,4 @@ pub mod PairsLemmas
 pub mod SoundEntries
 pub mod CommitLemmas
 pub mod AttachLemmas
+pub mod HeadLemmas

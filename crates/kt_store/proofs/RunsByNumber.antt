@@ -1,5 +1,5 @@
 -- Runs by their numbers.
-use Rattle.kt_store.proofs.Common.{AllByRecursion, AreNumbered, AreRuns, Bool, Entry, IsRun, List, Row, Run, Some, [], all-slice_get, ap, arith, cond, false, finish, insert_at, map, nat_tests, refl, run_at, run_row, slice_get, subst, suc, sym, true, with_entry, zero, ℕ, ◌+◌, ◌<◌, ◌==◌, ◌∙◌, ◌∷◌, ◌≡◌}
+use Rattle.kt_store.proofs.Common.{AllByRecursion, AreNumbered, AreRuns, Bool, Entry, IsRun, List, None, Option, Row, Run, RunHead, Some, [], all-slice_get, ap, arith, cond, false, find, finish, head_at, head_of, insert_at, length, length-map, map, nat_tests, option_map, refl, run_at, run_row, slice_get, subst, suc, sym, true, unwrap_or, with_entry, zero, ℕ, ◌+◌, ◌<◌, ◌==◌, ◌∙◌, ◌∷◌, ◌≡◌}
 
 pub number_at : (from k : ℕ) (runs : List Run) (r : Run) → AreNumbered from runs → slice_get runs k ≡ Some r → r.number ≡ from + k
 number_at from k [] r h there = absurd cc
@@ -14,6 +14,43 @@ all_above P n from (r ∷ runs) each h low = (each r (omega (arith, h.0, low)), 
 pub run_of : (run : ℕ) (runs : List Run) (r : Run) → AreRuns runs → run_at runs run ≡ Some r → IsRun r
 run_of zero runs r valid there = absurd cc
 run_of (suc k) runs r valid there = all-slice_get IsRun runs k r there valid.each
+
+-- no run has a number below the first
+none_before : (n from : ℕ) (runs : List Run) → AreNumbered from runs → n < from → find (λ (r : Run). r.number == n) runs ≡ None
+none_before n from [] h low = refl
+none_before n from (r ∷ runs) h low =
+    let apart : (r.number == n) ≡ false = grind (arith, nat_tests, h.0, low) in
+    rw apart (none_before n (suc from) runs h.1 (omega (arith, low)))
+
+found_from : (n from k : ℕ) (runs : List Run) → AreNumbered from runs → n ≡ from + k → find (λ (r : Run). r.number == n) runs ≡ slice_get runs k
+found_from n from k [] h is = refl
+found_from n from zero (r ∷ runs) h is = let same : (r.number == n) ≡ true = grind (arith, nat_tests, h.0, is) in rw same refl
+found_from n from (suc k) (r ∷ runs) h is =
+    let apart : (r.number == n) ≡ false = grind (arith, nat_tests, h.0, is) in
+    rw apart (found_from n (suc from) k runs h.1 (omega (arith, is)))
+
+-- a run is found by its number
+pub run_found : (n : ℕ) (runs : List Run) → AreNumbered 1 runs → find (λ (r : Run). r.number == n) runs ≡ run_at runs n
+run_found zero runs h = none_before zero 1 runs h (omega arith)
+run_found (suc k) runs h = found_from (suc k) 1 k runs h (omega arith)
+
+head_of_found : (n : ℕ) (runs : List Run) → find (λ (head : RunHead). head.number == n) (map head_of runs) ≡ option_map head_of (find (λ (r : Run). r.number == n) runs)
+head_of_found n [] = refl
+head_of_found n (r ∷ runs) = go (r.number == n) (head_of_found n runs)
+  where
+    go : (b : Bool) → find (λ (head : RunHead). head.number == n) (map head_of runs) ≡ option_map head_of (find (λ (r : Run). r.number == n) runs)
+        → cond b (Some (head_of r)) (find (λ (head : RunHead). head.number == n) (map head_of runs)) ≡ option_map head_of (cond b (Some r) (find (λ (r : Run). r.number == n) runs))
+    go true more = refl
+    go false more = more
+
+-- so is the head of a run among all heads
+pub head_found : (number : Option ℕ) (runs : List Run) (heads : List RunHead) → AreNumbered 1 runs → heads ≡ map head_of runs
+    → find (λ (head : RunHead). head.number == unwrap_or number (length heads)) heads ≡ head_at runs number
+head_found number runs heads h are =
+    subst (λ (hs : List RunHead). find (λ (head : RunHead). head.number == unwrap_or number (length hs)) hs ≡ head_at runs number) (sym are)
+    (ap (λ (n : ℕ). find (λ (head : RunHead). head.number == unwrap_or number n) (map head_of runs)) (length-map runs head_of)
+    ∙ head_of_found (unwrap_or number (length runs)) runs
+    ∙ ap (option_map head_of) (run_found (unwrap_or number (length runs)) runs h))
 
 -- ---- lists of runs of which the one with a number is changed
 

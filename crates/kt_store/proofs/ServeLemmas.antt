@@ -1,5 +1,5 @@
 -- How the tables of a database serve the calls of a store, and what a crash leaves.
-use Rattle.kt_store.proofs.Common.{Agrees, Began, Changes, Entry, Err, Finished, Ghosts, HasCleanDisk, Held, IfErr, IfOk, IsErrAnd, IsStoreFault, Keeps, KeepsOne, KeepsRuns, Leaves, List, Looked, MayChange, Ok, OnErr, OnOk, Outlasts, Put, Result, Run, Serves, StandsFor, State, StoreCall, StoreFault, Survives, Trees, [], arith, changed_by, finish, inl, inr, new_run, refl, results, state, subst, survives_then, survives_weaker, sym, with_entry, ℕ, ◌++◌, ◌∷◌, ◌≡◌}
+use Rattle.kt_store.proofs.Common.{Agrees, Began, Changes, Entry, Err, Finished, Ghosts, HasCleanDisk, Held, IfErr, IfOk, IsErrAnd, IsStoreFault, Keeps, KeepsOne, KeepsRuns, Leaves, List, Looked, MayChange, Ok, OnErr, OnOk, Outlasts, Put, Reads, Result, Run, Serves, StandsFor, State, StoreCall, StoreFault, Survives, Trees, [], arith, changed_by, finish, inl, inr, new_run, refl, results, state, subst, survives_then, survives_weaker, sym, with_entry, ℕ, ◌++◌, ◌∷◌, ◌≡◌}
 use Rattle.kt_store.proofs.AskLemmas.{was_clean}
 use Rattle.kt_store.proofs.Numbered.{numbers_changed, ordered_changed}
 
@@ -68,6 +68,18 @@ module _ {S : Type 0} (g : Ghosts S) where
 
   pub seen_at : (call : StoreCall) (inside now new : Held S) → inside ≡ now → Serves (results g) call inside new → Serves (results g) call now new
   seen_at call inside now new is s = subst (λ o. Serves (results g) call o new) is s
+
+-- a call that only reads
+pub reads_serve : {S : Type 0} (g : Ghosts S) (call : StoreCall) (old new : Held S) → Reads (results g) old new → ((runs : List Run) → changed_by call runs ≡ runs)
+    → ((runs : List Run) (may : List (List Run)) → ((results g).leaves old may → (results g).leaves new may) → Outlasts (results g).leaves call runs may old new)
+    → ((runs : List Run) → (results g).stands old runs → HasCleanDisk (state g new) → Agrees runs call) → Serves (results g) call old new
+reads_serve g call old new reads same lasts why = record {
+  asked = tt;
+  stands = λ runs h. subst ((results g).stands new) (sym (same runs)) (reads.stands runs h);
+  earlier = reads.earlier;
+  agrees = why;
+  crash = λ runs may h. lasts runs may (reads.crash runs may h);
+}
 
 -- calls of which a part only reads
 module _ {S : Type 0} (g : Ghosts S) (old new : Held S) (looked : Looked g old new) where

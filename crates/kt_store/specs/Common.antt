@@ -5,7 +5,7 @@ pub use Rattle.sqlite.specs.Values.{bound}
 pub use Rattle.sqlite_value.specs.Value.{owned}
 pub use Rattle.kt_store.specs.Ask.{IsNoMemory, IsStoreFault, Rests}
 pub use Rattle.kt_store.specs.Attaching.{Blank, IsOf, Older, Refuses, TakesTables}
-pub use Rattle.kt_store.specs.Heads.{entry_at, head_of, no_output, outlined, pairs_of}
+pub use Rattle.kt_store.specs.Heads.{IsNumbered, entry_at, head_at, head_of, no_output, outlined, pairs_of}
 pub use Rattle.kt_store.specs.Inner.Ask.{AreWide, Asked, HasColumns, MayShow, MayExecute, ShowsOf, Executed}
 pub use Rattle.kt_store.specs.Inner.Fault.{IsOutOfMemory, IsShort, IsOfError, IsOfRecoverError, IsOfTreeError, IsOfWriteError}
 pub use Rattle.kt_store.specs.Inner.Heads.{CountFrom, entry_columns, head_columns, pair_columns, whole_columns}
@@ -15,6 +15,6 @@ pub use Rattle.kt_store.specs.Inner.Transactions.{Commits, CommitsLater, IsOurs,
 pub use Rattle.kt_store.specs.Runs.{AreRuns, IsEntry, IsPair, IsText, Keeps, KeepsOne, finish, finish_refusal, flag, has_position, kind_code, new_run, put_refusal, run_at, with_entry}
 pub use Rattle.kt_store.specs.Serving.{Reads, Serves, results}
 pub use Rattle.kt_store.specs.Stands.{IsUnderstood, Leaves, OnRuns, SaysSchema, StandsFor}
-pub use Rattle.kt_store.specs.StoreCalls.{Began, Finished, Heads, Outline, Outputs, Pairs, Put, seen_as}
+pub use Rattle.kt_store.specs.StoreCalls.{Began, Finished, Head, Outline, Outputs, Pairs, Put, seen_as}
 pub use Rattle.kt_store.specs.Tables.{entries_text, pairs_text, runs_text, schema_2}
-pub use Rattle.kt_store.specs.Types.{AllByRecursion, Blob, Entry, HasCleanDisk, Held, Int, IsLive, IsUnchanged, Run, Survives, column, last_run, state, understood, utf8}
+pub use Rattle.kt_store.specs.Types.{AllByRecursion, Blob, Entry, HasCleanDisk, Held, Int, IsLive, IsUnchanged, Run, Survives, column, find, last_run, state, understood, utf8}

@@ -1,11 +1,20 @@
--- What a call shows of runs and of entries: the heads of runs, entries without their pairs and outputs, and these.
-use Rattle.std.specs.Prelude.{ℕ, ◌==◌, List, [], Option, Some, None}
+-- What a call shows of runs and of entries: the head of a run, entries without their pairs and outputs, and these.
+use Rattle.std.specs.Prelude.{ℕ, ◌≡◌, ◌==◌, List, [], Option, Some, None, IfSome, length, option_map, unwrap_or}
 use Rattle.kt_base.specs.declared.entry.Output.{Output}
+use Rattle.kt_store.specs.Runs.{run_at}
 use Rattle.kt_store.specs.Types.{CaseOutputs, Entry, Run, RunHead, Variable, find}
 
 -- a run without its entries
 abbrev pub head_of : Run → RunHead
 head_of r = record { number = r.number; started = r.started; total = r.total; finished = r.finished }
+
+-- `head_at runs number`: the head of the run with the number, or of the last run if `number` is `None`
+abbrev pub head_at : List Run → Option ℕ → Option RunHead
+head_at runs number = option_map head_of (run_at runs (unwrap_or number (length runs)))
+
+-- `IsNumbered number head`: the head has the number, if there is one
+abbrev pub IsNumbered : Option ℕ → RunHead → Type 0
+IsNumbered number head = IfSome number (λ n. head.number ≡ n)
 
 -- nothing was printed
 abbrev pub no_output : Output

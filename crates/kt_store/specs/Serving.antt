@@ -1,10 +1,10 @@
 -- What a call of a store does to its runs, by its answer.
 use Rattle.std.specs.Prelude.{suc, List, [], ◌∷◌, ◌++◌, ◌≡◌, ◌<◌, ◌≤◌, ◌⊎◌, Some, None, Ok, Err, length, map}
 use Rattle.kt_store.specs.Ask.{IsStoreFault}
-use Rattle.kt_store.specs.Heads.{head_of, outlined, pairs_of, outputs_of, entry_at}
+use Rattle.kt_store.specs.Heads.{head_at, outlined, pairs_of, outputs_of, entry_at}
 use Rattle.kt_store.specs.Runs.{AreNumbered, AreOrdered, KeepsOne, new_run, run_at, with_entry, put_refusal, finish, finish_refusal}
 use Rattle.kt_store.specs.Stands.{Leaves, StandsFor}
-use Rattle.kt_store.specs.StoreCalls.{StoreCall, Began, Put, Finished, Heads, Outline, Pairs, Outputs}
+use Rattle.kt_store.specs.StoreCalls.{StoreCall, Began, Put, Finished, Head, Outline, Pairs, Outputs}
 use Rattle.kt_store.specs.declared.result_store.StoreSpec as store
 use Rattle.kt_store.specs.Types.{Entry, Ghosts, HasCleanDisk, Held, NoRun, Run, StoreFull, last_run, state}
 
@@ -23,8 +23,8 @@ Agrees runs (Put number e (Ok done)) = put_refusal runs number e ≡ None
 Agrees runs (Put number e (Err fault)) = IsStoreFault fault ⊎ (put_refusal runs number e ≡ Some fault)
 Agrees runs (Finished number (Ok done)) = finish_refusal runs number ≡ None
 Agrees runs (Finished number (Err fault)) = IsStoreFault fault ⊎ (finish_refusal runs number ≡ Some fault)
-Agrees runs (Heads (Ok heads)) = heads ≡ map head_of runs
-Agrees runs (Heads (Err fault)) = IsStoreFault fault
+Agrees runs (Head number (Ok head)) = head ≡ head_at runs number
+Agrees runs (Head number (Err fault)) = IsStoreFault fault
 Agrees runs (Outline number (Ok entries)) = (run' : Run) × (run_at runs number ≡ Some run') × (entries ≡ map outlined run'.entries)
 Agrees runs (Outline number (Err fault)) = IsStoreFault fault ⊎ ((fault ≡ NoRun) × (run_at runs number ≡ None))
 Agrees runs (Pairs number position (Ok pairs)) = pairs ≡ pairs_of (entry_at (run_at runs number) position)

@@ -1,14 +1,14 @@
 -- What is asked of a store of runs, and what it answers.
-use Rattle.std.specs.Prelude.{ℕ, List, Result, Ok, Err}
+use Rattle.std.specs.Prelude.{ℕ, List, Option, Result, Ok, Err}
 use Rattle.kt_store.specs.Types.{CaseOutputs, Entry, RunHead, StoreFault, Variable}
 
--- a call with its answer: a run of a total begins at a moment, an entry is put, a run is finished, all heads are read, the entries of a run
--- without their pairs and outputs, or the pairs or the outputs of its entry at a position
+-- a call with its answer: a run of a total begins at a moment, an entry is put, a run is finished, the head of the run with a number or of
+-- the last one is read, the entries of a run without their pairs and outputs, or the pairs or the outputs of its entry at a position
 pub data StoreCall : Type 0 where
   Began : (total moment : ℕ) (answer : Result ℕ StoreFault) → StoreCall
   Put : (number : ℕ) (entry : Entry) (answer : Result (Unit {0}) StoreFault) → StoreCall
   Finished : (number : ℕ) (answer : Result (Unit {0}) StoreFault) → StoreCall
-  Heads : (answer : Result (List RunHead) StoreFault) → StoreCall
+  Head : (number : Option ℕ) (answer : Result (Option RunHead) StoreFault) → StoreCall
   Outline : (number : ℕ) (answer : Result (List Entry) StoreFault) → StoreCall
   Pairs : (number position : ℕ) (answer : Result (List Variable) StoreFault) → StoreCall
   Outputs : (number position : ℕ) (answer : Result CaseOutputs StoreFault) → StoreCall

@@ -1,6 +1,8 @@
-ghost use Rattle.std.specs.Prelude.{◌≡◌, ◌≤◌, length, map, List, IfOk, ◌++◌, [], ◌∷◌, OnOk};
-ghost use Rattle.kt_store.specs.Common.{CountFrom, OnRuns, AreWide, Looked, head_columns, head_of};
+ghost use Rattle.std.specs.Prelude.{◌≡◌, ◌≤◌, ◌==◌, length, map, List, IfOk, IfSome, ◌++◌, [], ◌∷◌, OnOk, unwrap_or};
+ghost use Rattle.kt_store.specs.Common.{CountFrom, IsNumbered, OnRuns, AreWide, Looked, find, head_columns, head_of};
+ghost use Rattle.std.specs.Option.{option_copied};
 ghost use Rattle.kt_base.specs.declared.entry.Run.{Run as Stored};
+ghost use Rattle.kt_store.specs.declared.result_store.RunHead.{RunHead as Head};
 
 use crate::RunHead;
 use crate::statements::{query, value_in};
@@ -67,4 +69,22 @@ pub(crate) fn all_heads<S: Alter>(
         &[],
     )?;
     heads_in(alloc, &rows)
+}
+
+/// Returns the first head with the number.
+fn head_numbered(heads: &[RunHead], number: u64) -> Option<&RunHead>
+    ensures found { option_copied result ≡ find (λ (head : Head). head.number == number)
+        heads.now }
+    ensures numbered { IfSome (option_copied result) (λ head. head.number ≡ number) }
+{
+    heads.iter().find(|head| head.number == number)
+}
+
+/// Returns the first head with the number, or, if `number` is `None`, with the number of heads as its number.
+pub(crate) fn head_among(heads: &[RunHead], number: Option<u64>) -> Option<RunHead>
+    ensures found { result ≡ find (λ (head : Head). head.number == unwrap_or number
+        (length heads.now)) heads.now }
+    ensures numbered { IfSome result (IsNumbered number) }
+{
+    head_numbered(heads, number.unwrap_or(heads.len() as u64)).copied()
 }

@@ -51,8 +51,8 @@ pub trait StoreSpec {
 /// Where runs are recorded. Each call's refusals come in a stated order and change nothing; `NoMemory` and `Store` come
 /// where memory or the store itself failed. What was read is right while the store is sound.
 pub trait ResultStore: StoreSpec {
-    ghost use Rattle.std.specs.Prelude.{IfErr};
-    ghost use Rattle.kt_store.specs.Common.{IsMoment, IsStorable, IsStoreFault, Serves, Began, Put, Finished, Heads, Outline, Pairs, Outputs, seen_as};
+    ghost use Rattle.std.specs.Prelude.{IfErr, IfOk, IfSome};
+    ghost use Rattle.kt_store.specs.Common.{IsMoment, IsNumbered, IsStorable, IsStoreFault, Serves, Began, Put, Finished, Head, Outline, Pairs, Outputs, seen_as};
 
     /// Adds an unfinished run of `total` cases, and returns its number. `moment` is its start, in milliseconds since
     /// 1970-01-01 UTC.
@@ -91,10 +91,11 @@ pub trait ResultStore: StoreSpec {
     fn finish(&mut self, run: u64) -> Result<(), StoreFault>
         ensures { Serves Self.StoreSpec (Finished run result) self.old self.new };
 
-    /// Returns the heads of all runs, by number.
-    fn runs(&mut self) -> Result<Vec<RunHead>, StoreFault>
-        ensures served { Serves Self.StoreSpec (Heads (seen_as (λ heads. heads.items) result))
-            self.old self.new }
+    /// Returns the head of a run, or of the last run if `number` is `None`. Returns `None` if there is no such run.
+    fn head(&mut self, number: Option<u64>) -> Result<Option<RunHead>, StoreFault>
+        ensures served { Serves Self.StoreSpec (Head number result) self.old self.new }
+        // Even if the store doesn't give back what was written, no run has the number of another.
+        ensures numbered { IfOk result (λ found. IfSome found (IsNumbered number)) }
         ensures failed { IfErr result IsStoreFault };
 
     /// Returns the entries of a run without their pairs and outputs, by position. A reason comes back as its text.

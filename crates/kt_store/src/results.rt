@@ -1,6 +1,6 @@
 use crate::attach::create_or_adopt_tables;
 use crate::entries::all_entries;
-use crate::heads::all_heads;
+use crate::heads::{all_heads, head_among};
 use crate::lookup::key;
 use crate::put::{add_entry, check, reason_of};
 use crate::run_rows::{self, add_run, is_full, mark};
@@ -31,8 +31,8 @@ impl<S: Alter> Model for Results<S> {
 }
 
 impl<S: Alter> Results<S> {
-    ghost use Rattle.std.specs.Prelude.{◌≡◌, ◌⊎◌, Some, None, IfOk, IfErr};
-    ghost use Rattle.kt_store.specs.Common.{OnRuns, state, IsMoment, IsStorable, IsStoreFault, IsOf, TakesTables, Refuses, Reads, Serves, Began, Put, Finished, Heads, results, run_at, seen_as};
+    ghost use Rattle.std.specs.Prelude.{◌≡◌, ◌⊎◌, Some, None, IfOk, IfErr, IfSome, map};
+    ghost use Rattle.kt_store.specs.Common.{OnRuns, state, CountFrom, IsMoment, IsNumbered, IsStorable, IsStoreFault, IsOf, TakesTables, Refuses, Reads, Serves, Began, Put, Finished, Head, head_of, results, run_at};
 
     /// Accepts the tables of a database. Creates them in an empty one, and migrates schema 1 to schema 2, each in one
     /// commit.
@@ -122,10 +122,23 @@ impl<S: Alter> Results<S> {
 
     /// Returns the heads of all runs, by number.
     pub fn runs(&mut self) -> Result<Vec<RunHead>, StoreFault>
-        ensures { Serves (results S.Store) (Heads (seen_as (λ heads. heads.items) result))
-            self.old self.new }
+        ensures reads { Reads (results S.Store) self.old self.new }
+        ensures heads { OnRuns S.Store self.old self.new (λ runs.
+            IfOk result (λ heads. heads.items ≡ map head_of runs)) }
+        ensures failed { IfErr result IsStoreFault }
     {
         Ok(all_heads(&mut self.conn, self.alloc)?)
+    }
+
+    /// Returns the head of a run, or of the last run if `number` is `None`. Returns `None` if there is no such run.
+    pub fn head(&mut self, number: Option<u64>) -> Result<Option<RunHead>, StoreFault>
+        ensures served { Serves (results S.Store) (Head number result) self.old self.new }
+        // Of any tables: no run has the number of another.
+        ensures numbered { IfOk result (λ found. IfSome found (IsNumbered number)) }
+        ensures failed { IfErr result IsStoreFault }
+    {
+        let heads = self.runs()?;
+        Ok(head_among(&heads, number))
     }
 
     /// Returns the entries of a run with their pairs and outputs, by position.

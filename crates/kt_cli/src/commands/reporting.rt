@@ -1,5 +1,5 @@
 ghost use Rattle.std.specs.Prelude.{◌≡◌, ◌∷◌, [], None, is_err};
-ghost use Rattle.kt_cli.specs.Common.{utf8, Shows, TextOrUnread, JunitOrUnread, DidReport, WritesEntries, WritesJunit, WritesText, by_section, chosen, chosen_of, Reported, ReportedJunit, IsMissing, ReadsRun, not_shown_line};
+ghost use Rattle.kt_cli.specs.Common.{utf8, Shows, TextOrUnread, JunitOrUnread, DidReport, WritesEntries, WritesJunit, WritesText, by_section, chosen_of, Reported, ReportedJunit, IsMissing, ReadsRun, not_shown_line};
 
 use crate::Exit;
 use crate::commands::report_stop::{JunitStop, ReportError, TextStop};
@@ -10,46 +10,32 @@ use kt_report::{
     ReportFault, date_of, is_chosen, junit_case, junit_end, junit_heading, same_kind, text,
     text_entry, text_order, text_summary, text_title,
 };
-use kt_store::{ResultStore, RunHead};
+use kt_store::ResultStore;
 use std::alloc::Global;
 use std::io::Write;
 
-/// Returns the head of run `number`, or of the last run if `number` is `None`.
-fn chosen_head(number: Option<u64>, heads: &[RunHead]) -> Option<RunHead>
-    ensures { result ≡ chosen number heads.now }
+/// Returns the error of a missing run: the store has no runs, or no run `number`.
+fn missing<R: ResultStore>(number: Option<u64>, results: &mut R) -> ReportError
+    ensures { IsMissing R.StoreSpec number results.old results.new result }
 {
-    match number {
-        None => heads.last().copied(),
-        Some(0) => None,
-        Some(number) => match usize::try_from(number - 1) {
-            Ok(place) => heads.get(place).copied(),
-            Err(_) => None,
-        },
+    let Some(wanted) = number else {
+        return ReportError::NoRuns;
+    };
+    match results.head(None) {
+        Ok(Some(_)) => ReportError::NoRun(wanted),
+        Ok(None) => ReportError::NoRuns,
+        Err(fault) => ReportError::Refused(fault),
     }
 }
 
-/// Returns why the requested run is missing: there are no runs, or none has this number.
-fn missing(number: Option<u64>, heads: &[RunHead]) -> ReportError
-    ensures { IsMissing number heads.now result }
-{
-    match number {
-        Some(number) if !heads.is_empty() => ReportError::NoRun(number),
-        _ => ReportError::NoRuns,
-    }
-}
-
-/// Reads run `number`, or the last run if `number` is `None`.
-///
-/// The entries have no properties and no outputs.
+/// Reads run `number`, or the last run if `number` is `None`, without properties and outputs.
 fn read_run<R: ResultStore>(number: Option<u64>, results: &mut R) -> Result<Run, ReportError>
     ensures { ReadsRun R.StoreSpec number results.old results.new result }
 {
-    let heads = match results.runs() {
-        Ok(heads) => heads,
+    let head = match results.head(number) {
+        Ok(Some(head)) => head,
+        Ok(None) => return Err(missing(number, results)),
         Err(fault) => return Err(ReportError::Refused(fault)),
-    };
-    let Some(head) = chosen_head(number, heads.as_slice()) else {
-        return Err(missing(number, heads.as_slice()));
     };
     match results.outline(head.number) {
         Ok(entries) => Ok(Run {

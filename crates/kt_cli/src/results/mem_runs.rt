@@ -29,8 +29,9 @@ impl Model for MemRuns {
 }
 
 impl MemRuns {
-    ghost use Rattle.std.specs.Prelude.{◌≡◌, [], IfErr};
-    ghost use Rattle.kt_cli.specs.Common.{IsStoreFault, Began, Put, Finished, Heads, Outline, Pairs, Outputs, seen_as, FindsPlace, ServesInMemory};
+    ghost use Rattle.std.specs.Prelude.{◌≡◌, ◌==◌, [], IfSome, length, option_map, unwrap_or};
+    ghost use Rattle.kt_base.specs.declared.entry.Run.{Run};
+    ghost use Rattle.kt_cli.specs.Common.{Began, Put, Finished, IsNumbered, Outline, Pairs, Outputs, find, head_of, seen_as, FindsPlace, ServesInMemory};
 
     /// Creates a store without runs. Allocates nothing.
     pub fn new(alloc: Global) -> MemRuns
@@ -153,16 +154,14 @@ impl MemRuns {
         }
     }
 
-    /// Returns the heads of all runs, in order.
-    fn heads(&self) -> Result<Vec<RunHead>, StoreFault>
-        ensures served { ServesInMemory self.now
-            (Heads (seen_as (λ heads. heads.items) result)) self.now }
-        ensures failed { IfErr result IsStoreFault }
+    /// Returns the head of the first run with the number, or else of the last run.
+    fn head_at(&self, number: Option<u64>) -> Option<RunHead>
+        ensures found { result ≡ option_map head_of (find (λ (r : Run). r.number
+            == unwrap_or number (length self.now)) self.now) }
+        ensures numbered { IfSome result (IsNumbered number) }
     {
-        match heads(self.alloc, &self.runs) {
-            Ok(heads) => Ok(heads),
-            Err(refusal) => Err(short(refusal)),
-        }
+        let run = run_numbered(&self.runs, number.unwrap_or(self.runs.len() as u64))?;
+        Some(head(run))
     }
 }
 
@@ -198,8 +197,8 @@ impl ResultStore for MemRuns {
         self.end_run(run)
     }
 
-    fn runs(&mut self) -> Result<Vec<RunHead>, StoreFault> {
-        self.heads()
+    fn head(&mut self, number: Option<u64>) -> Result<Option<RunHead>, StoreFault> {
+        Ok(self.head_at(number))
     }
 
     fn outline(&mut self, run: u64) -> Result<Vec<Entry>, StoreFault> {
@@ -215,9 +214,10 @@ impl ResultStore for MemRuns {
     }
 }
 
-ghost use Rattle.std.specs.Prelude.{◌≡◌, ◌≤◌, ◌==◌, length, map, insert, OnOk, OnErr, IfOk};
+ghost use Rattle.std.specs.Prelude.{◌≡◌, ◌≤◌, ◌==◌, IfSome, length, insert, OnOk, OnErr};
 ghost use Rattle.kt_cli.specs.Common.{find, option_copied, IsStoreFault, head_of, has_position, insert_at, entry_refusal, closing_refusal, place_among};
 ghost use Rattle.kt_base.specs.declared.entry.Entry.{Entry as Recorded};
+ghost use Rattle.kt_base.specs.declared.entry.Run.{Run as Stored};
 
 /// Converts a failed allocation to a fault of the store.
 fn short(refusal: NoMemory) -> StoreFault
@@ -238,15 +238,12 @@ fn head(run: &Run) -> RunHead
     }
 }
 
-/// Returns the heads of runs, in order.
-fn heads(alloc: Global, runs: &[Run]) -> Result<Vec<RunHead>, NoMemory>
-    ensures { IfOk result (λ heads. heads.items ≡ map head_of runs.now) }
+/// Returns the first run with the number.
+fn run_numbered(runs: &[Run], number: u64) -> Option<&Run>
+    ensures found { option_copied result ≡ find (λ (r : Stored). r.number == number) runs.now }
+    ensures numbered { IfSome (option_copied result) (λ r. r.number ≡ number) }
 {
-    let mut heads = Vec::new(alloc);
-    for run in runs {
-        heads.push(head(run))?;
-    }
-    Ok(heads)
+    runs.iter().find(|run| run.number == number)
 }
 
 /// Returns the index at which an entry with this position is inserted.
