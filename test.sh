@@ -42,7 +42,7 @@ progress() {
 
 # Prints what a part says of its failures, or its last lines if it doesn't say which lines those are.
 failures() {
-  grep -E -e 'NOT PROVED|: BAD EDIT|: NOT TRIED|^rt: FAILED|  ->  (failed|broken): |^tests: |^[a-z_]*[.]sh: ' "$room/log" | head -n 20 |
+  grep -E -e 'NOT PROVED|: BAD EDIT|: NOT TRIED|^rt: FAILED|  ->  (failed|broken): |^tests: |^[a-z_]*[.](sh|py): ' "$room/log" | head -n 20 |
     grep . || grep -v "$counts" "$room/log" | tail -n 10
 }
 

@@ -1,9 +1,9 @@
 #!/usr/bin/env bash
-# Looks at the pages, which are all files *.md. Each link leads to a file that is there, and to a heading that it has. ARCHITECTURE.md
-# names each page of docs/, and no other. No paragraph, item or row has more than 700 bytes, and no row or item of ARCHITECTURE.md more
-# than 40 words. Each path, function and definition in backticks, or in a row or an item of ARCHITECTURE.md, stands in the tree. What
-# looks like a path ends like a file of this tree or begins with a directory of it; what looks like a name has an underscore, or begins
-# with a capital and goes on in small letters. For each rule there are wrong texts that it must find.
+# Checks the pages, which are all files *.md. Each link leads to a file that exists, and to a heading that it has. ARCHITECTURE.md names
+# each page of docs/, and no other. Each path, function and definition in backticks, or in a row or an item of ARCHITECTURE.md, exists
+# in the tree. A path ends like a file of this tree or begins with a directory of it. A name has an underscore, or begins with a capital
+# and goes on in small letters. For each rule there are wrong texts that it must find. Then prose.py checks sentences, tables, terms,
+# comments and names.
 # Prints each place that breaks a rule, and each wrong text that is not found. The last line is 'N passed, M failed', over the rules and
 # these texts.
 set -eu -o pipefail
@@ -69,10 +69,6 @@ read_pages() {
       if (n > 1 && text !~ /^[A-Z]/) return
       for (i = 1; i <= n; i++) if (parts[i] ~ /[a-z0-9]_[a-z0-9]|^[A-Z][A-Za-z0-9]*[a-z]/) print "word\t" parts[i] "\t" FILENAME ":" FNR
     }
-    function finish_paragraph() {
-      if (length_so_far > 700) print "long\t" began ": " length_so_far " bytes"
-      length_so_far = 0
-    }
     FILENAME == files {
       kind = $1
       path = substr($0, 3)
@@ -86,24 +82,17 @@ read_pages() {
       }
       next
     }
-    FNR == 1 { finish_paragraph(); code = 0; delete seen }
-    /^ *```/ { code = !code; finish_paragraph(); next }
+    FNR == 1 { code = 0; delete seen }
+    /^ *```/ { code = !code; next }
     code { next }
     /^#/ {
       name = heading($0)
       count = seen[name]++
       headings[FILENAME "#" name (count ? "-" count : "")] = 1
     }
-    /^$|^#|^\||^ *([-*]|[0-9]+\.) / { finish_paragraph() }
-    $0 != "" {
-      if (!length_so_far) began = FILENAME ":" FNR
-      length_so_far += length($0) + (length_so_far > 0)
-    }
     /^(\||- )/ && FILENAME ~ /ARCHITECTURE\.md$/ {
       row = $0
       gsub(/\|/, " ", row)
-      n = split(row, words, " ")
-      if (n > 40) tell("row", n " words")
       gsub(/`[^`]*`|\]\([^)]*\)|[(),;:]/, " ", row)
       n = split(row, words, " ")
       for (i = 1; i <= n; i++) look_for_path(words[i])
@@ -129,7 +118,6 @@ read_pages() {
       }
     }
     END {
-      finish_paragraph()
       for (place in marks) if (!(marks[place] in headings)) print "link\t" place
       if (!("docs/ARCHITECTURE.md" in there)) print "page\tthere is no docs/ARCHITECTURE.md"
       for (path in there)
@@ -165,15 +153,13 @@ wrong() {
 pages=()
 while IFS= read -r page; do pages+=("$page"); done < <(sed -n 's/^f \(.*\.md\)$/\1/p' "$room/files")
 look . "${pages[@]}" > "$room/told"
-for rule in link page long row name; do
+for rule in link page name; do
   if grep "^$rule	" "$room/told" | sed 's/^[a-z]*\t/documents.sh: /'; then failed=$((failed + 1)); else passed=$((passed + 1)); fi
 done
 
 wrong link x.md <<< 'See [the gate](gone.md).'
 wrong link x.md <<< 'See [below](#the-gate).'
 wrong link x.md < <(printf 'See [the gate](#the-gates-2).\n\n## The gates\n\n## The gates\n')
-wrong long x.md < <(printf 'a line of 35 bytes, and so many more\n%.0s' $(seq 20))
-wrong long x.md < <(printf '| a row |%0700d|\n' 0)
 wrong name x.md <<< 'It stands in `scripts/gone.sh`.'
 wrong name x.md <<< 'Call `tests/run.sh docs/gone`.'
 wrong name x.md <<< 'It stands in `gone.rt`.'
@@ -182,7 +168,6 @@ wrong name x.md <<< 'It calls `goes_beyond()`.'
 wrong name x.md <<< 'By `IsNowhere` that is so.'
 wrong name x.md <<< 'By `Result.NeverNamed` that is so.'
 wrong link ARCHITECTURE.md <<< '[gates.md](gates.md)'
-wrong row ARCHITECTURE.md < <(printf '| a %.0s' $(seq 41); echo)
 wrong name ARCHITECTURE.md <<< '| a rule | src/gone.rt |'
 wrong name ARCHITECTURE.md <<< '- a room: gone.rt, mod.rt'
 echo 'page	docs/ARCHITECTURE.md does not name docs/gate.md' >> "$room/due"
@@ -196,5 +181,9 @@ while IFS= read -r due; do
   fi
 done < "$room/due"
 
-echo "$passed passed, $failed failed"
-[ "$failed" = 0 ]
+scripts/prose.py > "$room/prose" || true
+counts=$(sed -n 's/^\([0-9]*\) passed, \([0-9]*\) failed$/\1 \2/p' "$room/prose")
+grep '^prose[.]py: ' "$room/prose" || true
+counts=${counts:-0 1}
+echo "$((passed + ${counts% *})) passed, $((failed + ${counts#* })) failed"
+[ "$((failed + ${counts#* }))" = 0 ]
