@@ -32,10 +32,12 @@ fn missing<R: ResultStore>(number: Option<u64>, results: &mut R) -> ReportError
 fn read_run<R: ResultStore>(number: Option<u64>, results: &mut R) -> Result<Run, ReportError>
     ensures { ReadsRun R.StoreSpec number results.old results.new result }
 {
-    let head = match results.head(number) {
-        Ok(Some(head)) => head,
-        Ok(None) => return Err(missing(number, results)),
+    let found = match results.head(number) {
+        Ok(found) => found,
         Err(fault) => return Err(ReportError::Refused(fault)),
+    };
+    let Some(head) = found else {
+        return Err(missing(number, results));
     };
     match results.outline(head.number) {
         Ok(entries) => Ok(Run {

@@ -9,19 +9,19 @@ returns-in-Err g c =
     reads_no_head g.R.StoreSpec c.args.number _ _ c.in-Err.fault
     (stored_call g.R.StoreSpec (Head c.args.number (Err c.in-Err.fault)) _ _ c.in-Err.ensures.served)
 
-pub returns-in-Ok-None : goal.returns-in-Ok-None
-returns-in-Ok-None g c =
+pub returns-in_default : goal.returns-in_default
+returns-in_default g c =
     reads_missing g.R.StoreSpec c.args.number _ _ _ c.missing.result
-    (stored_call g.R.StoreSpec (Head c.args.number (Ok None)) _ _ c.in-Ok-None.ensures.served) c.missing.ensures
+    (stored_call g.R.StoreSpec (Head c.args.number (Ok None)) _ _ (rw c.in_default.is at c.in-Ok.ensures.served)) c.missing.ensures
 
 pub returns-in-Ok-outline : goal.returns-in-Ok-outline
 returns-in-Ok-outline g c =
-    reads_run g.R.StoreSpec c.args.number _ _ _ c.in-Ok-Some.head c.in-Ok-outline.entries.items c.from_vec.result c.from_vec.ensures
-    (stored_call g.R.StoreSpec (Head c.args.number (Ok (Some c.in-Ok-Some.head))) _ _ c.in-Ok-Some.ensures.served) c.in-Ok-Some.ensures.numbered
-    (stored_call g.R.StoreSpec (Outline c.in-Ok-Some.head.number (Ok c.in-Ok-outline.entries.items)) _ _ c.in-Ok-outline.ensures)
+    reads_run g.R.StoreSpec c.args.number _ _ _ c.in-Some.head c.in-Ok-outline.entries.items c.from_vec.result c.from_vec.ensures
+    (stored_call g.R.StoreSpec (Head c.args.number (Ok (Some c.in-Some.head))) _ _ (rw c.in-Some.is at c.in-Ok.ensures.served)) (rw c.in-Some.is at c.in-Ok.ensures.numbered)
+    (stored_call g.R.StoreSpec (Outline c.in-Some.head.number (Ok c.in-Ok-outline.entries.items)) _ _ c.in-Ok-outline.ensures)
 
-pub returns : goal.returns
-returns g c =
-    reads_no_outline g.R.StoreSpec c.args.number _ _ _ c.in-Ok-Some.head c.in-Err-outline.fault
-    (stored_call g.R.StoreSpec (Head c.args.number (Ok (Some c.in-Ok-Some.head))) _ _ c.in-Ok-Some.ensures.served) c.in-Ok-Some.ensures.numbered
-    (stored_call g.R.StoreSpec (Outline c.in-Ok-Some.head.number (Err c.in-Err-outline.fault)) _ _ c.in-Err-outline.ensures)
+pub returns-in-Err-outline : goal.returns-in-Err-outline
+returns-in-Err-outline g c =
+    reads_no_outline g.R.StoreSpec c.args.number _ _ _ c.in-Some.head c.in-Err-outline.fault
+    (stored_call g.R.StoreSpec (Head c.args.number (Ok (Some c.in-Some.head))) _ _ (rw c.in-Some.is at c.in-Ok.ensures.served)) (rw c.in-Some.is at c.in-Ok.ensures.numbered)
+    (stored_call g.R.StoreSpec (Outline c.in-Some.head.number (Err c.in-Err-outline.fault)) _ _ c.in-Err-outline.ensures)
