@@ -1,4 +1,5 @@
--- What a query leaves of a connection that stands for runs, and what prepared statements tell of its tables.
+-- What a query leaves of a connection that stands for runs, and what prepared statements tell of
+-- its tables.
 use Rattle.kt_store.proofs.Common.{Asked, AsksNumber, CommitsNothing, Compiled, Database, Err, Ghosts, HasCleanDisk, HasTables, Held, IsStore, IsTrue, IsUnchanged, IsUnderstood, List, Looked, MayShow, Ok, Outlines, Rests, Result, Row, Run, SaysSchema, Shown, ShowsRows, StandsFor, State, Survives, Trees, ap, arith, never_commits, refl, schema_2, state, subst, survives_then, survives_weaker, sym, unchanged_then, understood, ℕ, ℤ, ◌∙◌, ◌≡◌}
 use Rattle.sqlite.specs.Given.{IsPlain}
 use Rattle.sqlite.specs.Clock.{timed}

@@ -41,7 +41,8 @@ always_outlasts Leaves h _ runs may old new = λ _. h new _
 pub survives_self : (s : State) → Survives s s (λ (db : Trees). ⊥)
 survives_self s = record { clean = omega arith; shield = λ h. h; counts = omega arith; limit = refl; closes = λ clean opened. inl opened; crash = λ clean db may. inl may }
 
--- a call is served if its tables stand for the changed runs, which are numbered and ordered if those before were
+-- a call is served if its tables stand for the changed runs, which are numbered and ordered if
+-- those before were
 serves : {S : Type 0} (g : Ghosts S) (call : StoreCall) (old new : Held S) → ((runs : List Run) → StandsFor (state g old) runs → StandsFor (state g new) (changed_by call runs))
     → ((runs : List Run) → StandsFor (state g old) runs → HasCleanDisk (state g new) → HasCleanDisk (state g old)) → ((runs : List Run) → StandsFor (state g old) runs → HasCleanDisk (state g new) → Agrees runs call)
     → ((runs : List Run) (may : List (List Run)) → StandsFor (state g old) runs → Outlasts (λ s more. Leaves (state g s) (KeepsOne more)) call runs may old new) → Serves (results g) call old new

@@ -1,4 +1,4 @@
--- Results in a file, as they are opened and closed.
+-- Results in a file: opening and closing it.
 use Rattle.std.specs.Prelude.{◌≡◌, ◌≢◌, ◌⊎◌, ◌≤◌, ◌%◌, pos, length, List, IsTrue, ℕ, Bool, []}
 use Rattle.sqlite_disk.specs.declared.Disk as disk
 use Rattle.sqlite_disk.specs.declared.Files.{Files}
@@ -16,7 +16,8 @@ use Rattle.sqlite_store.specs.declared.catalog.Wanted.{Wanted}
 use Rattle.sqlite_wal.specs.PageSize.{IsPageSize}
 use Rattle.kt_store.specs.Types.{FileStore, HasCleanDisk, Held, HoldsDatabase, Image, IsClean, IsOpened, IsQuiet, PageMap, Recovers, Run, Trees, file_state, recovers, stored_size, view}
 
--- the two files recover to a sound file with these trees, with the log and without it; the trees are numbered if `is_numbered` says so
+-- `HasWithoutLog is_numbered trees image`: the two files recover to a sound file with `trees`, with
+-- the log and without it; if `is_numbered` is `true`, the trees are numbered
 pub record HasWithoutLog (is_numbered : Bool) (trees : Trees) (image : Image) : Type 0 where
   pub size : ℕ
   pub pages : PageMap
@@ -27,53 +28,60 @@ pub record HasWithoutLog (is_numbered : Bool) (trees : Trees) (image : Image) : 
   pub file : ∥ IsOurs size is_numbered wanted pages ∥₁
   pub reads : trees ≡ file_trees size wanted pages
 
--- the largest file whose pages and trees are all tested as it is opened, in bytes
+-- the size of the largest file whose pages and trees are all checked during an open, in bytes
 abbrev pub most_tested : ℕ
 most_tested = 16777216
 
--- the shortest log with a frame, in bytes
+-- the size of the shortest log with a frame, in bytes
 abbrev pub shortest_log : ℕ
 shortest_log = 56
 
--- `MustBeTested image`: the files are so small, or their log so long, that all their pages and trees are tested as they are opened
+-- `MustBeTested image`: the database is so small, or the log so long, that an open checks all pages
+-- and trees
 abbrev pub MustBeTested : Image → Type 0
 MustBeTested image = (length image.db ≤ most_tested) ⊎ (shortest_log ≤ length image.log)
 
--- `IsReadAs old new`: files hold what they held before they were read: the same bytes, or bytes that recover to the same pages, which any
--- database in the old ones has
+-- `IsReadAs old new`: reading the files `old` may leave `new`: the same bytes, or bytes that
+-- recover to the same pages
 pub data IsReadAs (old : Image) : Image → Type 0 where
   unchanged : IsReadAs old old
   recovered : (new : Image) (size : ℕ) (pages : PageMap) → size % 16 ≢ 8 → Recovers size old pages → Recovers size new pages
       → ((db : Trees) (held : HoldsDatabase old db) → held.0 ≡ size) → IsReadAs old new
 
 module _ {D : Type 0} {g : disk.Ghosts D} where
-  -- `IsOfFile image conn`: a connection has the database that the files held, which were perhaps read before
+  -- `IsOfFile image conn`: the connection `conn` shows the database of the files `image`, possibly
+  -- after they were read
   abbrev pub IsOfFile : Image → Held (FileStore D g) → Type 0
   IsOfFile image conn = HasCleanDisk (file_state conn) → IsOpened conn × ((read : Image) × IsReadAs image read × FindsIn read (file_state conn))
 
-  -- the results are those of such a connection, whose tables were taken
+  -- `AreOfFile image results`: `results` were attached to a connection that shows the database of
+  -- `image`
   abbrev pub AreOfFile : Image → Held (FileStore D g) → Type 0
   AreOfFile image results = (conn : Held (FileStore D g)) × IsOfFile image conn × ((was : DatabaseBefore) → IsOf was (file_state conn) → TakesTables was (file_state conn) (file_state results))
 
-  -- a store has the last commit of such results, and a crash leaves what it left of them
+  -- `Follows results store`: `store` has the last commit of `results`, and a crash leaves only what
+  -- a crash of `results` leaves
   pub record Follows (results : Held (FileStore D g)) (store : FileStore D g) : Type 0 where
     pub stands : (runs : List Run) → StandsFor (file_state results) runs → HasCommitted (view store) runs
     pub earlier : IsClean (view store) → HasCleanDisk (file_state results)
     pub crash : (trees : Trees) → recovers store trees → (file_state results).may_leave trees
     pub numbered : IsClean (view store) → IsTrue (view store).is_numbered
 
-  -- a file lists the tables of schema 2, and the store says this number
+  -- `Lists image store`: the files `image` list the tables of schema 2, and `store` has the schema
+  -- number 2
   pub record Lists (image : Image) (store : FileStore D g) : Type 0 where
     pub lists : IsClean (view store) → ListsTables image
     pub says : IsTrue (view store).is_open → SaysIn (pos 2) (view store).committed
 
-  -- a store has the runs that a file held, which lists the tables of schema 2, or has those of results that were taken of it
+  -- `Finds image store`: `store` has the runs of the files `image`, which list the tables of schema
+  -- 2 or were attached
   pub record Finds (image : Image) (store : FileStore D g) : Type 0 where
     pub held : OpensRuns image store
     pub whose : Lists image store ⊎ ((results : Held (FileStore D g)) × AreOfFile image results × Follows results store)
     pub numbered : IsClean (view store) → MustBeTested image → IsTrue (view store).is_numbered
 
-  -- a store ended with these two files of its own, of which the database file alone has the last commit, also after a crash
+  -- `Ends store`: `store` ended with two files, and the database file alone has the last commit,
+  -- also after a crash
   pub record Ends (store : FileStore D g) : Type 0 where
     pub last : FileStore D g
     pub quiet : IsQuiet view faults recovers is_shielded store last
@@ -82,7 +90,8 @@ module _ {D : Type 0} {g : disk.Ghosts D} where
     pub was_open : AreClean g files.log files.db → IsTrue (view store).is_open
     pub left : AreClean g files.log files.db → (image : Image) → outcomes g files.log files.db image → HasWithoutLog (view store).is_numbered (view store).committed image
 
-  -- the two files may have become these after a store whose trees are numbered ended, also by a crash; its last commit had these runs
+  -- `EndsIn store runs image`: `image` may be the files after `store` ended, also by a crash; its
+  -- trees are numbered, and its last commit has `runs`
   pub record EndsIn (store : FileStore D g) (runs : List Run) (image : Image) : Type 0 where
     pub ends : Ends store
     pub honest : AreClean g ends.files.log ends.files.db

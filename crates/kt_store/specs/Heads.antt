@@ -1,14 +1,15 @@
--- What a call shows of runs and of entries: the head of a run, entries without their pairs and outputs, and these.
+-- The parts of runs and entries that a call returns: heads, outlines, pairs and outputs.
 use Rattle.std.specs.Prelude.{ℕ, ◌≡◌, ◌==◌, List, [], Option, Some, None, IfSome, length, option_map, unwrap_or}
 use Rattle.kt_base.specs.declared.entry.Output.{Output}
 use Rattle.kt_store.specs.Runs.{run_at}
 use Rattle.kt_store.specs.Types.{CaseOutputs, Entry, Run, RunHead, Variable, find}
 
--- a run without its entries
+-- `head_of r`: the run `r` without its entries
 abbrev pub head_of : Run → RunHead
 head_of r = record { number = r.number; started = r.started; total = r.total; finished = r.finished }
 
--- `head_at runs number`: the head of the run with the number, or of the last run if `number` is `None`
+-- `head_at runs number`: the head of the run with the number, or of the last run if `number` is
+-- `None`
 abbrev pub head_at : List Run → Option ℕ → Option RunHead
 head_at runs number = option_map head_of (run_at runs (unwrap_or number (length runs)))
 
@@ -16,32 +17,32 @@ head_at runs number = option_map head_of (run_at runs (unwrap_or number (length 
 abbrev pub IsNumbered : Option ℕ → RunHead → Type 0
 IsNumbered number head = IfSome number (λ n. head.number ≡ n)
 
--- nothing was printed
+-- the output of a case that printed nothing
 abbrev pub no_output : Output
 no_output = record { out = []; err = [] }
 
--- an entry without its outputs
+-- `without_outputs e`: the entry `e` without its outputs
 abbrev pub without_outputs : Entry → Entry
 without_outputs e = record e { body = no_output; cleanup = no_output }
 
--- an entry without its pairs
+-- `without_pairs e`: the entry `e` without its pairs
 abbrev pub without_pairs : Entry → Entry
 without_pairs e = record e { meta = [] }
 
--- an entry as an outline has it
+-- `outlined e`: the entry `e` without its pairs and outputs
 abbrev pub outlined : Entry → Entry
 outlined e = without_outputs (without_pairs e)
 
--- the pairs of an entry, if it is there
+-- `pairs_of e`: the pairs of `e`, or none if there is no entry
 abbrev pub pairs_of : Option Entry → List Variable
 pairs_of None = []
 pairs_of (Some e) = e.meta
 
--- the outputs of an entry
+-- `outputs_of e`: the outputs of the entry `e`
 abbrev pub outputs_of : Entry → CaseOutputs
 outputs_of e = record { body = e.body; cleanup = e.cleanup }
 
--- the entry of a run at a position
+-- `entry_at r position`: the first entry of run `r` at `position`, if there is one
 abbrev pub entry_at : Option Run → ℕ → Option Entry
 entry_at None position = None
 entry_at (Some r) position = find (λ (e : Entry). e.position == position) r.entries

@@ -1,4 +1,5 @@
--- What private functions do, and those that are public for kt_dbfile alone: no other public clause cites it.
+-- Definitions for private functions, and for functions that are public for kt_dbfile alone. No
+-- other public clause cites them.
 pub mod Ask
 pub mod Fault
 pub mod Heads

@@ -1,11 +1,11 @@
--- The rows of a list of runs.
+-- The tables that represent a list of runs.
 use Rattle.std.specs.Prelude.{◌≡◌, ℕ, zero, suc, nat_lt, nat_le, ◌==◌, slice_get, Option, None, ◌<◌, ◌≤◌, ℤ, pos, Bool, true, false, if◌then◌else◌, List, [], ◌∷◌, length, map, drop, flat_map, Some, codes, IsPermutation, ⊤, ◌⊎◌}
 use Rattle.kt_base.specs.declared.verdict.Kind.{Kind}
 use Rattle.kt_store.specs.Tables.{schema_1, schema_2}
 use Rattle.std.specs.Str.{chars, IsUtf8}
 use Rattle.kt_store.specs.Types.{AllByRecursion, BadPosition, Blob, Broken, Database, Entry, ExpectedFailure, Failed, Incomplete, Int, IsAscending, IsDatabase, NoRun, Null, Passed, RepeatedPosition, Row, Run, RunClosed, Skipped, StoreFault, Text, Trees, Variable, last_run, list_any, utf8}
 
--- the number by which a kind is stored
+-- `kind_code kind`: the number that represents `kind` in the tables
 abbrev pub kind_code : Kind → ℕ
 kind_code Passed = 0
 kind_code Skipped = 1
@@ -13,55 +13,56 @@ kind_code ExpectedFailure = 2
 kind_code Failed = 3
 kind_code Broken = 4
 
--- whether a run is finished, as it is stored
+-- `flag finished`: the number that represents `finished` in the tables
 abbrev pub flag : Bool → ℤ
 flag finished = if finished then pos 1 else pos 0
 
--- as it is stored: the rowid, NULL in its own column, and the other columns
+-- `run_row r`: the rowid of run `r`, NULL in the rowid's own column, and the other columns
 abbrev pub run_row : Run → Row
 run_row r = Int (pos r.number) ∷ Null ∷ Int (pos r.started) ∷ Int (pos r.total) ∷ Int (flag r.finished) ∷ []
 
--- the columns of an entry of this run
+-- `entry_row run e`: the columns of entry `e` of the run with number `run`
 abbrev pub entry_row : ℕ → Entry → Row
 entry_row run e =
     Int (pos run) ∷ Int (pos e.position) ∷ Text (utf8 e.program) ∷ Text (utf8 e.case_name) ∷ Int (pos (kind_code e.verdict.kind)) ∷ Text (utf8 e.verdict.reason) ∷ Int (pos e.started) ∷ Int (pos e.millis)
     ∷ Blob e.body.out ∷ Blob e.body.err ∷ Blob e.cleanup.out ∷ Blob e.cleanup.err ∷ []
 
--- the rows of all entries of these runs
+-- `entry_rows runs`: the rows of all entries of `runs`
 abbrev pub entry_rows : List Run → List Row
 entry_rows runs = flat_map (λ r. map (entry_row r.number) r.entries) runs
 
--- the columns of a pair of an entry of this run, at its place among the entry's pairs
+-- `pair_row run position place v`: the columns of pair `v`, with index `place` among the pairs of
+-- the entry at `position` of `run`
 abbrev pub pair_row : ℕ → ℕ → ℕ → Variable → Row
 pair_row run position place v = Int (pos run) ∷ Int (pos position) ∷ Int (pos place) ∷ Text (utf8 v.name) ∷ Text (utf8 v.value) ∷ []
 
--- the rows of these pairs, by place from this one on
+-- `pair_rows_from run position place pairs`: the rows of `pairs`, with indexes from `place`
 abbrev pub pair_rows_from : ℕ → ℕ → ℕ → List Variable → List Row
 pair_rows_from run position place [] = []
 pair_rows_from run position place (v ∷ pairs) = pair_row run position place v ∷ pair_rows_from run position (suc place) pairs
 
--- the rows of the pairs of an entry of this run
+-- `pair_rows run e`: the rows of the pairs of entry `e` of `run`
 abbrev pub pair_rows : ℕ → Entry → List Row
 pair_rows run e = pair_rows_from run e.position 0 e.meta
 
--- the rows of the pairs of all entries of these runs
+-- `prop_rows runs`: the rows of the pairs of all entries of `runs`
 abbrev pub prop_rows : List Run → List Row
 prop_rows runs = flat_map (λ r. flat_map (pair_rows r.number) r.entries) runs
 
--- numbered from here on, by place
+-- `AreNumbered n runs`: the numbers of `runs` count from `n`
 abbrev pub AreNumbered : ℕ → List Run → Type 0
 AreNumbered n [] = ⊤
 AreNumbered n (r ∷ runs) = (r.number ≡ n) × AreNumbered (suc n) runs
 
--- characters that UTF-8 has, so that its bytes spell the text again
+-- `IsText text`: UTF-8 can represent the characters of `text`, so decoding its bytes returns `text`
 abbrev pub IsText : List ℕ → Type 0
 IsText text = (chars (utf8 text) ≡ text) × IsUtf8 (utf8 text)
 
--- a pair whose name and value are texts
+-- `IsPair v`: the name and the value of `v` are texts
 abbrev pub IsPair : Variable → Type 0
 IsPair v = IsText v.name × IsText v.value
 
--- its texts are texts, and a passed case has the empty reason
+-- `IsEntry e`: the texts of `e` are representable in UTF-8, and a passed case has an empty reason
 pub record IsEntry (e : Entry) : Type 0 where
   pub program : IsText e.program
   pub case_name : IsText e.case_name
@@ -69,7 +70,8 @@ pub record IsEntry (e : Entry) : Type 0 where
   pub passed : e.verdict.kind ≡ Passed → e.verdict.reason ≡ []
   pub meta : AllByRecursion IsPair e.meta
 
--- entries by position, none twice, all below the total; a finished run has them all
+-- `IsRun r`: the entries of `r` ascend by position without a repetition and are below its total; a
+-- finished run has all of them
 pub record IsRun (r : Run) : Type 0 where
   pub small : r.total < 4294967296
   pub ordered : IsAscending (λ (a b : Entry). a.position < b.position) r.entries
@@ -77,21 +79,22 @@ pub record IsRun (r : Run) : Type 0 where
   pub sound : AllByRecursion IsEntry r.entries
   pub whole : r.finished ≡ true → length r.entries ≡ r.total
 
--- numbered from 1 by place, each of them sound, and no more than there may be
+-- `AreRuns runs`: `runs` are numbered from 1, each of them is sound, and there are at most
+-- 1,000,000
 pub record AreRuns (runs : List Run) : Type 0 where
   pub numbered : AreNumbered 1 runs
   pub each : AllByRecursion IsRun runs
   pub few : length runs ≤ last_run
 
--- in each of these runs the entries go by position, none twice
+-- `AreOrdered runs`: the entries of each of `runs` ascend by position without a repetition
 abbrev pub AreOrdered : List Run → Type 0
 AreOrdered runs = AllByRecursion (λ (r : Run). IsAscending (λ (a b : Entry). a.position < b.position) r.entries) runs
 
--- the table of settings says this number of the schema
+-- `SaysIn n trees`: the table `meta` in `trees` has exactly the schema number `n`
 abbrev pub SaysIn : ℤ → Trees → Type 0
 SaysIn n trees = map (drop 1) (trees 0) ≡ (Text (codes "schema") ∷ Int n ∷ []) ∷ []
 
--- the database is the tables of schema 2, and their rows are exactly those of these runs
+-- `Tables db runs`: `db` has schema 2, and its rows are exactly those of `runs`
 pub record Tables (db : Database) (runs : List Run) : Type 0 where
   pub schema : db.schema ≡ schema_2
   pub marked : SaysIn (pos 2) db.trees
@@ -100,11 +103,12 @@ pub record Tables (db : Database) (runs : List Run) : Type 0 where
   pub props_are : IsPermutation (prop_rows runs) (map (drop 1) (db.trees 5))
   pub valid : AreRuns runs
 
--- no entry of these runs has a pair
+-- `HaveNoPairs runs`: no entry of `runs` has a pair
 abbrev pub HaveNoPairs : List Run → Type 0
 HaveNoPairs runs = AllByRecursion (λ (r : Run). AllByRecursion (λ (e : Entry). e.meta ≡ []) r.entries) runs
 
--- the database is the tables of schema 1, and their rows are exactly those of these runs, whose entries have no pairs
+-- `OldTables db runs`: `db` has schema 1, and its rows are exactly those of `runs`, whose entries
+-- have no pairs
 pub record OldTables (db : Database) (runs : List Run) : Type 0 where
   pub schema : db.schema ≡ schema_1
   pub marked : SaysIn (pos 1) db.trees
@@ -113,65 +117,66 @@ pub record OldTables (db : Database) (runs : List Run) : Type 0 where
   pub bare : HaveNoPairs runs
   pub valid : AreRuns runs
 
--- what a crash left opens as a database with these runs
+-- `Keeps runs trees`: `trees` are those of a database of schema 2 with `runs`
 abbrev pub Keeps : List Run → Trees → Type 0
 Keeps runs trees = (db : Database) × IsDatabase db × (trees ≡ db.trees) × Tables db runs
 
--- what a crash left opens as a database of schema 1 with these runs
+-- `KeepsOld runs trees`: `trees` are those of a database of schema 1 with `runs`
 abbrev pub KeepsOld : List Run → Trees → Type 0
 KeepsOld runs trees = (db : Database) × IsDatabase db × (trees ≡ db.trees) × OldTables db runs
 
--- what a crash left opens as a database of schema 1 or of schema 2, with these runs in both
+-- `KeepsEither runs trees`: `trees` are those of a database of schema 1 or 2 with `runs`
 abbrev pub KeepsEither : List Run → Trees → Type 0
 KeepsEither runs trees = KeepsOld runs trees ⊎ Keeps runs trees
 
--- with the runs of one of these lists
+-- `KeepsOne lists trees`: `trees` are those of a database of schema 2 with the runs of one of
+-- `lists`
 abbrev pub KeepsOne : List (List Run) → Trees → Type 0
 KeepsOne [] trees = ⊥
 KeepsOne (runs ∷ others) trees = Keeps runs trees ⊎ KeepsOne others trees
 
--- the run that begins after these: unfinished, without entries
+-- `new_run runs total started`: the run that begins after `runs`: unfinished, without entries
 abbrev pub new_run : List Run → ℕ → ℕ → Run
 new_run runs total started = record { number = suc (length runs); started = started; total = total; finished = false; entries = [] }
 
--- the run with this number
+-- `run_at runs number`: the run with `number`, if there is one
 abbrev pub run_at : List Run → ℕ → Option Run
 run_at runs zero = None
 run_at runs (suc k) = slice_get runs k
 
--- an entry among entries by position
+-- `insert_at e es`: `es`, ordered by position, with `e` inserted
 abbrev pub insert_at : Entry → List Entry → List Entry
 insert_at e [] = e ∷ []
 insert_at e (x ∷ es) = if nat_lt e.position x.position then e ∷ x ∷ es else x ∷ insert_at e es
 
--- the run with this number has one more entry
+-- `with_entry run e runs`: `runs` with `e` inserted into the run with number `run`
 abbrev pub with_entry : ℕ → Entry → List Run → List Run
 with_entry run e [] = []
 with_entry run e (r ∷ runs) = if r.number == run then record r { entries = insert_at e r.entries } ∷ runs else r ∷ with_entry run e runs
 
--- the run with this number is finished
+-- `finish run runs`: `runs` with the run with number `run` finished
 abbrev pub finish : ℕ → List Run → List Run
 finish run [] = []
 finish run (r ∷ runs) = if r.number == run then record r { finished = true } ∷ runs else r ∷ finish run runs
 
--- whether an entry has this position
+-- `has_position position es`: `true` if one of `es` has `position`
 abbrev pub has_position : ℕ → List Entry → Bool
 has_position position es = list_any (λ (e : Entry). e.position == position) es
 
--- why the run takes no such entry, in this order
+-- `put_refusal_of r e`: the first reason why run `r` rejects `e`
 abbrev pub put_refusal_of : Option Run → Entry → Option StoreFault
 put_refusal_of None e = Some NoRun
 put_refusal_of (Some r) e = if r.finished then Some RunClosed else if nat_le r.total e.position then Some BadPosition else if has_position e.position r.entries then Some RepeatedPosition else None
 
--- why these runs take no such entry
+-- `put_refusal runs run e`: the first reason why `runs` reject `e` in the run with number `run`
 abbrev pub put_refusal : List Run → ℕ → Entry → Option StoreFault
 put_refusal runs run e = put_refusal_of (run_at runs run) e
 
--- why the run does not close, in this order
+-- `finish_refusal_of r`: the first reason why run `r` can't be finished
 abbrev pub finish_refusal_of : Option Run → Option StoreFault
 finish_refusal_of None = Some NoRun
 finish_refusal_of (Some r) = if r.finished then Some RunClosed else if nat_lt (length r.entries) r.total then Some Incomplete else None
 
--- why the run with this number does not close
+-- `finish_refusal runs run`: the first reason why the run with number `run` can't be finished
 abbrev pub finish_refusal : List Run → ℕ → Option StoreFault
 finish_refusal runs run = finish_refusal_of (run_at runs run)

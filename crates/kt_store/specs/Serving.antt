@@ -1,4 +1,4 @@
--- What a call of a store does to its runs, by its answer.
+-- The effect of a store call on the runs, by its result.
 use Rattle.std.specs.Prelude.{suc, List, [], ◌∷◌, ◌++◌, ◌≡◌, ◌<◌, ◌≤◌, ◌⊎◌, Some, None, Ok, Err, length, map}
 use Rattle.kt_store.specs.Ask.{IsStoreFault}
 use Rattle.kt_store.specs.Heads.{head_at, outlined, pairs_of, outputs_of, entry_at}
@@ -8,14 +8,14 @@ use Rattle.kt_store.specs.StoreCalls.{StoreCall, Began, Put, Finished, Head, Out
 use Rattle.kt_store.specs.declared.result_store.StoreSpec as store
 use Rattle.kt_store.specs.Types.{Entry, Ghosts, HasCleanDisk, Held, NoRun, Run, StoreFull, last_run, state}
 
--- the runs after a call: one that is refused changes nothing
+-- `changed_by call runs`: the runs after `call`; a failed call changes nothing
 abbrev pub changed_by : StoreCall → List Run → List Run
 changed_by (Began total moment (Ok number)) runs = runs ++ new_run runs total moment ∷ []
 changed_by (Put number e (Ok done)) runs = with_entry number e runs
 changed_by (Finished number (Ok done)) runs = finish number runs
 changed_by _ runs = runs
 
--- a call's answer agrees with the runs before it
+-- `Agrees runs call`: the result of `call` is the one that `runs` require
 abbrev pub Agrees : List Run → StoreCall → Type 0
 Agrees runs (Began total moment (Ok number)) = (number ≡ suc (length runs)) × (length runs < last_run)
 Agrees runs (Began total moment (Err fault)) = IsStoreFault fault ⊎ ((fault ≡ StoreFull) × (last_run ≤ length runs))
@@ -33,8 +33,9 @@ Agrees runs (Outputs number position (Ok outputs)) = (e : Entry) × (entry_at (r
 Agrees runs (Outputs number position (Err fault)) = IsStoreFault fault ⊎ ((fault ≡ NoRun) × (entry_at (run_at runs number) position ≡ None))
 
 module _ {R : Type 0} (LeavesOne : R → List (List Run) → Type 0) where
-  -- after a call that was done and writes, a crash leaves only its runs; after one that was refused, what it left before or the runs with its
-  -- change; after one that reads, what it left before
+  -- `Outlasts call runs may old new`: the runs that a crash may leave after `call`. A successful
+  -- call that writes leaves only its own runs. A failed call leaves the earlier outcomes or the
+  -- changed runs. A call that reads adds nothing.
   abbrev pub Outlasts : StoreCall → List Run → List (List Run) → R → R → Type 0
   Outlasts (Began total moment (Ok number)) runs may old new = LeavesOne new ((runs ++ new_run runs total moment ∷ []) ∷ [])
   Outlasts (Began total moment (Err fault)) runs may old new = LeavesOne old (runs ∷ may) → LeavesOne new (runs ∷ (runs ++ new_run runs total moment ∷ []) ∷ may)
@@ -44,8 +45,8 @@ module _ {R : Type 0} (LeavesOne : R → List (List Run) → Type 0) where
   Outlasts (Finished number (Err fault)) runs may old new = LeavesOne old (runs ∷ may) → LeavesOne new (runs ∷ finish number runs ∷ may)
   Outlasts _ runs may old new = LeavesOne old may → LeavesOne new may
 
--- a store serves a call with this answer: whatever runs it stood for, it stands for the changed runs; if it is sound then, it was so before, and
--- the answer agrees with the runs
+-- `Serves r call old new`: if `old` represents `runs`, `new` represents the changed runs. If `new`
+-- is sound, `old` was sound, and the result of `call` agrees with the runs.
 pub record Serves {R : Type 0} (r : store.Ghosts R) (call : StoreCall) (old new : R) : Type 0 where
   pub asked : r.answers old call new
   pub stands : (runs : List Run) → r.stands old runs → r.stands new (changed_by call runs)
@@ -53,14 +54,15 @@ pub record Serves {R : Type 0} (r : store.Ghosts R) (call : StoreCall) (old new 
   pub agrees : (runs : List Run) → r.stands old runs → r.sound new → Agrees runs call
   pub crash : (runs : List Run) (may : List (List Run)) → r.stands old runs → Outlasts r.leaves call runs may old new
 
--- calls that only read: whatever runs a store stood for, it stands for them; if it is sound then, it was so before; a crash leaves only what it
--- left before
+-- `Reads r old new`: `new` represents the runs that `old` represents. If `new` is sound, `old` was
+-- sound. A crash leaves only the earlier outcomes.
 pub record Reads {R : Type 0} (r : store.Ghosts R) (old new : R) : Type 0 where
   pub stands : (runs : List Run) → r.stands old runs → r.stands new runs
   pub earlier : (runs : List Run) → r.stands old runs → r.sound new → r.sound old
   pub crash : (runs : List Run) (may : List (List Run)) → r.stands old runs → r.leaves old may → r.leaves new may
 
--- what is known of the results of a connection; what each call returns is its own clause
+-- `results g`: the specification of [`Results`] over a connection; the clauses of each call state
+-- its result
 abbrev pub results : {S : Type 0} → Ghosts S → store.Ghosts (Held S)
 results g = record {
   answers = λ _ _ _. Unit {0};

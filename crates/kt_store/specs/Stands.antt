@@ -1,4 +1,4 @@
--- When a connection stands for a list of runs.
+-- The runs that a connection represents.
 use Rattle.std.specs.Prelude.{◌≡◌, false, Ok, ℕ, List, ℤ, pos, IsTrue}
 use Rattle.sqlite_resolve.specs.declared.compiled.Compiled.{Compiled}
 use Rattle.sqlite.specs.Table.{Table}
@@ -8,41 +8,47 @@ use Rattle.kt_store.specs.Tables.{no_schema, beside_meta, runs_text, entries_tex
 use Rattle.kt_store.specs.Runs.{SaysIn, Tables, OldTables}
 use Rattle.kt_store.specs.Types.{Database, Ghosts, HasCleanDisk, Held, Run, State, Trees, state, understood}
 
--- no transaction is open, and the last commit is what is seen, with P
+-- `IsSettled P s`: no transaction is open, the last commit is the visible database, and `P` holds
+-- for it
 pub record IsSettled (P : Database → Type 0) (s : State) : Type 0 where
   pub autocommit : s.in_transaction ≡ false
   pub settled : s.committed ≡ s.now
   pub tables : P s.now
 
--- the connection is settled with P, while the disk returns what was written and the connection is open
+-- `IsSettledWhileOpen P s`: while the disk is clean and the connection is open, the connection is
+-- settled with `P`
 abbrev pub IsSettledWhileOpen : (Database → Type 0) → State → Type 0
 IsSettledWhileOpen P s = HasCleanDisk s → IsTrue s.is_open → IsSettled P s
 
--- the tables hold these runs
+-- `IsStore s runs`: no transaction is open, and the tables hold `runs`
 abbrev pub IsStore : State → List Run → Type 0
 IsStore s runs = IsSettled (λ db. Tables db runs) s
 
--- while the disk returns what was written and the connection is open, the tables stand for these runs
+-- `StandsFor s runs`: while the disk is clean and the connection is open, the tables represent
+-- `runs`
 abbrev pub StandsFor : State → List Run → Type 0
 StandsFor s runs = IsSettledWhileOpen (λ db. Tables db runs) s
 
--- what holds of the runs that the tables stood for before a call, if the disk returns what was written after it
+-- `OnRuns g old new P`: `P` holds for the runs that the tables represented before a call, if the
+-- disk is clean after the call
 abbrev pub OnRuns : {S : Type 0} → Ghosts S → Held S → Held S → (List Run → Type 0) → Type 0
 OnRuns g old new P = (runs : List Run) → StandsFor (state g old) runs → HasCleanDisk (state g new) → P runs
 
--- while the disk returns what was written and the connection is open, the tables of schema 1 stand for these runs
+-- `StandsInOld s runs`: while the disk is clean and the connection is open, the tables of schema 1
+-- represent `runs`
 abbrev pub StandsInOld : State → List Run → Type 0
 StandsInOld s runs = IsSettledWhileOpen (λ db. OldTables db runs) s
 
--- while the disk returns what was written and the connection is open, the database has no table
+-- `IsEmpty s`: while the disk is clean and the connection is open, the database has no table
 abbrev pub IsEmpty : State → Type 0
 IsEmpty s = IsSettledWhileOpen (λ db. db.schema ≡ no_schema) s
 
--- a crash at this moment leaves trees with P
+-- `Leaves s P`: a crash now leaves trees for which `P` holds
 abbrev pub Leaves : State → (Trees → Type 0) → Type 0
 Leaves s P = HasCleanDisk s → (trees : Trees) → s.may_leave trees → P trees
 
--- the first table is that of the schema's number, whatever stands beside it, and it says this number
+-- `SaysNumber n s`: the first table is that of the schema number, which is `n`; any other tables
+-- may follow
 pub record SaysNumber (n : ℤ) (s : State) : Type 0 where
   pub others : List Table
   pub indexes : List Index
@@ -50,15 +56,16 @@ pub record SaysNumber (n : ℤ) (s : State) : Type 0 where
   pub schema : s.now.schema ≡ beside_meta others indexes views
   pub marked : SaysIn n s.now.trees
 
--- while the disk returns what was written and the connection is open, the tables say this number
+-- `SaysSchema n s`: while the disk is clean and the connection is open, the schema number is `n`
 abbrev pub SaysSchema : ℤ → State → Type 0
 SaysSchema n s = HasCleanDisk s → IsTrue s.is_open → SaysNumber n s
 
--- SQLite understands this text over the tables
+-- `IsUnderstood s sql`: SQLite can prepare `sql` over the tables
 abbrev pub IsUnderstood : State → List ℕ → Type 0
 IsUnderstood s sql = (c : Compiled) × (understood s.now.schema sql ≡ Ok c)
 
--- SQLite understands the queries of a schema with this number: for runs, for entries and, from 2 on, for pairs
+-- `HasTables n s`: SQLite can prepare the queries of schema `n`: for runs, for entries and, in
+-- schema 2, for pairs
 pub record HasTables (n : ℤ) (s : State) : Type 0 where
   pub runs : IsUnderstood s runs_text
   pub entries : IsUnderstood s entries_text

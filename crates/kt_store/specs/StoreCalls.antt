@@ -1,9 +1,9 @@
--- What is asked of a store of runs, and what it answers.
+-- The calls of a store of runs, with their results.
 use Rattle.std.specs.Prelude.{ℕ, List, Option, Result, Ok, Err}
 use Rattle.kt_store.specs.Types.{CaseOutputs, Entry, RunHead, StoreFault, Variable}
 
--- a call with its answer: a run of a total begins at a moment, an entry is put, a run is finished, the head of the run with a number or of
--- the last one is read, the entries of a run without their pairs and outputs, or the pairs or the outputs of its entry at a position
+-- a call with its result: begin a run, put an entry, finish a run, read the head of a run or of the
+-- last run, read the outline of a run, or read the pairs or the outputs of its entry at a position
 pub data StoreCall : Type 0 where
   Began : (total moment : ℕ) (answer : Result ℕ StoreFault) → StoreCall
   Put : (number : ℕ) (entry : Entry) (answer : Result (Unit {0}) StoreFault) → StoreCall
@@ -13,7 +13,7 @@ pub data StoreCall : Type 0 where
   Pairs : (number position : ℕ) (answer : Result (List Variable) StoreFault) → StoreCall
   Outputs : (number position : ℕ) (answer : Result CaseOutputs StoreFault) → StoreCall
 
--- an answer, of which this is seen
+-- `seen_as see result`: `result` with `see` applied to its value
 abbrev pub seen_as : {T U : Type 0} → (T → U) → Result T StoreFault → Result U StoreFault
 seen_as see (Ok x) = Ok (see x)
 seen_as see (Err fault) = Err fault

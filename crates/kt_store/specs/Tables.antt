@@ -1,4 +1,4 @@
--- The tables as sqlite understands them.
+-- The tables of schemas 1 and 2 as SQLite represents them, and the texts of the statements.
 use Rattle.std.specs.Prelude.{true, false, [], ◌∷◌, Some, None, codes, List, ℕ, pos, Bool, slice_index_or}
 use Rattle.sqlite.specs.Collation.TheVariants.{Binary}
 use Rattle.sqlite.specs.declared.types.Value.TheVariants.{Null, Int}
@@ -17,23 +17,24 @@ use Rattle.sqlite.specs.Term.{Term, lit, col, op2}
 use Rattle.sqlite_sql.specs.declared.ops.BinaryOp.TheVariants.{Compare, And, Or}
 use Rattle.sqlite_sql.specs.declared.ops.CompareOp.TheVariants.{Eq, Ge, Le}
 
--- of a database without tables
+-- the schema of a database without tables
 abbrev pub no_schema : Schema
 no_schema = record { tables = []; indexes = []; views = [] }
 
--- the text that makes the table of the schema's number
+-- the statement that creates the table of the schema number
 abbrev pub create_meta : List ℕ
 create_meta = codes "CREATE TABLE meta (name TEXT PRIMARY KEY, value INTEGER NOT NULL) STRICT"
 
--- the text that makes the table of runs
+-- the statement that creates the table of runs
 abbrev pub create_runs : List ℕ
 create_runs = codes "CREATE TABLE runs (id INTEGER PRIMARY KEY, started INTEGER NOT NULL, total INTEGER NOT NULL, finished INTEGER NOT NULL CHECK (finished IN (0, 1))) STRICT"
 
--- the text that makes the table of entries
+-- the statement that creates the table of entries
 abbrev pub create_entries : List ℕ
 create_entries = codes "CREATE TABLE entries (run INTEGER NOT NULL REFERENCES runs (id), position INTEGER NOT NULL, program TEXT NOT NULL, case_name TEXT NOT NULL, kind INTEGER NOT NULL CHECK (kind BETWEEN 0 AND 4), reason TEXT NOT NULL, started INTEGER NOT NULL, millis INTEGER NOT NULL, body_out BLOB NOT NULL, body_err BLOB NOT NULL, clean_out BLOB NOT NULL, clean_err BLOB NOT NULL, PRIMARY KEY (run, position)) STRICT"
 
--- a column of this name and kind, which takes NULL or not
+-- `column name kind not_null`: a column with this name and kind, which rejects NULL if `not_null`
+-- is `true`
 abbrev pub column : List ℕ → Kind → Bool → Column
 column name kind not_null = record { name = name; kind = kind; is_strict = true; not_null = not_null; default = Null; collation = Binary }
 
@@ -41,16 +42,16 @@ column name kind not_null = record { name = name; kind = kind; is_strict = true;
 abbrev pub no_stamps : Stamps
 no_stamps = record { places = []; terms = []; formats = [] }
 
--- a table of these columns, without a key or a rule
+-- `bare_table name columns`: a table with these columns, without a key or a rule
 abbrev pub bare_table : List ℕ → List Column → Table
 bare_table name columns =
     record { name = name; tree = 0; columns = columns; key = None; primary = []; uniques = []; orders = []; checks = []; references = []; computed = []; stamps = no_stamps; is_counted = false }
 
--- the table of the schema's number
+-- the table of the schema number
 abbrev pub meta : Table
 meta = record (bare_table (codes "meta") (column (codes "name") Text true ∷ column (codes "value") Integer true ∷ [])) { primary = 1 ∷ []; uniques = (1 ∷ []) ∷ []; orders = plain ∷ [] }
 
--- the check that a run is finished or not
+-- the rule that the finished flag is 0 or 1
 abbrev pub finished_check : Term
 finished_check = op2 Or (op2 (Compare Eq Binary) (col 1 4) (lit (Int (pos 0)))) (op2 (Compare Eq Binary) (col 1 4) (lit (Int (pos 1))))
 
@@ -62,7 +63,7 @@ runs_columns = column (codes "id") Integer false ∷ column (codes "started") In
 abbrev pub runs : Table
 runs = record (bare_table (codes "runs") runs_columns) { key = Some 0; primary = 0 ∷ []; checks = finished_check ∷ [] }
 
--- the check that a kind is one of five
+-- the rule that a kind is 0 to 4
 abbrev pub kind_check : Term
 kind_check = op2 And (op2 (Compare Ge Binary) (col 1 5) (lit (Int (pos 0)))) (op2 (Compare Le Binary) (col 1 5) (lit (Int (pos 4))))
 
@@ -83,7 +84,7 @@ entries = record (bare_table (codes "entries") entries_columns) {
   references = record { columns = 1 ∷ []; parent = codes "runs"; parent_columns = codes "id" ∷ []; on_delete = NoAction; on_update = NoAction; is_deferred = false } ∷ [];
 }
 
--- the text that makes the table of pairs
+-- the statement that creates the table of pairs
 abbrev pub create_props : List ℕ
 create_props = codes "CREATE TABLE props (run INTEGER NOT NULL, position INTEGER NOT NULL, place INTEGER NOT NULL, name TEXT NOT NULL, value TEXT NOT NULL, PRIMARY KEY (run, position, place)) STRICT"
 
@@ -95,23 +96,23 @@ props_columns = column (codes "run") Integer true ∷ column (codes "position") 
 abbrev pub props : Table
 props = record (bare_table (codes "props") props_columns) { primary = 1 ∷ 2 ∷ 3 ∷ []; uniques = (1 ∷ 2 ∷ 3 ∷ []) ∷ []; orders = plain ∷ [] }
 
--- the index of a table's key
+-- `index_of table tree`: the index of the key of `table`, in `tree`
 abbrev pub index_of : Table → ℕ → Index
 index_of table tree = automatic table 0 (slice_index_or table.uniques 0 []) tree
 
--- the table of the schema's number in its place
+-- the table of the schema number, with its root tree
 abbrev pub meta_1 : Table
 meta_1 = record meta { tree = 0 }
 
--- the table of runs in its place
+-- the table of runs, with its root tree
 abbrev pub runs_1 : Table
 runs_1 = record runs { tree = 2 }
 
--- the table of entries in its place
+-- the table of entries, with its root tree
 abbrev pub entries_1 : Table
 entries_1 = record entries { tree = 3 }
 
--- the table of pairs in its place
+-- the table of pairs, with its root tree
 abbrev pub props_1 : Table
 props_1 = record props { tree = 5 }
 
@@ -123,50 +124,51 @@ schema_1 = record { tables = meta_1 ∷ runs_1 ∷ entries_1 ∷ []; indexes = i
 abbrev pub schema_2 : Schema
 schema_2 = record { tables = meta_1 ∷ runs_1 ∷ entries_1 ∷ props_1 ∷ []; indexes = index_of meta_1 1 ∷ index_of entries_1 4 ∷ index_of props_1 6 ∷ []; views = [] }
 
--- a schema whose first table is that of the schema's number, whatever stands beside it
+-- `beside_meta others indexes views`: a schema with the table of the schema number first, then
+-- `others`
 abbrev pub beside_meta : List Table → List Index → List View → Schema
 beside_meta others indexes views = record { tables = meta_1 ∷ others; indexes = indexes; views = views }
 
--- a new run
+-- the statement that inserts a run
 abbrev pub begin_text : List ℕ
 begin_text = codes "INSERT INTO runs (started, total, finished) VALUES (?1, ?2, 0)"
 
--- the total of a run, and whether it is finished
+-- the query for the total and the finished flag of a run
 abbrev pub run_text : List ℕ
 run_text = codes "SELECT total, finished FROM runs WHERE id = ?1"
 
--- a run is finished
+-- the statement that marks a run as finished
 abbrev pub finish_text : List ℕ
 finish_text = codes "UPDATE runs SET finished = 1 WHERE id = ?1"
 
--- all runs by number
+-- the query for all runs, ordered by number
 abbrev pub runs_text : List ℕ
 runs_text = codes "SELECT id, started, total, finished FROM runs ORDER BY id"
 
--- whether a run has an entry at a position
+-- the query for the entry of a run at a position
 abbrev pub there_text : List ℕ
 there_text = codes "SELECT position FROM entries WHERE run = ?1 AND position = ?2 ORDER BY position"
 
--- a new entry
+-- the statement that inserts an entry
 abbrev pub put_text : List ℕ
 put_text = codes "INSERT INTO entries (run, position, program, case_name, kind, reason, started, millis, body_out, body_err, clean_out, clean_err) VALUES (?1, ?2, ?3, ?4, ?5, ?6, ?7, ?8, ?9, ?10, ?11, ?12)"
 
--- the entries of a run by position
+-- the query for the entries of a run, ordered by position
 abbrev pub entries_text : List ℕ
 entries_text = codes "SELECT position, program, case_name, kind, reason, started, millis, body_out, body_err, clean_out, clean_err FROM entries WHERE run = ?1 ORDER BY position"
 
--- the pairs of the entry of a run at a position, by place
+-- the query for the pairs of the entry of a run at a position, in their order
 abbrev pub pairs_text : List ℕ
 pairs_text = codes "SELECT name, value FROM props WHERE run = ?1 AND position = ?2 ORDER BY place"
 
--- the schema's number
+-- the query for the schema number
 abbrev pub meta_text : List ℕ
 meta_text = codes "SELECT value FROM meta WHERE name = 'schema'"
 
--- the schema's number is set
+-- the statement that inserts the schema number 2
 abbrev pub mark_text : List ℕ
 mark_text = codes "INSERT INTO meta (name, value) VALUES ('schema', 2)"
 
--- the schema's number is set anew
+-- the statement that updates the schema number to 2
 abbrev pub raise_text : List ℕ
 raise_text = codes "UPDATE meta SET value = 2 WHERE name = 'schema'"

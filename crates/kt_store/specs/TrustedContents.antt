@@ -1,4 +1,4 @@
--- What is supposed of files that list the tables of results.
+-- The assumption on files that list the tables of results.
 use Rattle.std.specs.Prelude.{◌≡◌, ℕ, pos, List, [], ◌∷◌, map, codes}
 use Rattle.sqlite_pool.specs.File.{in_use}
 use Rattle.sqlite_store.specs.Db.{rows_at}
@@ -8,30 +8,32 @@ use Rattle.kt_store.specs.Runs.{Keeps}
 use Rattle.kt_store.specs.Tables.{create_meta, create_runs, create_entries, create_props}
 use Rattle.kt_store.specs.Types.{HoldsDatabase, Image, Int, Null, PageMap, Recovers, Row, Run, Text, Trees}
 
--- a table in the list of objects, less its root page: its rowid, type, name, table and text
+-- `table_object id name sql`: a table in the schema list, without its root page: rowid, type, name,
+-- table and text
 abbrev pub table_object : ℕ → List ℕ → List ℕ → Row
 table_object id name sql = Int (pos id) ∷ Text (codes "table") ∷ Text name ∷ Text name ∷ Text sql ∷ []
 
--- the index of a table's key there, which has no text
+-- `key_object id name table`: the index of the key of `table` in the schema list, which has no text
 abbrev pub key_object : ℕ → List ℕ → List ℕ → Row
 key_object id name table = Int (pos id) ∷ Text (codes "index") ∷ Text name ∷ Text table ∷ Null ∷ []
 
--- the objects of schema 2
+-- the schema list of schema 2, without root pages
 abbrev pub objects_2 : List Row
 objects_2 =
     table_object 1 (codes "meta") create_meta ∷ key_object 2 (codes "sqlite_autoindex_meta_1") (codes "meta") ∷ table_object 3 (codes "runs") create_runs
     ∷ table_object 4 (codes "entries") create_entries ∷ key_object 5 (codes "sqlite_autoindex_entries_1") (codes "entries") ∷ table_object 6 (codes "props") create_props
     ∷ key_object 7 (codes "sqlite_autoindex_props_1") (codes "props") ∷ []
 
--- these pages list the objects of schema 2, and no other
+-- `ListsObjects size pages`: the schema list in `pages` is that of schema 2
 abbrev pub ListsObjects : ℕ → PageMap → Type 0
 ListsObjects size pages = map unrooted (rows_at size (in_use size pages) Table 1) ≡ objects_2
 
--- files recover to such pages
+-- `ListsTables image`: the files recover to pages that list the tables of schema 2
 abbrev pub ListsTables : Image → Type 0
 ListsTables image = (size : ℕ) × (pages : PageMap) × Recovers size image pages × ListsObjects size pages
 
--- files that list them hold runs; of any other files nothing is said
+-- `IsOfRuns image`: if the files list the tables of schema 2, they hold a database with runs;
+-- nothing is assumed of other files
 abbrev pub IsOfRuns : Image → Type 0
 IsOfRuns image = (size : ℕ) (pages : PageMap) → Recovers size image pages → ListsObjects size pages
     → (runs : List Run) × (db : Trees) × HoldsDatabase image db × Keeps runs db

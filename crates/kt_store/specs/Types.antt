@@ -1,4 +1,4 @@
--- The types and words that the definitions of this crate name, passed on from one place. Declares nothing.
+-- Re-exports of the types and names that this crate's definitions use. Declares nothing.
 pub use Rattle.std.specs.List.{AllByRecursion, find, list_any}
 pub use Rattle.kt_base.specs.Limits.{last_run}
 pub use Rattle.kt_base.specs.Utf8.{utf8}

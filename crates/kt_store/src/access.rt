@@ -1,15 +1,15 @@
-/// What the results in a file are opened for.
+/// A purpose of opening a results file.
 #[derive(Clone, Copy)]
 pub enum Access {
-    /// A run is added. A file is made where there is none.
+    /// To add a run. The file is created if it doesn't exist.
     Record,
-    /// Runs are shown, and nothing is added.
+    /// To show runs. Nothing is added.
     Read,
 }
 
 impl Access {
-    /// Returns how many pages of the file are kept in memory. To record, that is somewhat more than an output of 1 MiB
-    /// takes. To read, that is few, since most pages are read once.
+    /// Returns the number of pages of the file that are cached in memory. 1,100 pages hold an
+    /// output of 1 MiB. A reader needs few, since most pages are read once.
     pub fn pages(self) -> usize {
         match self {
             Access::Record => 1_100,

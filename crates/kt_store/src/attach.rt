@@ -7,7 +7,7 @@ use crate::statements::{ask, probe, value_in};
 use crate::store_fault::StoreFailure;
 use sqlite::{Alter, Connection};
 
-// The texts of the tables (docs/formats/store.md).
+// The statements that create the tables (docs/formats/store.md).
 
 pub const CREATE_META: &str =
     "CREATE TABLE meta (name TEXT PRIMARY KEY, value INTEGER NOT NULL) STRICT";
@@ -29,7 +29,7 @@ pub fn lives<S: Alter>(conn: &Connection<S>)
     let _ = conn.schema();
 }
 
-/// Creates the tables in an empty database, in one commit.
+/// Creates the tables in a database without tables, in one commit.
 pub(crate) fn create<S: Alter>(conn: &mut Connection<S>) -> Result<(), StoreFault>
     ensures taken { IsOf Blank (state S.Store conn.old)
         → OnOk result (TakesTables Blank (state S.Store conn.old) (state S.Store conn.new)) }
@@ -56,7 +56,7 @@ pub(crate) fn is_blank<S: Alter>(conn: &Connection<S>) -> bool
     conn.schema().tables.len() == 0
 }
 
-/// Reads the number of the schema from the table `meta`.
+/// Reads the schema number from the table `meta`. Fails with `UnknownSchema` if there is none.
 pub(crate) fn schema_number<S: Alter>(conn: &mut Connection<S>) -> Result<i64, StoreFault>
     ensures asks { AsksNumber S.Store conn.old conn.new }
     ensures same { OnOk result (LeavesSchema S.Store conn.old conn.new) }
@@ -77,8 +77,8 @@ pub(crate) fn schema_number<S: Alter>(conn: &mut Connection<S>) -> Result<i64, S
     Ok(number)
 }
 
-/// Checks that SQLite can prepare the queries of a store: for runs, for entries and, unless the tables are those of
-/// schema 1, for pairs.
+/// Checks that SQLite can prepare the queries of a store: for runs, for entries and, if `old` is
+/// `false`, for pairs. Schema 1 has no table of pairs.
 pub(crate) fn find_tables<S: Alter>(conn: &mut Connection<S>, old: bool) -> Result<(), StoreFailure>
     ensures same { HasCleanDisk (state S.Store conn.new)
         → OnOk result (IsUnchanged (state S.Store conn.old) (state S.Store conn.new)) }
@@ -108,8 +108,8 @@ pub(crate) fn find_tables<S: Alter>(conn: &mut Connection<S>, old: bool) -> Resu
     Ok(())
 }
 
-/// Returns `true` if the tables are those of schema 1. Fails for any number but 1 and 2, and for tables that can't be
-/// read.
+/// Returns `true` if the tables have schema 1. Fails if the schema number is neither 1 nor 2, or if
+/// the tables can't be queried.
 pub(crate) fn is_old<S: Alter>(conn: &mut Connection<S>) -> Result<bool, StoreFault>
     ensures asks { AsksNumber S.Store conn.old conn.new }
     ensures same { OnOk result (LeavesSchema S.Store conn.old conn.new) }
@@ -147,7 +147,7 @@ pub(crate) fn migrate<S: Alter>(conn: &mut Connection<S>) -> Result<(), StoreFau
     Ok(commit(conn, &Texts { texts: &raises })?)
 }
 
-/// Accepts the tables of a database that has some. Tables of schema 1 are migrated to schema 2.
+/// Checks the tables of a database that has tables, and migrates schema 1 to schema 2.
 pub(crate) fn take<S: Alter>(conn: &mut Connection<S>) -> Result<(), StoreFault>
     ensures taken { (was : _) → HasNumber was → IsOf was (state S.Store conn.old)
         → OnOk result (TakesTables was (state S.Store conn.old) (state S.Store conn.new)) }
@@ -163,7 +163,8 @@ pub(crate) fn take<S: Alter>(conn: &mut Connection<S>) -> Result<(), StoreFault>
     Ok(())
 }
 
-/// Creates the tables in an empty database, or accepts those that are there.
+/// Creates the tables in a database without tables. In any other, checks and migrates the present
+/// tables.
 pub(crate) fn create_or_adopt_tables<S: Alter>(conn: &mut Connection<S>) -> Result<(), StoreFault>
     ensures taken { (was : _) → IsOf was (state S.Store conn.old)
         → OnOk result (TakesTables was (state S.Store conn.old) (state S.Store conn.new)) }

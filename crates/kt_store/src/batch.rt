@@ -5,18 +5,18 @@ use crate::statements::step;
 use crate::store_fault::{FAULTY, StoreFailure};
 use sqlite::{Alter, Connection, Transaction};
 
-/// Statements that are run one after the other, in one commit.
+/// An interface to statements that are run in turn and committed together.
 pub(crate) trait Batch {
     ghost use Rattle.std.specs.Prelude.{List, ◌≡◌, OnOk};
     ghost use Rattle.kt_store.specs.Common.{Statement, CommitsLater, RunsAll};
 
-    /// The statements, each with its parameters.
+    /// The statements with their parameters.
     ghost statements: { Self → List Statement };
 
-    /// Whether their numbers are such as SQL takes.
+    /// The condition under which SQL accepts their parameters.
     ghost is_ready: { Self → Type 0 };
 
-    /// Runs them inside a transaction.
+    /// Executes the statements inside a transaction, without committing.
     fn fill<S: Alter>(&self, tx: &mut Transaction<'_, S>) -> Result<(), StoreFailure>
         requires { is_ready self.now }
         ensures same_reference { tx.new.conn.ghost_name ≡ tx.old.conn.ghost_name }
@@ -25,7 +25,7 @@ pub(crate) trait Batch {
         ensures uncommitted { CommitsLater S.Store tx.old.conn.now tx.new.conn.now };
 }
 
-/// Texts of SQL without parameters.
+/// A batch of SQL texts without parameters.
 #[derive(Clone, Copy)]
 pub(crate) struct Texts<'a> {
     pub(crate) texts: &'a [&'a str],
@@ -47,7 +47,7 @@ impl Batch for Texts<'_> {
     }
 }
 
-/// Runs statements in one transaction and commits them. Fails if the connection is in a transaction.
+/// Executes a batch in a new transaction and commits it. Fails if a transaction is open.
 pub(crate) fn commit<S: Alter, B: Batch>(
     conn: &mut Connection<S>,
     batch: &B,

@@ -3,9 +3,9 @@ ghost use Rattle.kt_store.specs.Common.{Run, Held, state, Survives, Keeps, Keeps
 
 use sqlite::Alter;
 
-/// The law of crashes, which joins what the calls of a store say of them. Behind a call that was
-/// done a crash leaves its runs; each later call that may write adds the runs with its own change
-/// to what a crash may leave, and a query adds nothing.
+/// Theorem: the crash clauses of a store's calls compose. After a successful call, a crash leaves
+/// that call's runs. A later call that writes adds its own result to the possible outcomes. A query
+/// adds nothing.
 pub fn theorem_of_crashes<S: Alter>()
     ensures done { (s : Held S) (runs : List Run) → Leaves (state S.Store s) (Keeps runs)
         → Leaves (state S.Store s) (KeepsOne (runs ∷ [])) }

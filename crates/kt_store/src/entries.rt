@@ -12,7 +12,7 @@ use kt_base::Entry;
 use sqlite::{Alter, Connection, Row};
 use std::alloc::Global;
 
-/// Reads the rows of a run's entries, by position.
+/// Reads the rows of a run's entries, ordered by position.
 pub(crate) fn entry_rows<S: Alter>(
     conn: &mut Connection<S>,
     run: u32,
@@ -32,7 +32,7 @@ pub(crate) fn entry_rows<S: Alter>(
     )
 }
 
-/// Reads the rows of the pairs of the entry of a run at a position, in their order.
+/// Reads the rows of the pairs of one entry, in their stored order.
 fn pair_rows<S: Alter>(
     conn: &mut Connection<S>,
     run: u32,
@@ -52,7 +52,7 @@ fn pair_rows<S: Alter>(
     )
 }
 
-/// Reads the entry of a run from its row, with its pairs.
+/// Reads an entry from its row, and its pairs from the table of pairs.
 fn entry_of<S: Alter>(
     conn: &mut Connection<S>,
     alloc: Global,
@@ -71,7 +71,7 @@ fn entry_of<S: Alter>(
     entry_in(alloc, row, meta)
 }
 
-/// Reads the entries of a run from their rows, with their pairs.
+/// Reads entries from their rows, and their pairs from the table of pairs.
 fn entries_in<S: Alter>(
     conn: &mut Connection<S>,
     alloc: Global,
@@ -92,7 +92,8 @@ fn entries_in<S: Alter>(
     Ok(entries)
 }
 
-/// Reads the entries of a run with their pairs and outputs, by position. `NoRun` if no run has the number.
+/// Reads the entries of a run with their pairs and outputs, ordered by position. Fails with `NoRun`
+/// if no run has the number.
 pub(crate) fn all_entries<S: Alter>(
     conn: &mut Connection<S>,
     alloc: Global,

@@ -11,7 +11,11 @@ use kt_base::NoMemory;
 use sqlite::{Alter, Connection, Row};
 use std::alloc::Global;
 
-/// Appends an item.
+/// Appends an item to a vector.
+///
+/// # Errors
+///
+/// - `NoMemory`: the allocation failed.
 pub fn add<T: Drop>(items: &mut Vec<T>, item: T) -> Result<(), NoMemory>
     ensures added { OnOk result (items.new.items ≡ items.old.items ++ item ∷ []) }
 {
@@ -20,6 +24,11 @@ pub fn add<T: Drop>(items: &mut Vec<T>, item: T) -> Result<(), NoMemory>
 }
 
 /// Reads the head of a run from its row.
+///
+/// # Errors
+///
+/// - `NoMemory`: an allocation failed.
+/// - `Failed`: a column isn't a number in range.
 pub fn head_in(row: &Row) -> Result<RunHead, StoreFailure>
     requires { 4 ≤ length row.now }
     ensures head { (r : Stored) → row.now ≡ head_columns r → IfOk result (λ h. h ≡ head_of r) }
@@ -36,7 +45,12 @@ pub fn head_in(row: &Row) -> Result<RunHead, StoreFailure>
     })
 }
 
-/// Reads the heads of runs in their rows. The rows are damaged if they are not numbered from 1.
+/// Reads the heads of runs from their rows.
+///
+/// # Errors
+///
+/// - `NoMemory`: an allocation failed.
+/// - `Failed`: a column isn't a number in range, or the runs are not numbered from 1.
 pub fn heads_in(alloc: Global, rows: &[Row]) -> Result<Vec<RunHead>, StoreFailure>
     requires { AreWide 4 rows.now }
     ensures heads { (runs : List Stored) → rows.now ≡ map head_columns runs
@@ -52,7 +66,7 @@ pub fn heads_in(alloc: Global, rows: &[Row]) -> Result<Vec<RunHead>, StoreFailur
     Ok(heads)
 }
 
-/// Reads the heads of all runs, by number.
+/// Reads the heads of all runs, ordered by number.
 pub(crate) fn all_heads<S: Alter>(
     conn: &mut Connection<S>,
     alloc: Global,
@@ -71,7 +85,7 @@ pub(crate) fn all_heads<S: Alter>(
     heads_in(alloc, &rows)
 }
 
-/// Returns the first head with the number.
+/// Returns the first head with this number.
 fn head_numbered(heads: &[RunHead], number: u64) -> Option<&RunHead>
     ensures found { option_copied result ≡ find (λ (head : Head). head.number == number)
         heads.now }
@@ -80,7 +94,7 @@ fn head_numbered(heads: &[RunHead], number: u64) -> Option<&RunHead>
     heads.iter().find(|head| head.number == number)
 }
 
-/// Returns the first head with the number, or, if `number` is `None`, with the number of heads as its number.
+/// Returns the first head with this number, or of the last run if `number` is `None`.
 pub(crate) fn head_among(heads: &[RunHead], number: Option<u64>) -> Option<RunHead>
     ensures found { result ≡ find (λ (head : Head). head.number == unwrap_or number
         (length heads.now)) heads.now }

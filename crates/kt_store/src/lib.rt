@@ -1,4 +1,4 @@
-//! The results store: the runs that are kept in the tables of a database.
+//! The results store: runs in the tables of a database.
 #![tactic(auto)]
 
 mod access;

@@ -7,10 +7,10 @@ use crate::store_fault::StoreFailure;
 use crate::value::int;
 use sqlite::{Alter, Connection};
 
-/// How many runs this profile keeps.
+/// The maximum number of runs in a store (this profile).
 pub const MOST_RUNS: u32 = 1_000_000;
 
-/// Reads the total of a run, and 1 if it is finished.
+/// Reads the total of a run and its finished flag, which is 1 for a finished run.
 pub(crate) fn find<S: Alter>(
     conn: &mut Connection<S>,
     run: u32,
@@ -35,7 +35,8 @@ pub(crate) fn find<S: Alter>(
     Ok(Some((total, finished)))
 }
 
-/// Returns the number of a run as the tables store it. Returns 0, which no run has, for a number above 1,000,000.
+/// Returns the key of a run in the tables. The key of a number above 1,000,000 is 0, which no run
+/// has.
 pub fn key(run: u64) -> u32
     ensures low { result ≤ last_run }
     ensures same { run ≤ last_run → result ≡ run }
@@ -48,7 +49,8 @@ pub fn key(run: u64) -> u32
     }
 }
 
-/// Returns the total of a run and whether it is finished. `NoRun` if no run has the number.
+/// Returns the total of a run, and `true` if it is finished. Fails with `NoRun` if no run has the
+/// number.
 pub(crate) fn look<S: Alter>(conn: &mut Connection<S>, run: u64) -> Result<(u64, bool), StoreFault>
     ensures small { OnOk result (run ≤ last_run) }
     ensures looked { Looked S.Store conn.old conn.new }

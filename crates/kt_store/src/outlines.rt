@@ -35,6 +35,11 @@ fn property_from_row(row: &Row) -> Result<Variable, StoreFailure>
 }
 
 /// Reads pairs from their rows.
+///
+/// # Errors
+///
+/// - `NoMemory`: an allocation failed.
+/// - `Failed`: a column isn't a text.
 pub fn pairs_in(alloc: Global, rows: &[Row]) -> Result<Variables, StoreFailure>
     requires { AreWide 2 rows.now }
     ensures { (vs : List StoredPair) → AllByRecursion IsPair vs → rows.now ≡ map pair_columns vs
@@ -47,7 +52,7 @@ pub fn pairs_in(alloc: Global, rows: &[Row]) -> Result<Variables, StoreFailure>
     Ok(pairs)
 }
 
-/// Returns the output of a case that printed nothing.
+/// Returns an output with two empty streams. Allocates nothing.
 pub fn no_output(alloc: Global) -> Output
     ensures { result ≡ no_output }
 {
@@ -66,7 +71,7 @@ fn bytes_in(row: &Row, at: usize) -> Result<Bytes, StoreFailure>
     Ok(Bytes::from_vec(items))
 }
 
-/// Reads an output from two columns of a row.
+/// Reads an output from the columns `out` and `err` of a row.
 fn output_in(row: &Row, out: usize, err: usize) -> Result<Output, StoreFailure>
     requires { (out < length row.now) × (err < length row.now) }
     ensures output { (o : Pair) → column row.now out ≡ Blob o.out → column row.now err ≡ Blob o.err
@@ -105,6 +110,11 @@ fn bare_in(alloc: Global, row: &Row) -> Result<Entry, StoreFailure>
 }
 
 /// Reads entries without their pairs and outputs from their rows.
+///
+/// # Errors
+///
+/// - `NoMemory`: an allocation failed.
+/// - `Failed`: a column has a wrong type or range, or the kind isn't 0 to 4.
 pub fn outline_in(alloc: Global, rows: &[Row]) -> Result<Vec<Entry>, StoreFailure>
     requires { AreWide 7 rows.now }
     ensures { (es : List Stored) → AllByRecursion IsEntry es → rows.now ≡ map entry_columns es
@@ -118,7 +128,7 @@ pub fn outline_in(alloc: Global, rows: &[Row]) -> Result<Vec<Entry>, StoreFailur
     Ok(entries)
 }
 
-/// Reads an entry with its outputs from its row, and gives it these pairs.
+/// Reads an entry with its outputs from its row, and sets its pairs to `meta`.
 pub(crate) fn entry_in(alloc: Global, row: &Row, meta: Variables) -> Result<Entry, StoreFailure>
     requires { 11 ≤ length row.now }
     ensures { (e : Stored) → IsEntry e → row.now ≡ whole_columns e → meta ≡ e.meta

@@ -11,7 +11,11 @@ use kt_base::{Entry, NoMemory, Text, Variable};
 use sqlite::{Alter, Connection, Transaction};
 use std::alloc::Global;
 
-/// Returns the text of an entry's reason.
+/// Returns the reason of an entry as a text.
+///
+/// # Errors
+///
+/// - `NoMemory`: the allocation failed.
 pub fn reason_of(alloc: Global, entry: &Entry) -> Result<Text, NoMemory>
     ensures text { IfOk result (λ t. t ≡ entry.now.verdict.reason) }
     ensures passed { OnOk result (IsBareIfPassed entry.now) }
@@ -21,7 +25,8 @@ pub fn reason_of(alloc: Global, entry: &Entry) -> Result<Text, NoMemory>
     Ok(reason)
 }
 
-/// Adds the pair at an index among the pairs of an entry, inside a transaction.
+/// Inserts one pair of an entry, inside a transaction. `place` is its index among the entry's
+/// pairs.
 fn add_pair<S: Alter>(
     tx: &mut Transaction<'_, S>,
     run: u32,
@@ -48,7 +53,7 @@ fn add_pair<S: Alter>(
     )
 }
 
-/// Adds the pairs of an entry, inside a transaction.
+/// Inserts the pairs of an entry, inside a transaction.
 fn add_pairs<S: Alter>(
     tx: &mut Transaction<'_, S>,
     run: u32,
@@ -68,7 +73,7 @@ fn add_pairs<S: Alter>(
     Ok(())
 }
 
-/// Adds an entry and its pairs, inside a transaction.
+/// Inserts an entry and its pairs, inside a transaction.
 pub(crate) fn fill<S: Alter>(
     tx: &mut Transaction<'_, S>,
     run: u32,
@@ -103,7 +108,7 @@ pub(crate) fn fill<S: Alter>(
     add_pairs(tx, run, entry.position, entry.meta.as_slice())
 }
 
-/// An entry that is put into a run, with the text of its reason.
+/// A batch that inserts an entry and its pairs into a run.
 #[derive(Clone, Copy)]
 pub(crate) struct NewEntry<'a> {
     run: u32,
@@ -124,7 +129,8 @@ impl Batch for NewEntry<'_> {
     }
 }
 
-/// Adds an entry and its pairs to a run that is there, where the run takes it, in one commit.
+/// Inserts an entry and its pairs into a run, in one commit. The caller has checked that the run
+/// accepts the entry.
 pub(crate) fn add_entry<S: Alter>(
     conn: &mut Connection<S>,
     run: u32,
@@ -142,7 +148,8 @@ pub(crate) fn add_entry<S: Alter>(
     commit(conn, &NewEntry { run, entry, reason })
 }
 
-/// Checks that the run accepts the entry.
+/// Checks that a run accepts an entry. Fails with the first of `NoRun`, `RunClosed`, `BadPosition`
+/// and `RepeatedPosition` that applies.
 pub(crate) fn check<S: Alter>(
     conn: &mut Connection<S>,
     run: u64,

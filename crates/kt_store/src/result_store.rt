@@ -4,58 +4,60 @@ use kt_base::{Entry, Output, Variables};
 /// A run without its entries.
 #[derive(Clone, Copy)]
 pub struct RunHead {
-    /// Counted from 1.
+    /// The number of the run, from 1.
     pub number: u64,
-    /// In milliseconds since 1970 in UTC.
+    /// The start of the run, in milliseconds since 1970-01-01 UTC.
     pub started: u64,
-    /// How many cases were selected.
+    /// The number of selected cases.
     pub total: u32,
-    /// Whether all of them are recorded and the run is closed.
+    /// `true` if all of them are recorded and the run is closed.
     pub finished: bool,
 }
 
-/// What is kept of the outputs of a test case.
+/// The outputs of a test case's body and cleanup.
 #[derive(Drop)]
 pub struct CaseOutputs {
     pub body: Output,
     pub cleanup: Output,
 }
 
-/// What is known of a store, for contracts alone: which runs it stands for, and what a crash leaves of them.
+/// Specification of a store: the runs that it represents, and the runs that a crash may leave.
 pub trait StoreSpec {
     ghost use Rattle.std.specs.Prelude.{List};
     ghost use Rattle.kt_base.specs.declared.entry.Run.{Run};
     ghost use Rattle.kt_store.specs.Runs.{AreNumbered, AreOrdered};
     ghost use Rattle.kt_store.specs.StoreCalls.{StoreCall};
 
-    /// Whether a call with its answer leads from the first state to the second, whatever the store gives back later.
+    /// A call with its result may lead from the first state to the second, even if the store
+    /// returns wrong data later.
     ghost answers: { Self → StoreCall → Self → Type 0 };
 
-    /// Whether the store stands for these runs.
+    /// The store represents these runs.
     ghost stands: { Self → List Run → Type 0 };
 
-    /// Whether the store has given back what was written, so far.
+    /// The store has returned exactly the data that was written, so far.
     ghost sound: { Self → Type 0 };
 
-    /// Whether a crash at this moment leaves one of these lists of runs, whatever it leaves.
+    /// A crash now leaves one of these lists of runs.
     ghost leaves: { Self → List (List Run) → Type 0 };
 
-    /// A run's number is its place, counted from 1.
+    /// A run's number is its index plus 1.
     ghost numbered: { (s : Self) (runs : List Run) → Self.stands s runs → AreNumbered 1 runs };
 
-    /// The entries of a run go by position, none twice, while the store is sound.
+    /// While the store is sound, the entries of a run ascend by position without a repetition.
     ghost ordered: { (s : Self) (runs : List Run) → Self.stands s runs → Self.sound s
         → AreOrdered runs };
 }
 
-/// Where runs are recorded. Each call's refusals come in a stated order and change nothing; `NoMemory` and `Store` come
-/// where memory or the store itself failed. What was read is right while the store is sound.
+/// An interface to recorded runs. A call that fails changes nothing. Besides the listed errors,
+/// each call can fail with `NoMemory` (memory ran out) and `Store` (the database failed). While the
+/// store is sound, the returned data is correct.
 pub trait ResultStore: StoreSpec {
     ghost use Rattle.std.specs.Prelude.{IfErr, IfOk, IfSome};
     ghost use Rattle.kt_store.specs.Common.{IsMoment, IsNumbered, IsStorable, IsStoreFault, Serves, Began, Put, Finished, Head, Outline, Pairs, Outputs, seen_as};
 
-    /// Adds an unfinished run of `total` cases, and returns its number. `moment` is its start, in milliseconds since
-    /// 1970-01-01 UTC.
+    /// Adds an unfinished run of `total` cases, and returns its number. `moment` is its start, in
+    /// milliseconds since 1970-01-01 UTC.
     ///
     /// # Errors
     ///
@@ -64,8 +66,8 @@ pub trait ResultStore: StoreSpec {
         requires { IsMoment moment }
         ensures { Serves Self.StoreSpec (Began total moment result) self.old self.new };
 
-    /// Adds an entry and its pairs to a run. Timestamps and durations are in milliseconds, up to the end of the year
-    /// 9999.
+    /// Adds an entry and its pairs to a run. Timestamps and durations are in milliseconds, up to
+    /// the end of the year 9999.
     ///
     /// # Errors
     ///
@@ -91,14 +93,20 @@ pub trait ResultStore: StoreSpec {
     fn finish(&mut self, run: u64) -> Result<(), StoreFault>
         ensures { Serves Self.StoreSpec (Finished run result) self.old self.new };
 
-    /// Returns the head of a run, or of the last run if `number` is `None`. Returns `None` if there is no such run.
+    /// Returns the head of a run, or of the last run if `number` is `None`. Returns `None` if there
+    /// is no such run.
+    ///
+    /// # Errors
+    ///
+    /// - `NoMemory`: memory ran out.
+    /// - `Store`: the database failed.
     fn head(&mut self, number: Option<u64>) -> Result<Option<RunHead>, StoreFault>
         ensures served { Serves Self.StoreSpec (Head number result) self.old self.new }
-        // Even if the store doesn't give back what was written, no run has the number of another.
+        // Holds even if the store returns wrong data: the returned head has the requested number.
         ensures numbered { IfOk result (λ found. IfSome found (IsNumbered number)) }
         ensures failed { IfErr result IsStoreFault };
 
-    /// Returns the entries of a run without their pairs and outputs, by position. A reason comes back as its text.
+    /// Returns the entries of a run without their pairs and outputs, ordered by position.
     ///
     /// # Errors
     ///
@@ -107,8 +115,13 @@ pub trait ResultStore: StoreSpec {
         ensures { Serves Self.StoreSpec (Outline run (seen_as (λ found. found.items) result))
             self.old self.new };
 
-    /// Returns the pairs of the entry of a run at a position, in their order. Returns none if the run has no such
-    /// entry.
+    /// Returns the pairs of the entry of a run at a position, in their order. Returns no pairs if
+    /// the run has no such entry.
+    ///
+    /// # Errors
+    ///
+    /// - `NoMemory`: memory ran out.
+    /// - `Store`: the database failed.
     fn pairs(&mut self, run: u64, position: u32) -> Result<Variables, StoreFault>
         ensures { Serves Self.StoreSpec (Pairs run position result) self.old self.new };
 

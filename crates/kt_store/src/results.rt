@@ -10,9 +10,11 @@ use sqlite::{Alter, Connection};
 use std::alloc::Global;
 use std::marker::Model;
 
-/// The runs that are kept in the tables of a database (docs/formats/store.md). The program attaches a file that does not
-/// list the tables of schema 2, as a new file or one of schema 1, and then reads and writes it as a `RunsFile` (kt_dbfile).
-/// A contract sees the connection; what is said of it holds while the disk returns what was written, nobody else writes the
+/// The runs in the tables of a database (docs/formats/store.md).
+///
+/// The program attaches a file whose tables don't have schema 2: a new file or one of schema 1. It
+/// then reads and writes the file as a `RunsFile` (kt_dbfile). Contracts see the connection. The
+/// clauses hold while the disk returns the data that was written, no other process writes the
 /// database, and the connection is open.
 #[derive(Drop)]
 pub struct Results<S: Alter> {
@@ -34,15 +36,17 @@ impl<S: Alter> Results<S> {
     ghost use Rattle.std.specs.Prelude.{◌≡◌, ◌⊎◌, Some, None, IfOk, IfErr, IfSome, map};
     ghost use Rattle.kt_store.specs.Common.{OnRuns, state, CountFrom, IsMoment, IsNumbered, IsStorable, IsStoreFault, IsOf, TakesTables, Refuses, Reads, Serves, Began, Put, Finished, Head, head_of, results, run_at};
 
-    /// Accepts the tables of a database. Creates them in an empty one, and migrates schema 1 to schema 2, each in one
-    /// commit.
+    /// Creates the tables in a database without tables, or migrates schema 1 to schema 2, each in
+    /// one commit.
     ///
     /// # Errors
     ///
-    /// The connection comes back. Nothing is promised of a database with other tables.
+    /// The error is returned with the connection. The clauses don't cover a database with other
+    /// tables.
     ///
-    /// - `UnknownSchema`: the tables say a number other than 1 and 2.
-    /// - `Store`: a statement failed, or the tables must be created or migrated inside a transaction.
+    /// - `UnknownSchema`: the schema number is missing or neither 1 nor 2.
+    /// - `Store`: a statement failed, or the tables must be created or migrated inside a
+    ///   transaction.
     /// - `NoMemory`: memory ran out.
     pub fn attach(
         alloc: Global,
@@ -52,7 +56,7 @@ impl<S: Alter> Results<S> {
             → IfOk result (λ r. TakesTables was (state S.Store connection) (state S.Store r)) }
         ensures refused { (was : _) → IsOf was (state S.Store connection)
             → IfErr result (λ e. Refuses was (state S.Store connection) (state S.Store e.1) e.0) }
-        // Of any database.
+        // Holds for any database.
         ensures due { IfErr result (λ e. IsStoreFault e.0 ⊎ (e.0 ≡ StoreFault.UnknownSchema)) }
     {
         let mut conn = connection;
@@ -62,7 +66,7 @@ impl<S: Alter> Results<S> {
         }
     }
 
-    /// Returns the connection and its allocator.
+    /// Returns the allocator and the connection.
     pub fn into_parts(self) -> (Global, Connection<S>)
         ensures { result.1 ≡ self }
     {
@@ -70,7 +74,7 @@ impl<S: Alter> Results<S> {
         (alloc, conn)
     }
 
-    /// Returns the connection, with the same runs in its tables. Allocates nothing.
+    /// Returns the connection. Allocates nothing.
     pub fn detach(self) -> Connection<S>
         ensures { result ≡ self }
     {
@@ -78,8 +82,8 @@ impl<S: Alter> Results<S> {
         conn
     }
 
-    /// Adds an unfinished run of `total` cases, and returns its number. `moment` is its start, in milliseconds since
-    /// 1970-01-01 UTC.
+    /// Adds an unfinished run of `total` cases, and returns its number. `moment` is its start, in
+    /// milliseconds since 1970-01-01 UTC.
     ///
     /// # Errors
     ///
@@ -120,7 +124,12 @@ impl<S: Alter> Results<S> {
         Ok(mark(&mut self.conn, key(run))?)
     }
 
-    /// Returns the heads of all runs, by number.
+    /// Returns the heads of all runs, ordered by number.
+    ///
+    /// # Errors
+    ///
+    /// - `Store`: a statement failed, or the runs are not numbered from 1.
+    /// - `NoMemory`: memory ran out.
     pub fn runs(&mut self) -> Result<Vec<RunHead>, StoreFault>
         ensures reads { Reads (results S.Store) self.old self.new }
         ensures heads { OnRuns S.Store self.old self.new (λ runs.
@@ -130,10 +139,15 @@ impl<S: Alter> Results<S> {
         Ok(all_heads(&mut self.conn, self.alloc)?)
     }
 
-    /// Returns the head of a run, or of the last run if `number` is `None`. Returns `None` if there is no such run.
+    /// Returns the head of a run, or of the last run if `number` is `None`. Returns `None` if there
+    /// is no such run.
+    ///
+    /// # Errors
+    ///
+    /// Those of [`Results::runs`].
     pub fn head(&mut self, number: Option<u64>) -> Result<Option<RunHead>, StoreFault>
         ensures served { Serves (results S.Store) (Head number result) self.old self.new }
-        // Of any tables: no run has the number of another.
+        // Holds for any tables: the returned head has the requested number.
         ensures numbered { IfOk result (λ found. IfSome found (IsNumbered number)) }
         ensures failed { IfErr result IsStoreFault }
     {
@@ -141,7 +155,7 @@ impl<S: Alter> Results<S> {
         Ok(head_among(&heads, number))
     }
 
-    /// Returns the entries of a run with their pairs and outputs, by position.
+    /// Returns the entries of a run with their pairs and outputs, ordered by position.
     ///
     /// # Errors
     ///

@@ -19,7 +19,7 @@ pub(crate) fn is_full<S: Alter>(conn: &mut Connection<S>) -> Result<bool, StoreF
     Ok(find(conn, MOST_RUNS)?.is_some())
 }
 
-/// Adds the run after the last one, and returns its number.
+/// Inserts an unfinished run after the last run, and returns its number.
 pub(crate) fn add_run<S: Alter>(
     conn: &mut Connection<S>,
     total: u32,
@@ -43,7 +43,8 @@ pub(crate) fn add_run<S: Alter>(
     Ok(conn.last_insert_rowid().unsigned_abs())
 }
 
-/// Checks that the run may be finished.
+/// Checks that a run can be finished. Fails with the first of `NoRun`, `RunClosed` and `Incomplete`
+/// that applies.
 pub(crate) fn check<S: Alter>(conn: &mut Connection<S>, run: u64) -> Result<(), StoreFault>
     ensures small { OnOk result (run ≤ last_run) }
     ensures looked { Looked S.Store conn.old conn.new }
@@ -64,7 +65,7 @@ pub(crate) fn check<S: Alter>(conn: &mut Connection<S>, run: u64) -> Result<(), 
     Ok(())
 }
 
-/// Marks a run that has all its entries as finished.
+/// Marks a run as finished, in one commit. The caller has checked that the run has all its entries.
 pub(crate) fn mark<S: Alter>(conn: &mut Connection<S>, run: u32) -> Result<(), StoreFailure>
     ensures marked { OnOk result (Changes S.Store conn.old conn.new (IsComplete run) (finish run)) }
     ensures kept { OnErr result (KeepsRuns S.Store conn.old conn.new) }

@@ -6,7 +6,7 @@ use sqlite::types::FromSql;
 use sqlite::{Alter, Connection, Row, Transaction};
 use sqlite_value::value::ValueRef;
 
-/// Reads a value from a column of a row. Fails for a value of another type, and for a number out of range.
+/// Reads a value from a column of a row. Fails if the value has another type or is out of range.
 pub(crate) fn value_in<T: FromSql>(row: &Row, at: usize) -> Result<T, StoreFailure>
     requires { at < length row.now }
     ensures value { IfOk result (T.FromSql.reads_as (column row.now at)) }
@@ -30,7 +30,8 @@ pub(crate) fn probe<S: Alter>(conn: &mut Connection<S>, sql: &str) -> Result<(),
     Ok(())
 }
 
-/// Runs a query and returns its rows. The statement is prepared first, so that a closed connection runs nothing.
+/// Executes a query and returns its rows. Prepares the statement first, so a closed connection runs
+/// nothing.
 pub(crate) fn ask<S: Alter>(
     conn: &mut Connection<S>,
     sql: &str,
@@ -50,7 +51,7 @@ pub(crate) fn ask<S: Alter>(
     Ok(rows)
 }
 
-/// Checks that each row has a number of columns.
+/// Checks that each row has at least `width` columns.
 fn have_columns(rows: &[Row], width: usize) -> Result<(), StoreFailure>
     requires { 0 < width }
     ensures wide { OnOk result (AreWide width rows.now) }
@@ -63,7 +64,8 @@ fn have_columns(rows: &[Row], width: usize) -> Result<(), StoreFailure>
     Ok(())
 }
 
-/// Runs a query over the tables of a store and returns its rows, each of which has `width` columns.
+/// Executes a query over the tables of a store and returns its rows. Fails if a row has fewer than
+/// `width` columns.
 pub(crate) fn query<S: Alter>(
     conn: &mut Connection<S>,
     sql: &str,
@@ -82,7 +84,7 @@ pub(crate) fn query<S: Alter>(
     Ok(rows)
 }
 
-/// Runs a statement that is no query.
+/// Executes a statement that is not a query.
 pub(crate) fn execute<S: Alter>(
     conn: &mut Connection<S>,
     sql: &str,
@@ -101,7 +103,7 @@ pub(crate) fn execute<S: Alter>(
     Ok(())
 }
 
-/// Runs a statement inside a transaction.
+/// Executes a statement inside a transaction.
 pub(crate) fn step<S: Alter>(
     tx: &mut Transaction<'_, S>,
     sql: &str,
@@ -117,7 +119,7 @@ pub(crate) fn step<S: Alter>(
     Ok(())
 }
 
-/// Returns `true` if there is a row.
+/// Returns `true` if there is at least one row.
 pub(crate) fn has_rows(rows: &[Row]) -> bool
     ensures { result ≡ nat_lt 0 (length rows.now) }
 {

@@ -1,4 +1,4 @@
-//! Why a call of the store is refused.
+//! Errors of the results store.
 
 ghost use Rattle.std.specs.Prelude.{◌≡◌, true, false, Some, None, IfOk, OnOk, OnErr};
 ghost use Rattle.kt_store.specs.Common.{IsNoMemory, IsOfError, IsOfRecoverError, IsOfTreeError, IsOfWriteError, IsOutOfMemory, IsShort, IsStoreFault};
@@ -11,7 +11,7 @@ use sqlite_trees::error::StoreError;
 use std::io::ErrorKind;
 use thiserror::Error;
 
-/// Why a call of the store is refused. `Display` prints its words.
+/// Errors returned by a store of results. `Display` prints [`StoreFault::words`].
 #[derive(Clone, Copy, Debug, Error)]
 #[error("{}", self.words())]
 pub enum StoreFault {
@@ -25,7 +25,7 @@ pub enum StoreFault {
     RepeatedPosition,
     /// There are 1,000,000 runs, as many as this profile keeps.
     StoreFull,
-    /// The tables say another number than that of this profile's schema.
+    /// The schema number in the tables isn't the one of this profile.
     UnknownSchema,
     /// The position is not below the total of the run.
     BadPosition,
@@ -37,7 +37,7 @@ impl StoreFault {
     ghost use Rattle.std.specs.Prelude.{◌≡◌};
     ghost use Rattle.kt_store.specs.Ask.{fault_words};
 
-    /// Returns the text of the fault's line (this profile).
+    /// Returns the message of the fault (this profile). Allocates nothing.
     pub fn words(&self) -> &'static str
         ensures { result.now ≡ fault_words self.now }
     {
@@ -47,13 +47,13 @@ impl StoreFault {
         }
     }
 
-    /// Returns `true` if the file can't be opened since another process works with it.
+    /// Returns `true` if the file can't be opened because another process uses it.
     pub fn is_in_use(&self) -> bool {
         matches!(self, StoreFault::Store(failed) if failed.is_in_use)
     }
 }
 
-/// Why a part of a call fails. A call of the store has refusals of its own beside these.
+/// Errors returned by the parts of a store call: memory ran out, or the database failed.
 #[derive(Clone, Copy)]
 pub enum StoreFailure {
     NoMemory(Shortage),
@@ -73,23 +73,24 @@ impl From<StoreFailure> for StoreFault {
     }
 }
 
-/// Memory ran out. Only a refusal of the allocator, or of SQLite, makes this value.
+/// Evidence that an allocation failed, in the allocator or in SQLite. Only this module creates this
+/// value.
 #[derive(Clone, Copy, Debug)]
 pub struct Shortage(SqliteRefusal);
 
-/// A statement failed, a value of a row could not be read, the file could not be opened or closed, or the connection
-/// is in a transaction, a tree is damaged, or a row does not obey the schema. Only this module
-/// creates this value.
+/// Evidence that the database failed. A statement, an open or a close failed, the connection is in
+/// a transaction, a tree is damaged, or a row doesn't obey the schema. Only this module creates
+/// this value.
 #[derive(Clone, Copy, Debug)]
 pub struct FailedStatement {
-    /// Whether another process works with the file.
+    /// `true` if another process uses the file.
     is_in_use: bool,
 }
 
-/// The failure of a statement, a file or a test of what was read.
+/// The failure of a statement, of a file or of a check, without another process that uses the file.
 pub const FAULTY: StoreFailure = StoreFailure::Failed(FailedStatement { is_in_use: false });
 
-/// A type of this module, so that no other can create a `Shortage`.
+/// A private type, so that no other module can create a `Shortage`.
 #[derive(Clone, Copy, Debug)]
 struct SqliteRefusal;
 
@@ -163,7 +164,7 @@ impl From<WriteError> for StoreFailure {
     }
 }
 
-/// Returns the fault of files that can't be opened.
+/// Returns the failure for files that can't be opened.
 pub fn unopened(error: &OpenError) -> StoreFailure
     ensures short { IsShort result → IsOutOfMemory error.now }
 {
@@ -180,7 +181,11 @@ pub fn unopened(error: &OpenError) -> StoreFailure
     }
 }
 
-/// Fails with a damage unless a check of what was read holds.
+/// Returns `Ok` if a check of the data holds.
+///
+/// # Errors
+///
+/// - `Failed`: `is_sound` is `false`, so the data is damaged.
 pub fn sure(is_sound: bool) -> Result<(), StoreFailure>
     ensures sound { OnOk result (is_sound ≡ true) }
     ensures damaged { OnErr result (is_sound ≡ false) }
@@ -188,7 +193,11 @@ pub fn sure(is_sound: bool) -> Result<(), StoreFailure>
     if is_sound { Ok(()) } else { Err(FAULTY) }
 }
 
-/// Returns the value, and fails with a damage if there is none.
+/// Returns the value of an option.
+///
+/// # Errors
+///
+/// - `Failed`: the value is missing, so the data is damaged.
 pub fn present<T>(found: Option<T>) -> Result<T, StoreFailure>
     ensures there { IfOk result (λ it. found ≡ Some it) }
     ensures damaged { OnErr result (found ≡ None) }

@@ -6,7 +6,7 @@ ghost use Rattle.sqlite_value.specs.declared.value.Value.TheVariants.{Text as Wo
 use kt_base::{Bytes, Kind, Text};
 use sqlite_value::value::ValueRef;
 
-/// Returns a number as SQL takes it.
+/// Converts a number below 2^63 to an SQL integer. Allocates nothing.
 pub fn int<'a>(n: u64) -> ValueRef<'a>
     requires { n < 2 ^ 63 }
     ensures { owned result ≡ Int (pos n) }
@@ -14,7 +14,7 @@ pub fn int<'a>(n: u64) -> ValueRef<'a>
     ValueRef::Int(n as i64)
 }
 
-/// Returns a text as SQL takes it, in UTF-8.
+/// Converts a text to an SQL text in UTF-8. Allocates nothing.
 pub fn text(text: &Text) -> ValueRef<'_>
     ensures value { owned result ≡ Words (utf8 text.entry.now) }
     ensures spelled { IsText text.entry.now }
@@ -22,14 +22,14 @@ pub fn text(text: &Text) -> ValueRef<'_>
     ValueRef::Text(text.as_str().as_bytes())
 }
 
-/// Returns bytes as SQL takes them.
+/// Converts bytes to an SQL blob. Allocates nothing.
 pub fn blob(bytes: &Bytes) -> ValueRef<'_>
     ensures { owned result ≡ Blob bytes.entry.now }
 {
     ValueRef::Blob(bytes.as_slice())
 }
 
-/// Returns the number by which a kind is stored (docs/formats/store.md).
+/// Returns the number that represents a kind in the tables (docs/formats/store.md).
 pub fn code(kind: Kind) -> u64
     ensures value { result ≡ kind_code kind }
     ensures low { result < 5 }
@@ -43,7 +43,7 @@ pub fn code(kind: Kind) -> u64
     }
 }
 
-/// Returns the kind that is stored by this number.
+/// Returns the kind that a number in the tables represents, or `None` if the number is above 4.
 pub(crate) fn kind_of(code: u64) -> Option<Kind>
     ensures { (k : Sort) → code ≡ kind_code k → result ≡ Some k }
 {

@@ -1,4 +1,4 @@
--- What a statement that is prepared and run shows, and what it does.
+-- The result and the effect of a statement that is prepared and run.
 use Rattle.std.specs.Prelude.{◌≡◌, ◌<◌, ◌≤◌, ℕ, List, length, Result, Ok, Err}
 use Rattle.sqlite_resolve.specs.declared.compiled.Compiled.{Compiled}
 use Rattle.sqlite_resolve.specs.declared.error.CompileError.{CompileError}
@@ -7,21 +7,21 @@ use Rattle.sqlite.specs.Command.TheVariants.{Select}
 use Rattle.kt_store.specs.Stands.{IsStore}
 use Rattle.kt_store.specs.Types.{AllByRecursion, CommitsBy, CommitsShowing, Executes, Ghosts, Held, IsUnchanged, Row, Run, Shown, Trees, state}
 
--- how many columns a query shows
+-- `width_of command`: the number of columns that a query returns
 abbrev pub width_of : Command → ℕ
 width_of (Select query names) = length names
 width_of _ = 0
 
--- a query shows so many columns, and not none
+-- `HasColumns width compiled`: the query returns `width` columns, at least one
 abbrev pub HasColumns : ℕ → Result Compiled CompileError → Type 0
 HasColumns width (Ok c) = (0 < width) × (width_of c.command ≡ width)
 HasColumns width (Err e) = ⊥
 
--- each of these rows has so many columns
+-- `AreWide width rows`: each of `rows` has at least `width` columns
 abbrev pub AreWide : ℕ → List Row → Type 0
 AreWide width rows = AllByRecursion (λ (row : Row). width ≤ length row) rows
 
--- tables that hold these runs showed these rows
+-- `ShowsOf g runs sql params new rows`: a query returned `rows` from tables that hold `runs`
 pub record ShowsOf {S : Type 0} (g : Ghosts S) (runs : List Run) (sql : List ℕ) (params : Row) (new : Held S) (rows : List Row) : Type 0 where
   pub mid : Held S
   pub stored : IsStore (state g mid) runs
@@ -39,7 +39,7 @@ module _ {S : Type 0} (g : Ghosts S) (sql : List ℕ) (params : Row) (old : Held
     pub count : ℕ
     pub ran : Executes sql params (state g mid) (state g new) (Ok count)
 
-  -- It was prepared, so the connection was open.
+  -- the statement was prepared, so the connection was open
   abbrev pub MayShow : Trees → Type 0
   MayShow db = (mid : Held S) × IsUnchanged (state g old) (state g mid) × CommitsShowing sql params (state g mid) db
 

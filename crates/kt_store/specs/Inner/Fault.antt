@@ -1,4 +1,4 @@
--- Why a part of a call fails.
+-- The reasons why a part of a call fails.
 use Rattle.std.specs.Prelude.{◌≡◌, ◌≢◌, ◌⊎◌, ⊤}
 use Rattle.std.specs.IoError.{error_kind}
 use Rattle.std.specs.declared.io.ErrorKind.TheVariants as kind
@@ -16,21 +16,23 @@ use Rattle.sqlite_trees.specs.declared.error.StoreError.TheVariants.{OutOfMemory
 use Rattle.kt_store.specs.declared.store_fault.StoreFailure.{StoreFailure}
 use Rattle.kt_store.specs.declared.store_fault.StoreFailure.TheVariants.{NoMemory, Failed}
 
--- memory ran out
+-- `IsShort failure`: memory ran out
 abbrev pub IsShort : StoreFailure → Type 0
 IsShort (NoMemory shortage) = ⊤
 IsShort (Failed statement) = ⊥
 
--- a statement or a tree failed
+-- `IsFailure failure`: a statement or a tree failed
 abbrev pub IsFailure : StoreFailure → Type 0
 IsFailure (NoMemory shortage) = ⊥
 IsFailure (Failed statement) = ⊤
 
--- an error means that memory ran out if SQLite says so, and else that a statement failed
+-- `IsOfError error trouble`: `trouble` is a lack of memory if and only if SQLite reports a lack of
+-- memory
 abbrev pub IsOfError : Error → StoreFailure → Type 0
 IsOfError error trouble = (IsShort trouble × (error ≡ SqliteFailure code.OutOfMemory)) ⊎ (IsFailure trouble × (error ≢ SqliteFailure code.OutOfMemory))
 
--- an error of a tree means that memory ran out if the tree says so, and else that a statement failed
+-- `IsOfTreeError error trouble`: `trouble` is a lack of memory if and only if the tree reports a
+-- lack of memory
 abbrev pub IsOfTreeError : StoreError → StoreFailure → Type 0
 IsOfTreeError error trouble = (IsShort trouble × (error ≡ OutOfMemory)) ⊎ (IsFailure trouble × (error ≢ OutOfMemory))
 
@@ -41,10 +43,12 @@ IsOutOfMemory (opening.Io error) = error_kind error ≡ kind.OutOfMemory
 IsOutOfMemory opening.Busy = ⊥
 IsOutOfMemory opening.HotJournal = ⊥
 
--- `IsOfRecoverError error trouble`: a failed recovery means that memory ran out if its error says so, and else that a statement failed
+-- `IsOfRecoverError error trouble`: `trouble` is a lack of memory if and only if the recovery
+-- reports a lack of memory
 abbrev pub IsOfRecoverError : RecoverError → StoreFailure → Type 0
 IsOfRecoverError error trouble = (IsShort trouble × (error ≡ recovery.OutOfMemory)) ⊎ (IsFailure trouble × (error ≢ recovery.OutOfMemory))
 
--- an error of a write means that memory ran out only if a tree says so
+-- `IsOfWriteError error trouble`: `trouble` is a lack of memory only if a tree reports a lack of
+-- memory
 abbrev pub IsOfWriteError : WriteError → StoreFailure → Type 0
 IsOfWriteError error trouble = IsShort trouble → error ≡ write.Failed OutOfMemory
