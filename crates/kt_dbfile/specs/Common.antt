@@ -1,4 +1,4 @@
--- The words that the clauses of this crate cite, passed on from one place. Declares nothing.
+-- Re-exports of the names that this crate's clauses cite. Declares nothing.
 pub use Rattle.kt_base.specs.Moments.{IsMoment, IsStorable}
 pub use Rattle.sqlite_value.specs.Value.{owned}
 pub use Rattle.sqlite_wal.specs.Files.{image_at}

@@ -1,4 +1,4 @@
--- What private functions do: no public clause cites it.
+-- Definitions for private functions. No public clause cites them.
 pub mod Cursors
 pub mod Edits
 pub mod Known

@@ -1,4 +1,4 @@
-//! The tables of results in a schema, which are found by their names.
+//! Finds the tables of results in a schema by their names.
 
 ghost use Rattle.std.specs.Prelude.{◌≡◌, ℕ, Some, true, length, map, slice_get};
 ghost use Rattle.kt_dbfile.specs.Common.{schema_2, places_2, AreNamed};
@@ -30,7 +30,7 @@ const ENTRIES: [&str; 12] = [
 
 const PROPS: [&str; 5] = ["run", "position", "place", "name", "value"];
 
-/// Returns `true` if a table has columns of these names in this order.
+/// Returns `true` if a table has columns with these names, in this order.
 fn has_columns(table: &Table, names: &[&str]) -> bool
     ensures { length names.now ≡ length table.now.columns
         → AreNamed table.now 0 (map (λ name. name.now) names.now) → result ≡ true }
@@ -48,7 +48,8 @@ fn has_columns(table: &Table, names: &[&str]) -> bool
     true
 }
 
-/// Returns the table with this name and these columns.
+/// Returns the index and the tree of the table with this name and these columns, or `None` if there
+/// is none.
 fn table_in(schema: &Schema, name: &str, columns: &[&str]) -> Option<Place>
     ensures { (at : ℕ) (t : TableOf) → table_named schema.now name.now ≡ Some at
         → slice_get schema.now.tables at ≡ Some t → length columns.now ≡ length t.columns
@@ -67,7 +68,7 @@ fn table_in(schema: &Schema, name: &str, columns: &[&str]) -> Option<Place>
     }
 }
 
-/// Returns the tree of the index with this name.
+/// Returns the tree of the index with this name, or `None` if there is none.
 fn key_in(schema: &Schema, name: &str) -> Option<u32>
     ensures { (at : ℕ) (i : IndexOf) → index_named schema.now name.now ≡ Some at
         → slice_get schema.now.indexes at ≡ Some i → result ≡ Some i.tree }
@@ -77,7 +78,7 @@ fn key_in(schema: &Schema, name: &str) -> Option<u32>
     Some(index.tree)
 }
 
-/// Returns the positions and trees of the tables if all were found.
+/// Returns the indexes and trees of the tables if all of them were found.
 fn all_found(
     runs: Option<Place>,
     entries: Option<Place>,
@@ -98,8 +99,8 @@ fn all_found(
     })
 }
 
-/// Returns the positions and trees of the tables of results in a schema, in any order. Returns `None` if a table is
-/// missing or has other columns.
+/// Returns the indexes and trees of the tables of results in a schema. The tables can be in any
+/// order. Returns `None` if a table is missing or has other columns.
 pub(crate) fn places_in(schema: &Schema) -> Option<Places>
     ensures { schema.now ≡ schema_2 → result ≡ Some places_2 }
 {

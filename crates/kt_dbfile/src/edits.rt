@@ -1,4 +1,4 @@
-//! Runs and entries that are written into the trees of a store, without a commit.
+//! Writes runs and entries into the trees of a store, without a commit.
 
 ghost use Rattle.std.specs.Prelude.{◌≡◌, ◌⊎◌, ◌<◌, ◌≤◌, ◌^◌, map, suc, length, Some, None, false, IfOk, IfErr, OnOk};
 ghost use Rattle.kt_dbfile.specs.Common.{AllByRecursion, Began, CanAdd, Finished, IsBareIfPassed, IsComplete, IsMoment, IsPair, IsStorable, IsStoreFault, IsText, Looks, LooksThrough, OnTrees, Put, Run, StandAt, Wrote, done_row, entries_of, entry_row, finish_refusal, has_position, last_run, owned, pair_row, pair_rows_from, put_refusal, run_at, run_row, unnumbered};
@@ -26,7 +26,7 @@ use sqlite_value::value::ValueRef;
 use std::alloc::Global;
 use std::slice;
 
-/// Creates a row of these values.
+/// Creates a row with these values.
 fn row_of(alloc: Global, values: &[ValueRef<'_>]) -> Result<Row, NoMemory>
     ensures { IfOk result (λ row. row ≡ map owned values.now) }
 {
@@ -37,7 +37,8 @@ fn row_of(alloc: Global, values: &[ValueRef<'_>]) -> Result<Row, NoMemory>
     Ok(row)
 }
 
-/// Creates the row of a pair at an index among the pairs of an entry.
+/// Creates the row of one pair of an entry, without a rowid. `place` is its index among the entry's
+/// pairs.
 fn pair_row(
     alloc: Global,
     run: u32,
@@ -116,7 +117,8 @@ fn row_of_entry<'a>(
     )
 }
 
-/// Returns the number of the next run. `StoreFull` if there are 1,000,000 runs.
+/// Returns the number of the next run, and checks the ends of the tables. Fails with `StoreFull` if
+/// there are 1,000,000 runs.
 fn next_number<S: Alter>(store: &mut S, alloc: Global, places: Places) -> Result<u64, StoreFault>
     requires { StandAt places (S.Store.view store.old) }
     ensures number { OnTrees S.Store store.old store.new (λ runs.
@@ -136,7 +138,7 @@ fn next_number<S: Alter>(store: &mut S, alloc: Global, places: Places) -> Result
     Ok(last + 1)
 }
 
-/// Writes a run after the last one, and returns its number.
+/// Writes an unfinished run after the last run, and returns its number.
 pub(crate) fn write_run<S: Alter>(
     store: &mut S,
     alloc: Global,
@@ -173,7 +175,7 @@ pub(crate) fn write_run<S: Alter>(
     Ok(number)
 }
 
-/// Returns `true` if the run has an entry with this position.
+/// Returns `true` if the run has an entry at this position.
 fn is_put<S: Store>(
     store: &mut S,
     alloc: Global,
@@ -193,7 +195,8 @@ fn is_put<S: Store>(
     Ok(count > 0)
 }
 
-/// Checks that the run accepts the entry.
+/// Checks that a run accepts an entry. Fails with the first of `NoRun`, `RunClosed`, `BadPosition`
+/// and `RepeatedPosition` that applies.
 fn check_entry<S: Alter>(
     store: &mut S,
     alloc: Global,
@@ -225,7 +228,7 @@ fn check_entry<S: Alter>(
     Ok(())
 }
 
-/// Writes an entry and its pairs into a run that accepts the entry.
+/// Checks that a run accepts an entry, and writes the entry and its pairs.
 pub(crate) fn write_entry<S: Alter>(
     store: &mut S,
     alloc: Global,
@@ -300,7 +303,8 @@ fn count_of<S: Store>(
     Ok(count)
 }
 
-/// Returns the row of a run, and checks that the run may be finished.
+/// Returns the row of a run, and checks that the run can be finished. Fails with the first of
+/// `NoRun`, `RunClosed` and `Incomplete` that applies.
 fn check_run<S: Alter>(
     store: &mut S,
     alloc: Global,
@@ -329,7 +333,7 @@ fn check_run<S: Alter>(
     Ok(row)
 }
 
-/// Writes that a run is finished. Fails if the run lacks an entry.
+/// Marks a run as finished, in its row. Fails if the run lacks an entry.
 pub(crate) fn write_finish<S: Alter>(
     store: &mut S,
     alloc: Global,

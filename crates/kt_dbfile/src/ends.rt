@@ -1,6 +1,8 @@
-//! What is looked at before runs are shown or a run begins: the ends of the tables and of their indexes agree, and a run
-//! has the entries that it must have. So a page that the disk lost, or of an earlier moment, seldom hides a result,
-//! whatever the size of the file.
+//! Checks of the ends of the tables and of their indexes.
+//!
+//! The checks are made before runs are shown and before a run begins: the ends agree, and a run has
+//! the entries that it must have. A page that the disk lost, or an outdated page, seldom hides a
+//! result. The size of the file doesn't matter.
 
 ghost use Rattle.std.specs.Prelude.{◌≡◌, ◌<◌, ◌≤◌, [], ◌∷◌, Some, length, map, option_map, true, IfOk, OnOk};
 ghost use Rattle.kt_dbfile.specs.Common.{AllByRecursion, Entry as Stored, IsAscending, Looks, LooksThrough, OnTrees, Run, StandAt, ends_with, head_of, last_run, outlined, run_at};
@@ -21,7 +23,7 @@ use sqlite_value::value::ValueRef;
 use std::alloc::Global;
 use std::cmp::Ordering;
 
-/// The head that stands for no run.
+/// The head that represents an empty store.
 pub(crate) const NO_RUN: RunHead = RunHead {
     number: 0,
     started: 0,
@@ -29,8 +31,8 @@ pub(crate) const NO_RUN: RunHead = RunHead {
     finished: false,
 };
 
-/// Returns the run and the position of the last key of a table's index that is at most `key`, and checks that its row
-/// exists. Both are NULL if there is no such key.
+/// Returns the run and the position of the last index key that is at most `key`, and checks that
+/// its row exists. Both values are NULL if there is no such key.
 fn last_place<S: Store>(
     store: &mut S,
     alloc: Global,
@@ -47,7 +49,8 @@ fn last_place<S: Store>(
     Ok(columns_of(alloc, &place, &[0, 1])?)
 }
 
-/// Returns `true` if the index of a table has the key of the table's last row.
+/// Returns `true` if the index of a table has the key of the table's last row, or if the table is
+/// empty.
 fn is_last_row_placed<S: Store>(
     store: &mut S,
     alloc: Global,
@@ -63,8 +66,8 @@ fn is_last_row_placed<S: Store>(
     Ok(count == 1)
 }
 
-/// Returns the run and the position of the last key of a table's index. Fails if the index lacks the key of the table's
-/// last row.
+/// Returns the run and the position of the last index key of a table. Fails if the index lacks the
+/// key of the table's last row.
 fn end_of<S: Store>(store: &mut S, alloc: Global, table: &Table) -> Result<Row, StoreFailure>
     ensures looks { Looks S.Store store.old store.new }
 {
@@ -72,8 +75,8 @@ fn end_of<S: Store>(store: &mut S, alloc: Global, table: &Table) -> Result<Row, 
     last_place(store, alloc, table, &Row::new(alloc))
 }
 
-/// Returns whether an entry may be the end of the index of entries if the last run has this head: the last position of a
-/// finished run, or an earlier one of another.
+/// Returns `true` if `end` can be the last key of the index of entries after the last run `last`.
+/// It is the last position if the run is finished, and otherwise any key before the total.
 fn is_end(alloc: Global, end: &Row, last: RunHead) -> Result<bool, NoMemory>
     ensures { last.number ≤ last_run → IfOk result (λ is. is ≡ ends_with last end.now) }
 {
@@ -101,8 +104,8 @@ fn has_entry<S: Store>(
     Ok(count == 1 || matches!(pair.get(0), ValueRef::Null))
 }
 
-/// Checks that the table of entries and its index end with the same entry, and that this entry may be the last of the
-/// last run.
+/// Checks that the table of entries and its index end with the same entry, and that this entry can
+/// be the last one of the last run.
 fn check_last_entry<S: Store>(
     store: &mut S,
     alloc: Global,
@@ -129,7 +132,8 @@ fn check_last_pair<S: Store>(
     sure(has_entry(store, alloc, places, &pair)?)
 }
 
-/// Checks that the tables and their indexes have the same ends, and that they fit the last run.
+/// Checks that the tables and their indexes have the same ends, and that these agree with the last
+/// run.
 pub(crate) fn check_ends<S: Store>(
     store: &mut S,
     alloc: Global,
@@ -144,7 +148,8 @@ pub(crate) fn check_ends<S: Store>(
     check_last_pair(store, alloc, places)
 }
 
-/// Returns the head of a run that exists, by its number. Fails if the run's row has another number.
+/// Returns the head of run `number`, which must exist. Fails if the run is missing or its row has
+/// another number.
 pub(crate) fn present_head<S: Store>(
     store: &mut S,
     alloc: Global,
@@ -165,7 +170,7 @@ pub(crate) fn present_head<S: Store>(
     Ok(head)
 }
 
-/// Returns the head of the last run, by its number.
+/// Returns the head of run `last`, or [`NO_RUN`] if `last` is 0.
 fn last_head<S: Store>(
     store: &mut S,
     alloc: Global,
@@ -180,7 +185,8 @@ fn last_head<S: Store>(
     present_head(store, alloc, places, last)
 }
 
-/// Checks that the tables end with the last run, by its number. It is called before another run begins.
+/// Checks that the tables end with run `last`. It is called before another run begins and before a
+/// head is returned.
 pub(crate) fn check_last<S: Store>(
     store: &mut S,
     alloc: Global,
@@ -209,8 +215,8 @@ fn are_numbered(entries: &[Entry]) -> bool
     true
 }
 
-/// Returns `true` if these may be all entries of the run with this head. A finished run has an entry at each position
-/// below its total.
+/// Returns `true` if `entries` can be all entries of the run with this head. A finished run has an
+/// entry at each position below its total.
 fn may_be_all(head: RunHead, entries: &[Entry]) -> bool
     ensures { (r : Run) → IsRun r → head ≡ head_of r → entries.now ≡ map outlined r.entries
         → result ≡ true }
@@ -223,7 +229,7 @@ fn may_be_all(head: RunHead, entries: &[Entry]) -> bool
     }
 }
 
-/// Returns how many pairs of these entries of a run the index of pairs has.
+/// Returns the number of index entries for the pairs of these entries of a run.
 fn count_pairs<S: Store>(
     store: &mut S,
     alloc: Global,
@@ -241,8 +247,8 @@ fn count_pairs<S: Store>(
     Ok(count)
 }
 
-/// Returns `true` if each pair of the run with this head belongs to one of its entries. A finished run has all entries,
-/// so only its last pair is compared.
+/// Returns `true` if each pair of the run with this head belongs to one of its entries. A finished
+/// run has all its entries, so only its last pair is checked.
 fn are_of_entries<S: Store>(
     store: &mut S,
     alloc: Global,
@@ -263,7 +269,8 @@ fn are_of_entries<S: Store>(
     Ok(all == count_pairs(store, alloc, &table, run, entries)?)
 }
 
-/// Checks that these are all entries of the run with this head, as far as the head and its pairs show.
+/// Checks that `entries` are all entries of the run with this head, as far as the head and the
+/// pairs can show it.
 pub(crate) fn check_entries<S: Store>(
     store: &mut S,
     alloc: Global,

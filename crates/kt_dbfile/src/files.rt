@@ -11,7 +11,7 @@ use sqlite_pager::Options;
 use std::alloc::Global;
 use std::marker::PhantomData;
 
-/// Returns the value of a call. If the call failed, what it gives back is dropped.
+/// Returns the value of a call. If the call failed, the returned argument is dropped.
 fn done<T, L: Drop>(returned: Result<T, (Error, L)>) -> Result<T, StoreFailure>
     ensures ok { IfOk result (λ it. returned ≡ Ok it) }
 {
@@ -21,13 +21,13 @@ fn done<T, L: Drop>(returned: Result<T, (Error, L)>) -> Result<T, StoreFailure>
     }
 }
 
-/// Evidence that an open failed, which used up a value of `S`. Only [`open_both`] creates it.
+/// Evidence of a failed open, which consumed a value of `S`. Only [`open_both`] creates it.
 #[derive(Drop)]
 pub struct NotOpened<S> {
     marker: PhantomData<S>,
 }
 
-/// Opens a file and its log, which are created if they are missing.
+/// Opens a file and its log. Creates them if they are missing.
 pub(crate) fn open_both<S: Start>(
     rt: &HostRuntime,
     file: &Text,
@@ -48,7 +48,8 @@ pub(crate) fn open_both<S: Start>(
     }
 }
 
-/// Opens the database in these files, which is created in empty ones, and checks each of its pages and rows.
+/// Opens the database in these files, and checks each of its pages and rows. Creates the database
+/// if the files are empty.
 pub(crate) fn connect<D: Disk + Drop>(
     alloc: Global,
     files: Files<D>,

@@ -1,4 +1,4 @@
-//! The results file: the results store of the program, opened, read and written by its trees.
+//! The results file: opening it, and reading and writing its trees.
 #![tactic(auto)]
 
 mod by_name;

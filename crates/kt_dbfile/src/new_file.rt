@@ -17,17 +17,18 @@ const PAGE_SIZE: usize = 1_024;
 /// The shortest log with a frame, in bytes. SQLite ignores a shorter one.
 pub(crate) const SHORTEST_LOG: usize = 56;
 
-/// The rights of an owner to read and write a file.
+/// The owner's permissions to read and write a file.
 const OWNER_RIGHTS: u32 = 0o600;
 
-/// The beginning of a file: its format, pages of 0x0400 bytes, a log for writers and readers, no bytes of a page reserved, and
-/// the fractions of a page that a payload takes.
+/// The first bytes of a file: its format, pages of 0x0400 bytes, a log for writers and readers, no
+/// reserved bytes in a page, and the payload fractions.
 const HEADER: [u8; 24] = *b"SQLite format 3\0\x04\x00\x02\x02\x00\x40\x20\x20";
 
-/// Returns the one page of an empty database, by "Database File Format" of SQLite, sections 1.3 and 1.6.
+/// Returns the only page of an empty database (SQLite's "Database File Format", sections 1.3 and
+/// 1.6).
 fn first_page() -> [u8; PAGE_SIZE]
     ensures exact { result ≡ first_page 1024 }
-    // Alone, and with a log of which SQLite reads nothing.
+    // Holds without a log, and with a log that SQLite ignores.
     ensures holds { (log : List ℕ) → IsIgnored log → HoldsEmpty (record { log = log; db = result }) }
 {
     let mut page = [0; PAGE_SIZE];
@@ -41,14 +42,14 @@ fn first_page() -> [u8; PAGE_SIZE]
     page[97] = 46;
     page[98] = 118;
     page[99] = 136;
-    // The schema: a leaf of a table, without cells, whose content begins at the end of the page.
+    // The schema: a table leaf without cells, whose content begins at the end of the page.
     page[100] = 13;
     page[105] = 4;
     page
 }
 
-/// Creates an empty file at the name of the results or at their `-new` name, with the rights that the umask leaves, and always
-/// those of its owner to read and write it.
+/// Creates an empty file at the path of the results or at their `-new` path. The umask applies, but
+/// the owner can always read and write the file.
 // Tested, not proved: results_file_creation_is_atomic.
 fn make_file<R: Files>(rt: &R, results: &Text, path: &Text) -> io::Result<R::File>
     requires { IsOwnName results.now path.now }
@@ -68,7 +69,7 @@ fn make_file<R: Files>(rt: &R, results: &Text, path: &Text) -> io::Result<R::Fil
     Ok(made)
 }
 
-/// Returns the name of a file with an ending.
+/// Returns the path of a file with a suffix appended.
 fn with_ending(file: &Text, ending: &str) -> Result<Text, NoMemory>
     ensures { IfOk result (λ name. name ≡ file.now ++ chars ending.now) }
 {
@@ -77,14 +78,15 @@ fn with_ending(file: &Text, ending: &str) -> Result<Text, NoMemory>
     Ok(name)
 }
 
-/// Returns the name that a new file has until it is complete.
+/// Returns the path that a new file has until it is complete.
 fn new_name(file: &Text) -> Result<Text, NoMemory>
     ensures { IfOk result (IsNewNameOf file.now) }
 {
     with_ending(file, "-new")
 }
 
-/// Returns whether the log of a file may have a frame. A stale log would be replayed into a new file.
+/// Returns `true` if the log of a file can have a frame. SQLite would replay such a stale log into
+/// a new file.
 // Tested, not proved: results_file_creation_is_atomic.
 fn may_have_frames<R: Files>(rt: &R, file: &Text) -> Result<bool, NoMemory> {
     let log = with_ending(file, "-wal")?;
@@ -94,8 +96,8 @@ fn may_have_frames<R: Files>(rt: &R, file: &Text) -> Result<bool, NoMemory> {
     })
 }
 
-/// Opens the file that gets the first page: a new one, or one that a killed process left. Returns `None` if something else has
-/// the name.
+/// Opens the file for the first page: a new file, or a file that a killed process left. Returns
+/// `None` if something other than a regular file has the path, or if the open fails.
 // Tested, not proved: results_file_creation_is_atomic.
 fn open_new<R: Files<File = File>>(rt: &R, results: &Text, name: &Text) -> Option<File>
     requires { IsNewNameOf results.now name.now }
@@ -117,8 +119,8 @@ fn open_new<R: Files<File = File>>(rt: &R, results: &Text, name: &Text) -> Optio
     }
 }
 
-/// Completes a partly written first page, and returns whether all of it is on the disk. Returns `None` if another process
-/// writes the file, or it has other bytes.
+/// Completes a partly written first page, and returns `true` if all of it is on the disk. Returns
+/// `None` if another process writes the file, or if it has other bytes.
 // Tested, not proved: results_file_creation_is_atomic.
 fn fill(made: &mut File) -> Option<bool> {
     made.try_lock().ok()?;
@@ -129,22 +131,23 @@ fn fill(made: &mut File) -> Option<bool> {
     Some(emit(rest, made).is_ok() && made.sync_all().is_ok())
 }
 
-/// Gives a new file the name of the results too, by a link: a rename would replace a file that another process created.
-/// Returns whether it has that name.
+/// Links a new file to the path of the results, and returns `true` on success. A rename would
+/// replace a file that another process created.
 fn name_results<R: Files>(rt: &R, results: &Text, name: &Text) -> bool
     requires { IsNewNameOf results.now name.now }
 {
     fs::hard_link(rt, name.as_str(), results.as_str()).is_ok()
 }
 
-/// Removes the `-new` name of the results.
+/// Removes the `-new` path of the results.
 fn remove_new<R: Files>(rt: &R, results: &Text, name: &Text)
     requires { IsNewNameOf results.now name.now }
 {
     let _ = fs::remove_file(rt, name.as_str());
 }
 
-/// Creates an empty database, and returns whether it did. The file gets its name once it is complete and on the disk.
+/// Creates an empty database, and returns `true` on success. The file gets its path once it is
+/// complete and on the disk.
 fn make_database<R: Files<File = File>>(rt: &R, file: &Text) -> Result<bool, NoMemory> {
     if may_have_frames(rt, file)? {
         return Ok(false);
@@ -161,14 +164,14 @@ fn make_database<R: Files<File = File>>(rt: &R, file: &Text) -> Result<bool, NoM
     Ok(is_named)
 }
 
-/// The numbers of a file, which all its names share.
+/// The device and inode numbers of a file, which all its paths share.
 #[derive(Clone, Copy)]
 struct FileId {
     device: u64,
     inode: u64,
 }
 
-/// Returns the numbers of a file.
+/// Returns the device and inode numbers of a file.
 // Tested, not proved: results_file_creation_is_atomic.
 fn id_of(found: &Metadata) -> FileId {
     FileId {
@@ -177,21 +180,21 @@ fn id_of(found: &Metadata) -> FileId {
     }
 }
 
-/// Returns whether these are the numbers of one file.
+/// Returns `true` if both identify one file.
 fn is_same(one: FileId, other: FileId) -> bool
     ensures { IsTrue result → one ≡ other }
 {
     one.device == other.device && one.inode == other.inode
 }
 
-/// A name that ends in `-new`, with the numbers of the file that has it.
+/// A path that ends in `-new`, with the identity of its file.
 #[derive(Drop)]
 struct FirstName {
     name: Text,
     id: FileId,
 }
 
-/// Returns the name of a file with `-new` after it, if a file has it.
+/// Returns the `-new` path of a file, if a file has that path.
 fn first_name<R: Files>(rt: &R, file: &Text) -> Option<FirstName>
     ensures { IfSome result (λ it. IsNewNameOf file.now it.name) }
 {
@@ -201,7 +204,7 @@ fn first_name<R: Files>(rt: &R, file: &Text) -> Option<FirstName>
     Some(FirstName { name, id })
 }
 
-/// Removes a name that ends in `-new` and is of the same file as the results.
+/// Removes a `-new` path of the results file.
 fn remove_first<R: Files>(rt: &R, results: FileId, file: &Text, first: &FirstName)
     requires name { IsNewNameOf file.now first.now.name }
     requires same { first.now.id ≡ results }
@@ -218,7 +221,7 @@ fn directory_of(file: &str) -> &str {
     }
 }
 
-/// Removes a name if it ends in `-new` and is of the same file as the results.
+/// Removes a path if it ends in `-new` and is a link to the results file.
 fn remove_if_first<R: Files + AllocGlobal>(rt: &R, path: &str, results: FileId) -> Option<()> {
     let Some(front) = path.strip_suffix("-new") else {
         return Some(());
@@ -232,8 +235,8 @@ fn remove_if_first<R: Files + AllocGlobal>(rt: &R, path: &str, results: FileId) 
     Some(())
 }
 
-/// Removes the first name of a file whose creator was killed before it did so, also if the file was renamed since: a file with
-/// two names can't be opened.
+/// Removes the `-new` paths that a killed process left for a results file, also if the file was
+/// renamed since. A file with two paths can't be opened.
 fn remove_first_name<R: Files + AllocGlobal + Clone + Drop>(
     rt: &R,
     file: &Text,
@@ -246,9 +249,12 @@ fn remove_first_name<R: Files + AllocGlobal + Clone + Drop>(
     Some(())
 }
 
-/// Creates a file if there is none: an empty database, or if that can't be created (the file system has no links, or the log of
-/// an older file is there), an empty file, which becomes a database with larger pages. A file that is there stays as it
-/// is. Why none can be created is reported when it is opened; then its log is created too, with the rights of the file.
+/// Creates the results file if it doesn't exist.
+///
+/// The new file is an empty database. If a database can't be created (the file system has no links,
+/// or an older log is present), the file is empty, and the later open turns it into a database with
+/// larger pages. An existing file isn't changed. A failure is reported by the later open, which
+/// also creates the log, with the file's permissions.
 pub(crate) fn prepare<R: Files<File = File> + AllocGlobal + Clone + Drop>(rt: &R, file: &Text) {
     match fs::symlink_metadata(rt, file.as_str()) {
         Ok(found) => {

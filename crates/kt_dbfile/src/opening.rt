@@ -36,20 +36,21 @@ use sqlite_wal::{PageSize, probe_first_page, probe_page_size};
 use std::alloc::Global;
 use std::hash::{BuildHasher, RandomState};
 
-/// Bytes 20 to 23 of a database whose pages end in sums of their bytes.
+/// Bytes 20 to 23 of a database whose pages end in checksums.
 const WITH_SUMS: u32 = 0x0840_2020;
 
-/// The tree of the table that has the schema's number.
+/// The tree of the table with the schema number.
 const META: u32 = 0;
 
 const TABLE: (Shape, u64) = (Shape::Table, 0);
 
 const KEY: (Shape, u64) = (Shape::Index(Order::PLAIN), 0);
 
-/// The trees of schema 2.
+/// The shapes of the trees of schema 2.
 const LAYOUTS: [(Shape, u64); 7] = [TABLE, KEY, TABLE, TABLE, KEY, TABLE, KEY];
 
-/// Returns the options of a store that keeps a number of read pages in memory. `None` if there is no random number.
+/// Returns the options of a store that caches `pages` read pages. Returns `None` if there is no
+/// random number.
 pub(crate) fn options(rt: &HostRuntime, pages: usize) -> Option<Options>
     ensures pages { IfSome result (IsOfOptions pages) }
 {
@@ -59,7 +60,7 @@ pub(crate) fn options(rt: &HostRuntime, pages: usize) -> Option<Options>
     Some(options)
 }
 
-/// Checks whether the pages of a database end in no sums, and returns their size then.
+/// Returns the page size of a database whose pages don't end in checksums, or `None`.
 fn plain_size<D: Disk>(alloc: Global, files: &mut Files<D>) -> Option<PageSize>
     requires log { IsTrue (D.Disk.is_usable files.old.log) }
     requires db { IsTrue (D.Disk.is_usable files.old.db) }
@@ -77,8 +78,10 @@ fn plain_size<D: Disk>(alloc: Global, files: &mut Files<D>) -> Option<PageSize>
     Some(size)
 }
 
-/// Returns whether all pages and trees of a database are tested before it is read. They are if its file has at most 16 MiB,
-/// which takes some 60 ms, or if its log may have frames, since a runner was killed or the machine lost power.
+/// Returns `true` if all pages and trees must be checked during the open.
+///
+/// They are checked if the file has at most 16 MiB, which takes about 60 ms. They are also checked
+/// if the log can have frames: then a runner was killed or the machine lost power.
 fn is_tested<D: Disk>(files: &mut Files<D>) -> Result<bool, StoreFailure>
     requires log { IsTrue (D.Disk.is_usable files.old.log) }
     requires db { IsTrue (D.Disk.is_usable files.old.db) }
@@ -92,7 +95,7 @@ fn is_tested<D: Disk>(files: &mut Files<D>) -> Result<bool, StoreFailure>
     Ok(size <= MOST_TESTED || SHORTEST_LOG <= log)
 }
 
-/// Creates a store of files, which isn't open yet. If an allocation fails the files come back.
+/// Creates an unopened store of files. Returns the files if an allocation fails.
 fn unopened<D: Disk + Drop>(
     alloc: Global,
     files: Files<D>,
@@ -113,7 +116,7 @@ fn unopened<D: Disk + Drop>(
     }
 }
 
-/// Returns `true` if a row of the list of objects has this rowid, type, name, table and text, and nothing else.
+/// Returns `true` if a row of the schema list has exactly this rowid, type, name, table and text.
 fn is_object(row: &Row, id: i64, kind: &str, name: &str, table: &str, text: ValueRef<'_>) -> bool
     ensures { IsTrue result → row.now ≡ Int id ∷ Words kind.now ∷ Words name.now
         ∷ Words table.now ∷ owned text.entry ∷ [] }
@@ -134,14 +137,15 @@ fn is_table(row: &Row, id: u32, name: &str, sql: &str) -> bool
     is_object(row, i64::from(id), "table", name, name, text)
 }
 
-/// Returns `true` if a row lists the index of a table's key with this rowid and name. Such an index has no text.
+/// Returns `true` if a row lists the index of a table's key, with this rowid and name. Such an
+/// index has no text.
 fn is_key(row: &Row, id: u32, name: &str, table: &str) -> bool
     ensures { IsTrue result → row.now ≡ key_object id name.now table.now }
 {
     is_object(row, i64::from(id), "index", name, table, ValueRef::Null)
 }
 
-/// Returns `true` if these rows list the objects of schema 2 (docs/formats/store.md).
+/// Returns `true` if these rows are the schema list of schema 2 (docs/formats/store.md).
 fn is_schema_2(rows: &[Row]) -> bool
     ensures { IsTrue result → rows.now ≡ objects_2 }
 {
@@ -158,7 +162,8 @@ fn is_schema_2(rows: &[Row]) -> bool
     of_meta & of_runs & of_entries & of_props
 }
 
-/// Reads the list of objects, and returns `true` if it is that of schema 2. Then the files get that schema.
+/// Reads the schema list, and returns `true` if it is that of schema 2. The files then have that
+/// schema.
 fn list_schema<D: Disk>(alloc: Global, files: &mut Unopened<D>) -> Result<bool, StoreFailure>
     requires { AreUsable files.old }
     ensures usable { OnOk result (AreUsable files.new) }
@@ -178,7 +183,8 @@ fn list_schema<D: Disk>(alloc: Global, files: &mut Unopened<D>) -> Result<bool, 
     }
 }
 
-/// Returns the number of the schema in the rows of the settings, which are one row.
+/// Returns the schema number in the rows of the table `meta`, or `None` unless they are one row of
+/// the expected form.
 fn number_in(settings: &[Row]) -> Option<i64>
     ensures { IfSome result (λ n. map (drop 1) settings.now
         ≡ (Words (codes "schema") ∷ Int n ∷ []) ∷ []) }
@@ -195,7 +201,7 @@ fn number_in(settings: &[Row]) -> Option<i64>
     }
 }
 
-/// Returns what a call returned that gives back what it took if it fails.
+/// Returns the value of an open. If the open failed, the returned argument is dropped.
 fn opened<T, L: Drop>(returned: Result<T, (OpenError, L)>) -> Result<T, StoreFailure>
     ensures ok { IfOk result (λ it. returned ≡ Ok it) }
 {
@@ -205,8 +211,8 @@ fn opened<T, L: Drop>(returned: Result<T, (OpenError, L)>) -> Result<T, StoreFai
     }
 }
 
-/// Opens files that are sound. All their pages and trees are tested first if `is_tested` is set, and else only those that
-/// list the schema and the free pages.
+/// Opens sound files. Checks all pages and trees if `is_tested` is set. Otherwise, checks only the
+/// pages of the schema and the free pages.
 fn sound_over<D: Disk + Drop>(
     files: Unopened<D>,
     is_tested: bool,
@@ -220,7 +226,7 @@ fn sound_over<D: Disk + Drop>(
     ensures found { IfOk result (λ it. IsTrue (state it).is_clean
         → Recovers (state_of files).page_size (image files) (state it).committed) }
     ensures kept { IfOk result (λ it. IsTrue (state it).is_clean → Opens files (state it)) }
-    // Only a store whose trees were tested is numbered.
+    // Only a store whose trees were checked is numbered.
     ensures tested { is_tested ≡ true → IfOk result (λ it. IsTrue (view it).is_numbered) }
 {
     if is_tested {
@@ -230,8 +236,8 @@ fn sound_over<D: Disk + Drop>(
     }
 }
 
-/// Opens files if they list the tables of schema 2, in pages that end in no sums, and recovers their log. Other files come
-/// back: they were only read.
+/// Opens files that list the tables of schema 2, in pages without checksums, and recovers their
+/// log. Returns other files, which were only read.
 pub(crate) fn known_over<D: Disk + Drop>(
     alloc: Global,
     mut files: Files<D>,
@@ -269,11 +275,11 @@ pub(crate) fn known_over<D: Disk + Drop>(
     Ok(Ok(store))
 }
 
-/// Checks that the tables of a store say schema 2.
+/// Checks that the schema number in the tables is 2. Fails with `UnknownSchema` otherwise.
 pub(crate) fn check_number<S: Store>(store: &mut S, alloc: Global) -> Result<(), StoreFault>
     ensures ours { OnOk result (IsClean (S.Store.view store.new)
         → SaysIn (pos 2) (S.Store.view store.old).trees) }
-    // `UnknownSchema` only if they say another number.
+    // `UnknownSchema` only if the schema number isn't 2.
     ensures unknown { IfErr result (λ e. IsStoreFault e ⊎ ((e ≡ StoreFault.UnknownSchema)
         × (IsClean (S.Store.view store.new) → SaysAnother (S.Store.view store.old).trees))) }
     ensures looks { Looks S.Store store.old store.new }
@@ -286,7 +292,7 @@ pub(crate) fn check_number<S: Store>(store: &mut S, alloc: Global) -> Result<(),
     }
 }
 
-/// Copies the log into the database file, and closes both. Changes that are not committed are lost.
+/// Copies the log into the database file, and closes both. Uncommitted changes are lost.
 pub(crate) fn close_store<D: Disk + Drop>(mut store: FileStore<D>) -> Result<(), StoreFailure>
     ensures closed { OnOk result (Ends store) }
 {
@@ -300,7 +306,7 @@ pub(crate) fn close_store<D: Disk + Drop>(mut store: FileStore<D>) -> Result<(),
     }
 }
 
-/// Reads the number of the schema in the tables.
+/// Reads the schema number from the table `meta`.
 fn said_number<S: Store>(store: &mut S, alloc: Global) -> Result<i64, StoreFailure>
     ensures says { IfOk result (λ n. IsClean (S.Store.view store.new)
         → SaysIn n (S.Store.view store.old).trees) }
@@ -310,5 +316,5 @@ fn said_number<S: Store>(store: &mut S, alloc: Global) -> Result<i64, StoreFailu
     present(number_in(settings.as_slice()))
 }
 
-/// The largest file whose pages and trees are all tested, in bytes.
+/// The size of the largest file whose pages and trees are all checked, in bytes.
 const MOST_TESTED: usize = 16 * 1_048_576;

@@ -1,11 +1,11 @@
-/// The place of a table in a schema, and its tree.
+/// The index of a table in a schema, and its tree.
 #[derive(Clone, Copy)]
 pub(crate) struct Place {
     pub(crate) at: usize,
     pub(crate) tree: u32,
 }
 
-/// Where the tables of results stand in a schema, with the trees of their keys.
+/// The indexes and trees of the tables of results, with the trees of their keys.
 #[derive(Clone, Copy)]
 pub(crate) struct Places {
     pub(crate) runs: Place,

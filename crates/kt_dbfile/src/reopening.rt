@@ -9,10 +9,12 @@ ghost use Rattle.sqlite_wal.specs.Recovery.{Image};
 
 use sqlite_disk::Disk;
 
-/// The law of reopening, which joins a close to the next opening: one process finds what the last one left. The files that
-/// a close leaves of a store whose trees are numbered hold its runs, with the log and without it; what is supposed of files
-/// that are opened is true of them; and a store that was found in them has these runs, which a crash leaves. A store is
-/// numbered unless its file was larger than 16 MiB as it was opened, and listed the tables of results.
+/// Theorem: an open finds the runs that the last close left.
+///
+/// The theorem is about a store whose trees are numbered. The files after its close hold its runs,
+/// with the log and without it. The assumption on opened files (`IsOfRuns`) holds for these files.
+/// A store that finds them has these runs, and a crash leaves the runs. A store is numbered unless
+/// its file listed the tables of results and was larger than 16 MiB when it was opened.
 pub fn theorem_of_reopening<D: Disk, E: Disk>()
     ensures held { (store : Stored D D.Disk) (runs : List Run) (image : Image)
         → EndsIn store runs image

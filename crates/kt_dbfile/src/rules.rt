@@ -16,8 +16,8 @@ use sqlite_trees::store::Alter;
 use sqlite_value::row::Row;
 use std::alloc::Global;
 
-/// An edit of the table at a place of the schema: the rows with the rowids `gone` are removed, and `sources` are added, each
-/// read from the column `from` on.
+/// An edit of one table of the schema. It removes the rows with the rowids `gone`, and adds the
+/// rows `sources`, each read from the column `from`.
 #[derive(Clone, Copy)]
 pub(crate) struct TableEdit<'a> {
     pub(crate) place: usize,
@@ -35,7 +35,7 @@ fn indexes_of(alloc: Global, schema: &Schema) -> Result<Vec<Index<'_>>, NoMemory
     Ok(all)
 }
 
-/// What an edit is applied with: rows that are used again, and what it has touched so far.
+/// The workspace of an edit: reusable rows, and the rows that the edit has touched so far.
 #[derive(Drop)]
 struct EditWork {
     space: Workspace,
@@ -44,7 +44,8 @@ struct EditWork {
 
 /// Applies an edit with the indexes of the schema, and checks each rule.
 ///
-/// Separate for the prover: it owns nothing, since values that are dropped if a call fails are slow to prove.
+/// Separate for the prover: this function owns nothing, since values that are dropped on failure
+/// are slow to prove.
 fn put_with<S: Alter>(
     store: &mut S,
     work: &mut EditWork,
@@ -99,7 +100,7 @@ fn put_with<S: Alter>(
     Ok(())
 }
 
-/// Applies an edit, and checks each rule of the schema. Nothing is committed.
+/// Applies an edit, and checks each rule of the schema. Commits nothing.
 pub(crate) fn put_rows<S: Alter>(
     store: &mut S,
     alloc: Global,

@@ -31,9 +31,11 @@ use std::marker::Model;
 use std::time::Duration;
 use std::{fs, thread};
 
-/// The results in a file (docs/formats/store.md), read by seeks in their trees and written by the rules of their schema.
-/// A contract sees the store; what is said of it holds while the disk returns what was written and nobody else writes
-/// the database.
+/// The results in a file (docs/formats/store.md).
+///
+/// The store seeks in the trees of the file to read them, and writes them by the rules of their
+/// schema. Contracts see the store. The clauses hold while the disk returns the data that was
+/// written and no other process writes the database.
 #[derive(Drop)]
 pub struct RunsFile<S: Alter> {
     store: S,
@@ -57,7 +59,7 @@ impl<S: Alter> Model for RunsFile<S> {
         × (r.schema ≡ schema_2 → r.places ≡ places_2) };
 }
 
-/// Reads the schema that a store lists.
+/// Reads the schema of a store from its schema list.
 fn listed<S: Alter>(store: &S, alloc: Global) -> Result<Option<Schema>, NoMemory>
     requires { IsClean (S.Store.view store.now) → (S.Store.view store.now).is_broken ≡ false }
     ensures { IsClean (S.Store.view store.now) → IfOk result (λ found. IfSome found
@@ -67,8 +69,8 @@ fn listed<S: Alter>(store: &S, alloc: Global) -> Result<Option<Schema>, NoMemory
     Ok(found)
 }
 
-/// Returns the results in a store that shows its last commit. Fails unless the store obeys the schema that it lists,
-/// with the tables of results.
+/// Wraps a store that shows its last commit as a `RunsFile`. Fails if the store is broken or lacks
+/// the tables of results. The caller guarantees that the store obeys its schema.
 pub(crate) fn over<S: Alter + Drop>(alloc: Global, store: S) -> Result<RunsFile<S>, StoreFailure>
     requires settled { IsClean (S.Store.view store) → (S.Store.view store).is_broken ≡ false
         → (S.Store.view store).trees ≡ (S.Store.view store).committed }
@@ -93,8 +95,13 @@ impl<S: Alter + Drop> RunsFile<S> {
     ghost use Rattle.sqlite_trees.specs.Tree.{Trees};
     ghost use Rattle.sqlite_trees.specs.View.{IsClean};
 
-    /// Returns the results of a connection, to be read and written by their trees. What a transaction of the connection
-    /// wrote is undone.
+    /// Converts the results of a connection to a `RunsFile`. Undoes uncommitted changes of the
+    /// connection.
+    ///
+    /// # Errors
+    ///
+    /// - `Store`: the connection is broken or lacks the tables of results.
+    /// - `NoMemory`: memory ran out.
     pub fn of(results: Results<S>) -> Result<RunsFile<S>, StoreFault>
         ensures stands { IfOk result (λ r. (runs : List Run)
             → StandsFor (state S.Store results) runs → HasCommitted (S.Store.view r) runs) }
@@ -111,7 +118,7 @@ impl<S: Alter + Drop> RunsFile<S> {
         Ok(over(alloc, connection.into_store())?)
     }
 
-    /// Returns the store of the results.
+    /// Returns the store. Allocates nothing.
     pub fn into_store(self) -> S
         ensures { result ≡ self }
     {
@@ -129,11 +136,11 @@ impl<D: Disk + Drop> RunsFile<FileStore<D>> {
     ghost use Rattle.std.specs.Prelude.{OnOk, IfErr};
     ghost use Rattle.kt_dbfile.specs.Common.{Ends, IsStoreFault};
 
-    /// Closes the results, so that the file alone has them all.
+    /// Closes the results. The database file then contains all of them, without its log.
     ///
     /// # Errors
     ///
-    /// The results are then in the file and its log.
+    /// On failure, the results are in the file and its log.
     ///
     /// - `Store`: the log can't be copied into the file.
     /// - `NoMemory`: memory ran out.
@@ -141,7 +148,7 @@ impl<D: Disk + Drop> RunsFile<FileStore<D>> {
         ensures closed { OnOk result (Ends self) }
         ensures failed { IfErr result IsStoreFault }
     {
-        // Not by `into_store`: over a disk that call takes the prover half a minute.
+        // Separate for the prover: over a disk, a call of `into_store` takes 30 seconds to prove.
         let RunsFile {
             store,
             schema: _,
@@ -152,7 +159,7 @@ impl<D: Disk + Drop> RunsFile<FileStore<D>> {
     }
 }
 
-/// Accepts the tables of a database, and returns the results to be read and written by their trees.
+/// Attaches the tables of a database, and converts the results to a `RunsFile`.
 fn taken<S: Alter + Drop>(
     alloc: Global,
     connection: Connection<S>,
@@ -166,9 +173,10 @@ fn taken<S: Alter + Drop>(
     }
 }
 
-/// Accepts the tables of a database in files, and returns the results to be read and written by their trees.
+/// Attaches the tables of a database in files, and converts the results to a `RunsFile`.
 ///
-/// Separate for the prover: what asks how a store over files is read is slow to prove.
+/// Separate for the prover: functions that depend on how a store over files is read are slow to
+/// prove.
 fn taken_of<D: Disk + Drop>(
     alloc: Global,
     connection: Connection<FileStore<D>>,
@@ -179,9 +187,11 @@ fn taken_of<D: Disk + Drop>(
     taken(alloc, connection)
 }
 
-/// Returns the results in a store that lists the tables of schema 2.
+/// Wraps a store that lists the tables of schema 2 as a `RunsFile`. Fails with `UnknownSchema` if
+/// the schema number isn't 2.
 ///
-/// Separate for the prover: what asks how a store over files is read is slow to prove.
+/// Separate for the prover: functions that depend on how a store over files is read are slow to
+/// prove.
 fn ours<S: Alter + Drop>(alloc: Global, mut store: S) -> Result<RunsFile<S>, StoreFault>
     requires settled { (S.Store.view store).trees ≡ (S.Store.view store).committed }
     requires sound { IsTrue (S.Store.view store).is_open
@@ -194,8 +204,8 @@ fn ours<S: Alter + Drop>(alloc: Global, mut store: S) -> Result<RunsFile<S>, Sto
     Ok(over(alloc, store)?)
 }
 
-/// Opens the results in files that list the tables of schema 2. Other files come back: they were only read.
-/// `UnknownSchema` if the tables say another number.
+/// Opens the results in files that list the tables of schema 2. Returns other files, which were
+/// only read. Fails with `UnknownSchema` if the listed tables have another schema number.
 pub(crate) fn known<D: Disk + Drop>(
     alloc: Global,
     files: Files<D>,
@@ -215,8 +225,8 @@ pub(crate) fn known<D: Disk + Drop>(
     }
 }
 
-/// Returns the results in files: by their trees if they list the tables of schema 2, and else as [`Results::attach`] takes
-/// them. `UnknownSchema` if the tables say a number other than 1 and 2.
+/// Opens the results in files. Files that list other tables than those of schema 2 are attached by
+/// [`Results::attach`]. Fails with `UnknownSchema` if the schema number is neither 1 nor 2.
 fn over_files<D: Disk + Drop>(
     alloc: Global,
     files: Files<D>,
@@ -238,13 +248,13 @@ fn over_files<D: Disk + Drop>(
     }
 }
 
-/// How often a file is tried again that another process works with.
+/// The number of retries while another process uses the file.
 const TRIES: usize = 100;
 
-/// The pause before a file is tried again, in milliseconds.
+/// The pause before a retry, in milliseconds.
 const PAUSE_MILLIS: u64 = 50;
 
-/// Pauses if another process works with the file. Any other fault comes back.
+/// Pauses if another process uses the file. Fails with any other fault.
 fn pause(rt: &HostRuntime, fault: StoreFault) -> Result<(), StoreFault>
     ensures { IfErr result (λ e. e ≡ fault) }
 {
@@ -255,7 +265,7 @@ fn pause(rt: &HostRuntime, fault: StoreFault) -> Result<(), StoreFault>
     Ok(())
 }
 
-/// Opens the files of a database once. A database is created if there is none.
+/// Opens the files of a database, without a retry. Creates the database if there is none.
 fn try_open<S: TrustedContents>(
     rt: &HostRuntime,
     file: &Text,
@@ -273,8 +283,9 @@ fn try_open<S: TrustedContents>(
     }
 }
 
-/// Opens the files of a database, which is created if there is none. While another process works with them they are tried
-/// again, for 5 seconds. Only a failed open gives the value of `S` back, so that one pair of files is opened.
+/// Opens the files of a database. Creates the database if there is none. While another process uses
+/// the files, retries for 5 seconds. Only a failed open returns the value of `S`, so at most one
+/// pair of files is opened.
 fn open_files<S: TrustedContents>(
     rt: &HostRuntime,
     file: &Text,
@@ -301,14 +312,15 @@ fn open_files<S: TrustedContents>(
     }
 }
 
-/// Returns whether a path is that of a file for SQLite.
+/// Returns `true` if SQLite opens the path as a file, not as `:memory:` or a URI.
 fn is_path(path: &str) -> bool
     ensures { result ≡ false → (path.now ≡ codes ":memory:") ⊎ IsUri path.now }
 {
     path != ":memory:" && !path.starts_with("file:")
 }
 
-/// Returns whether a link leads to a file. No log lies next to a link.
+/// Returns `true` if the path is a link, or can't be read. The log is next to the link's target,
+/// not next to the link.
 fn is_link(rt: &HostRuntime, file: &Text) -> bool {
     match fs::symlink_metadata(rt, file.as_str()) {
         Ok(found) => !found.is_file(),
@@ -320,16 +332,18 @@ impl<S: TrustedContents> RunsFile<FileStore<FileFrom<S>>> {
     ghost use Rattle.std.specs.Prelude.{◌≡◌, ◌⊎◌, IfOk, IfErr};
     ghost use Rattle.kt_dbfile.specs.Common.{Finds, IsStoreFault, image_at};
 
-    /// Opens the results in a file, which is created if there is none.
+    /// Opens the results in a file. Creates the file if it doesn't exist.
     ///
-    /// `start` represents what the file holds, for contracts alone. An open uses it up, so one value serves one open.
+    /// `start` represents the initial content of the file, in contracts alone. An open consumes it,
+    /// so a value serves one open.
     ///
     /// # Errors
     ///
     /// - `NoMemory`: memory ran out.
-    /// - `Store`: another process works with the file for 5 seconds, the file can't be created, read or written, it is damaged
-    ///   or has other tables, or `start` is `None`.
-    /// - `UnknownSchema`: the tables say a number other than 1 and 2.
+    /// - `Store`: another process uses the file for 5 seconds, the file can't be created, read or
+    ///   written, it is damaged or has other tables, `file` is `:memory:` or a URI, or `start` is
+    ///   `None`.
+    /// - `UnknownSchema`: the schema number is missing or neither 1 nor 2.
     pub fn open(
         rt: &HostRuntime,
         file: &Text,
@@ -366,7 +380,8 @@ impl<S: Alter> StoreSpec for RunsFile<S> {
     ghost ordered = { λ s runs h sound. h.2 sound };
 }
 
-/// Commits what was written. If it was refused, or the commit fails, the transaction goes back to the last commit.
+/// Commits the written rows, and returns the value of `written`. If `written` is an error or the
+/// commit fails, rolls the transaction back.
 fn committed<S: Alter, T: Drop>(
     store: &mut S,
     written: Result<T, StoreFault>,

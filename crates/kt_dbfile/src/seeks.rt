@@ -16,7 +16,7 @@ use sqlite_trees::store::{Shape, Store};
 use sqlite_value::row;
 use std::alloc::Global;
 
-/// Where the tables stand in a file that plainly lists schema 2.
+/// The indexes and trees of the tables in a file that lists schema 2.
 pub(crate) const PLACES_2: Places = Places {
     runs: Place { at: 1, tree: 2 },
     entries: Place { at: 2, tree: 3 },
@@ -45,8 +45,8 @@ pub(crate) fn last_number<S: Store>(
     Ok(number)
 }
 
-/// Returns the head of a run, or of the last run if `number` is `None`. Returns `None` if there is no such run. The file is
-/// damaged if it lacks a run that is not past the last one.
+/// Returns the head of a run, or of the last run if `number` is `None`. Returns `None` if there is
+/// no such run. Fails if the file lacks a run with a number up to the last one.
 pub(crate) fn head<S: Store>(
     store: &mut S,
     alloc: Global,
@@ -55,7 +55,7 @@ pub(crate) fn head<S: Store>(
 ) -> Result<Option<RunHead>, StoreFault>
     requires { StandAt places (S.Store.view store.old) }
     ensures served { Serves (readings S.Store) (Head number result) store.old store.new }
-    // Even in a damaged file no run has the number of another.
+    // Holds even in a damaged file: the returned head has the requested number.
     ensures numbered { IfOk result (λ found. IfSome found (IsNumbered number)) }
     ensures failed { IfErr result IsStoreFault }
     ensures looks { Looks S.Store store.old store.new }
@@ -70,7 +70,7 @@ pub(crate) fn head<S: Store>(
     Ok(Some(head))
 }
 
-/// Returns the row of a run. `NoRun` if no run has the number.
+/// Returns the row of a run. Fails with `NoRun` if no run has the number.
 pub(crate) fn stored_run<S: Store>(
     store: &mut S,
     alloc: Global,
@@ -97,7 +97,7 @@ pub(crate) fn stored_run<S: Store>(
     Ok(row)
 }
 
-/// Returns the head of a run. `NoRun` if no run has the number.
+/// Returns the head of a run. Fails with `NoRun` if no run has the number.
 pub(crate) fn run_head<S: Store>(
     store: &mut S,
     alloc: Global,
@@ -120,7 +120,7 @@ pub(crate) fn run_head<S: Store>(
     Ok(head)
 }
 
-/// Reads the entries of a run without their pairs and outputs, by position.
+/// Reads the entries of a run without their pairs and outputs, ordered by position.
 fn all_entries<S: Store>(
     store: &mut S,
     alloc: Global,
@@ -139,8 +139,8 @@ fn all_entries<S: Store>(
     outline_in(alloc, &rows)
 }
 
-/// Reads the entries of a run without their pairs and outputs, by position. The file is damaged if an entry is missing,
-/// which a finished run or a pair shows.
+/// Reads the entries of a run without their pairs and outputs, ordered by position. Fails if a
+/// finished run or a pair shows that an entry is missing.
 pub(crate) fn outline<S: Store>(
     store: &mut S,
     alloc: Global,
@@ -158,7 +158,8 @@ pub(crate) fn outline<S: Store>(
     Ok(found)
 }
 
-/// Returns the key of the entry before a position of a run, or of the run before if there is none.
+/// Returns the key of the entry before a position of a run. For position 0, returns the key of the
+/// run before.
 fn place_before(alloc: Global, run: u32, position: u32) -> Result<row::Row, NoMemory>
     ensures { IfOk result (λ key. key ≡ key_before run position) }
 {
@@ -168,7 +169,8 @@ fn place_before(alloc: Global, run: u32, position: u32) -> Result<row::Row, NoMe
     entry_place(alloc, run, position - 1)
 }
 
-/// Reads the pairs of the entry of a run at a position. Returns none if the run has no such entry.
+/// Reads the pairs of the entry of a run at a position. Returns no pairs if the run has no such
+/// entry.
 pub(crate) fn find_pairs<S: Store>(
     store: &mut S,
     alloc: Global,
@@ -202,7 +204,8 @@ fn stored_outputs(alloc: Global, row: &row::Row) -> Result<CaseOutputs, StoreFau
     Ok(CaseOutputs { body, cleanup })
 }
 
-/// Reads the outputs of the entry of a run at a position. `NoRun` if the run has no such entry.
+/// Reads the outputs of the entry of a run at a position. Fails with `NoRun` if the run has no such
+/// entry.
 pub(crate) fn find_outputs<S: Store>(
     store: &mut S,
     alloc: Global,

@@ -13,7 +13,7 @@ use sqlite_trees::store::{Direction, Shape, Store};
 use sqlite_value::row::Row;
 use std::alloc::Global;
 
-/// Returns the table of entries.
+/// Returns the table of entries with its index.
 pub(crate) fn entries_at(places: Places) -> Table<'static>
     ensures tree { result.tree ≡ places.entries.tree }
     ensures index { result.index ≡ places.entry_keys }
@@ -26,7 +26,7 @@ pub(crate) fn entries_at(places: Places) -> Table<'static>
     }
 }
 
-/// Returns the table of pairs.
+/// Returns the table of pairs with its index.
 pub(crate) fn pairs_at(places: Places) -> Table<'static>
     ensures tree { result.tree ≡ places.props.tree }
     ensures index { result.index ≡ places.pair_keys }
@@ -39,7 +39,7 @@ pub(crate) fn pairs_at(places: Places) -> Table<'static>
     }
 }
 
-/// Creates the prefix that the keys of an entry and of its pairs have in their indexes.
+/// Creates the index key of an entry, which is also the prefix of its pairs' keys.
 pub(crate) fn entry_place(alloc: Global, run: u32, position: u32) -> Result<Row, NoMemory>
     ensures { IfOk result (λ place. place ≡ Int (pos run) ∷ Int (pos position) ∷ []) }
 {

@@ -21,7 +21,8 @@ use sqlite_value::value::ValueRef;
 use std::alloc::Global;
 use std::cmp::Ordering;
 
-/// A table and the index of its key, with the columns of the key and those that are blobs.
+/// A table's tree and the index of its key, with the columns of the key and the columns that are
+/// blobs.
 #[derive(Clone, Copy)]
 pub(crate) struct Table<'a> {
     pub(crate) tree: u32,
@@ -30,7 +31,7 @@ pub(crate) struct Table<'a> {
     pub(crate) blobs: &'a [usize],
 }
 
-/// Copies the bytes in a column of a stored row. This is the one copy of an output.
+/// Copies the bytes in a column of a stored row. An output is copied only here.
 pub(crate) fn stored_bytes(alloc: Global, row: &row::Row, at: usize) -> Result<Bytes, StoreFailure>
     ensures bytes { (b : List ℕ) → column row.now at ≡ Blob b → IfOk result (λ x. x ≡ b) }
 {
@@ -43,7 +44,7 @@ pub(crate) fn stored_bytes(alloc: Global, row: &row::Row, at: usize) -> Result<B
     }
 }
 
-/// Returns the rowid of a row. Fails unless it is above 0.
+/// Returns the rowid of a row. Fails unless the rowid is above 0.
 pub(crate) fn number_of(row: &row::Row) -> Result<u64, StoreFailure>
     ensures { (n : ℕ) → rowid row.now ≡ Int (pos n) → IfOk result (λ number. number ≡ n) }
 {
@@ -53,7 +54,7 @@ pub(crate) fn number_of(row: &row::Row) -> Result<u64, StoreFailure>
     }
 }
 
-/// Creates a key of one number.
+/// Creates an index key with one number.
 pub(crate) fn number_row(alloc: Global, number: u32) -> Result<row::Row, NoMemory>
     ensures { IfOk result (λ key. key ≡ Int (pos number) ∷ []) }
 {
@@ -77,7 +78,7 @@ pub(crate) fn columns_of(
     Ok(values)
 }
 
-/// Copies columns of a stored row into a row as a query returns it.
+/// Copies columns of a stored row into a row of a query result.
 pub(crate) fn shown(alloc: Global, row: &row::Row, columns: &[usize]) -> Result<Row, NoMemory>
     ensures { IfOk result (λ it. it ≡ in_columns columns.now row.now) }
 {
@@ -86,7 +87,7 @@ pub(crate) fn shown(alloc: Global, row: &row::Row, columns: &[usize]) -> Result<
     Ok(row)
 }
 
-/// Appends columns of a stored row, as a query returns them.
+/// Appends columns of a stored row to `found`.
 fn add_shown<T: FromRow>(
     alloc: Global,
     row: &row::Row,
@@ -100,7 +101,7 @@ fn add_shown<T: FromRow>(
     add(found, T::from_row(alloc, &values)?)
 }
 
-/// Returns the rowid at the end of an index entry.
+/// Returns the rowid at the end of an index entry, or `None` if the last value isn't a number.
 fn rowid_of(place: &row::Row) -> Option<i64>
     ensures { (front : Values) (id : ℤ) → place.now ≡ front ++ Int id ∷ [] → result ≡ Some id }
 {
@@ -111,7 +112,8 @@ fn rowid_of(place: &row::Row) -> Option<i64>
     }
 }
 
-/// Returns `true` if the tree of a table is a table's, and that of its key an index in the order of its bytes.
+/// Returns `true` if the tree of a table has the shape of a table, and that of its key the shape of
+/// an index in byte order.
 pub(crate) fn are_shaped<S: Store>(store: &S, table: &Table) -> bool
     ensures table { IsTrue result
         → (S.Store.view store.now).shape table.now.tree ≡ kind.Table }
@@ -132,8 +134,9 @@ fn has_blobs(row: &row::Row, columns: &[usize]) -> bool {
     true
 }
 
-/// Reads the next index entry of the cursor and its row over these two, if there is one. Returns `true` if the entry
-/// begins with the key. An entry of another row is a damage, and so is a row of another form.
+/// Reads the next index entry of the cursor into `place`, and its row into `row`. Returns `true` if
+/// the entry begins with the key, and `false` if it doesn't or if there is no entry. Fails if the
+/// entry isn't that of its row, or if the row has another form.
 pub(crate) fn next_row<S: Store>(
     store: &mut S,
     alloc: Global,
@@ -165,7 +168,7 @@ pub(crate) fn next_row<S: Store>(
     Ok(place.cmp_prefix(Order::PLAIN, key) == Ordering::Equal)
 }
 
-/// Returns the first row of a table that the index of its key has under a key, if there is one. No other row is read.
+/// Returns the first row of a table under an index key, if there is one. Reads no other row.
 pub(crate) fn row_behind<S: Store>(
     store: &mut S,
     alloc: Global,
@@ -189,8 +192,8 @@ pub(crate) fn row_behind<S: Store>(
     Ok(Some(row))
 }
 
-/// Reads columns of the rows of a table that the index of its key has under a key, in its order. One row is held at a
-/// time.
+/// Reads columns of the rows of a table under an index key, in the order of the index. Holds one
+/// row at a time.
 fn rows_behind<S: Store>(
     store: &mut S,
     alloc: Global,
@@ -211,9 +214,9 @@ fn rows_behind<S: Store>(
     let mut place = row::Row::new(alloc);
     let mut row = row::Row::new(alloc);
     let mut rows = Vec::new(alloc);
-    // A disk that lies could keep a cursor going, so the loop counts.
+    // A faulty disk could keep a cursor going, so the loop counts.
     'places: for _ in 0..u64::MAX {
-        // The place behind is read too: it may be one of these that was damaged.
+        // Read one entry past the last match: a damaged entry could be a match.
         if !next_row(store, alloc, table, key, &mut place, &mut row)? {
             return Ok(rows);
         }
@@ -222,8 +225,8 @@ fn rows_behind<S: Store>(
     Err(FAULTY)
 }
 
-/// Reads the rows that `rows_behind` finds. First it reads the last index entry at or before the key `before`, and its
-/// row: that entry may be a damaged one of these.
+/// Reads columns of the rows of a table under an index key. First reads the last index entry at or
+/// before the key `before`, and its row: a damaged entry there could be a match.
 pub(crate) fn rows_after<S: Store>(
     store: &mut S,
     alloc: Global,
@@ -248,7 +251,7 @@ pub(crate) fn rows_after<S: Store>(
     rows_behind(store, alloc, table, key, columns)
 }
 
-/// Returns how many entries the index of a table's key has under a key.
+/// Returns the number of index entries under a key.
 pub(crate) fn count_under<S: Store>(
     store: &mut S,
     alloc: Global,
@@ -265,7 +268,7 @@ pub(crate) fn count_under<S: Store>(
     sure(are_shaped(store, table))?;
     store.seek(0, table.index, key, Direction::Forward)?;
     let mut place = row::Row::new(alloc);
-    // A disk that lies could keep a cursor going, so the loop counts.
+    // A faulty disk could keep a cursor going, so the loop counts.
     'places: for count in 0..u64::MAX {
         if !store.next(0, &mut place)? {
             return Ok(count);

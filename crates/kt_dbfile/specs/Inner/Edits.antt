@@ -1,4 +1,4 @@
--- Rows that are written into the trees of a store by the rules of its schema.
+-- The effect of writing rows into the trees of a store by the rules of its schema.
 use Rattle.std.specs.Prelude.{◌≡◌, ◌⊎◌, ℕ, pos, false, List, [], ◌∷◌, IsTrue, Some, slice_get, Result, Ok, Err, IfErr, IfOk, OnErr, OnOk, is_err, ℤ, map}
 use Rattle.sqlite_schema.specs.declared.schema.Schema.{Schema}
 use Rattle.sqlite_schema.specs.declared.schema.Table.{Table}
@@ -19,39 +19,43 @@ use Rattle.kt_dbfile.specs.declared.places.Places.{Places}
 use Rattle.kt_store.specs.Types.{Entry, Ghosts, Int, IsClean, Null, Row, Run, Trees, View}
 use Rattle.kt_store.specs.declared.store_fault.StoreFault.{StoreFault}
 
--- the transaction is not broken, and its trees list the schema and obey it
+-- `Obeys v schema`: the transaction is not broken, and its trees list `schema` and obey it
 pub record Obeys (v : View) (schema : Schema) : Type 0 where
   pub unbroken : v.is_broken ≡ false
   pub sound : IsSound schema v.trees
 
--- a store shows its last commit, unless its transaction is broken, and that obeys the schema
+-- `IsSettledStore v schema`: the store shows its last commit, unless its transaction is broken, and
+-- the commit obeys `schema`
 pub record IsSettledStore (v : View) (schema : Schema) : Type 0 where
   pub settled : IsClean v → v.is_broken ≡ false → v.trees ≡ v.committed
   pub sound : IsTrue v.is_open → IsSound schema v.committed
 
 module _ (schema : Schema) where
-  -- the table at a place of the schema lost the rows with these rowids and got others, each read from this column on
+  -- `PutsRows schema place gone rowids from sources old new`: the table at index `place` lost the
+  -- rows with the rowids `gone`, and got the rows `sources`, each read from the column `from`
   abbrev pub PutsRows : ℕ → List ℤ → Rowids → ℕ → List Row → Trees → Trees → Type 0
   PutsRows place gone rowids from sources old new =
       (table : Table) → slice_get schema.tables place ≡ Some table → Writes schema Enforced old (edit_of old table gone rowids from sources) (Ok new)
 
--- a row that has no rowid yet
+-- `unnumbered row`: `row` without a rowid yet
 abbrev pub unnumbered : Row → Row
 unnumbered row = Null ∷ row
 
--- the row of a run that begins, without a rowid
+-- `begun_row total started`: the row of a new run, without a rowid
 abbrev pub begun_row : ℕ → ℕ → Row
 begun_row total started = Null ∷ Null ∷ Int (pos started) ∷ Int (pos total) ∷ Int (pos 0) ∷ []
 
--- an entry of texts is put into its table, and then its pairs into theirs
+-- `Fills schema places run e old new`: the entry `e` was written into its table, then its pairs
+-- into their table
 abbrev pub Fills : Schema → Places → ℕ → Entry → Trees → Trees → Type 0
 Fills schema places run' e old new =
     HasTexts e × ((mid : Trees) × PutsRows schema places.entries.at [] Chosen 0 (unnumbered (entry_row run' e) ∷ []) old mid
     × PutsRows schema places.props.at [] Chosen 0 (map unnumbered (pair_rows run' e)) mid new)
 
 module _ {S : Type 0} (g : Ghosts S) (schema : Schema) where
-  -- a call wrote its rows, or failed, and committed nothing: the last commit stands, and a crash leaves what it left before; once it is done, the
-  -- trees are those of the changed runs
+  -- `Wrote g schema call old new result`: a call wrote its rows or failed, and committed nothing.
+  -- The last commit is unchanged, and a crash leaves what it left before. On success, the trees are
+  -- those of the changed runs.
   pub record Wrote {T : Type 0} (call : Result T StoreFault → StoreCall) (old new : S) (result : Result T StoreFault) : Type 0 where
     pub clean : IsClean (g.view new) → IsClean (g.view old)
     pub held : IsClean (g.view new) → HoldsCommit (g.view old) (g.view new)
@@ -61,7 +65,8 @@ module _ {S : Type 0} (g : Ghosts S) (schema : Schema) where
     pub rows : (runs : List Run) → HasRuns (g.view old) runs → IsClean (g.view new) → OnOk result (Keeps (changed_by (call result) runs) (g.view new).trees)
 
 module _ {S : Type 0} (g : Ghosts S) where
-  -- what was written was committed; or it was refused, or its commit failed, and the transaction went back to the last commit
+  -- `Ended g old new written result`: the written rows were committed. If `written` is an error or
+  -- the commit failed, the transaction was rolled back.
   pub record Ended {T : Type 0} (old new : S) (written result : Result T StoreFault) : Type 0 where
     pub value : IfOk result (λ value. written ≡ Ok value)
     pub fault : IfErr result (λ e. (written ≡ Err e) ⊎ IsStoreFault e)

@@ -1,4 +1,4 @@
--- What is known of the results in a database, by the trees of a store, and where their tables stand.
+-- The runs that the trees of a store represent, and the indexes of their tables.
 use Rattle.std.specs.Prelude.{◌≡◌, false, List, ℕ, suc, [], ◌∷◌, ⊤, Some}
 use Rattle.kt_store.specs.Runs.{AreNumbered, AreOrdered, Keeps, KeepsOne}
 use Rattle.kt_store.specs.Seeks.{HasCommitted}
@@ -8,16 +8,19 @@ use Rattle.sqlite_schema.specs.declared.schema.Table.{Table}
 use Rattle.kt_dbfile.specs.declared.places.Places.{Places}
 use Rattle.kt_store.specs.Types.{Ghosts, IsClean, Run, Trees, View}
 
--- while the disk returns what was written and the store is not broken, its trees are those of a database with these runs
+-- `HasRuns v runs`: while the disk is clean and the store is not broken, its trees are those of a
+-- database with `runs`
 abbrev pub HasRuns : View → List Run → Type 0
 HasRuns v runs = IsClean v → v.is_broken ≡ false → Keeps runs v.trees
 
--- what holds of the runs that the trees of a store were those of before a call, if the disk returns what was written after it
+-- `OnTrees g old new P`: `P` holds for the runs that the trees represented before a call, if the
+-- disk is clean after the call
 abbrev pub OnTrees : {S : Type 0} → Ghosts S → S → S → (List Run → Type 0) → Type 0
 OnTrees g old new P = (runs : List Run) → HasRuns (g.view old) runs → IsClean (g.view new) → P runs
 
 module _ {S : Type 0} (g : Ghosts S) where
-  -- of a store that has runs in this sense
+  -- `by_trees Has`: the specification of a store that represents `runs` if `Has` holds for its view
+  -- and `runs`
   abbrev pub by_trees : (View → List Run → Type 0) → store.Ghosts S
   by_trees Has = record {
     answers = λ _ _ _. Unit {0};
@@ -28,23 +31,24 @@ module _ {S : Type 0} (g : Ghosts S) where
     ordered = λ s runs h sound. h.2 sound;
   }
 
-  -- of a store that is only read
+  -- the specification of a store that is only read
   abbrev pub readings : store.Ghosts S
   readings = by_trees HasRuns
 
-  -- of a store that is read and written by its trees
+  -- the specification of a store that is read and written by its trees
   abbrev pub runs_file : store.Ghosts S
   runs_file = by_trees HasCommitted
 
--- the columns of a table from a place on have these names
+-- `AreNamed table at names`: the columns of `table` from the index `at` have `names`
 abbrev pub AreNamed : Table → ℕ → List (List ℕ) → Type 0
 AreNamed table at [] = ⊤
 AreNamed table at (name ∷ names) = (column_named table name ≡ Some at) × AreNamed table (suc at) names
 
--- where the tables of results stand in schema 2
+-- the indexes and trees of the tables of results in schema 2
 abbrev pub places_2 : Places
 places_2 = record { runs = record { at = 1; tree = 2 }; entries = record { at = 2; tree = 3 }; entry_keys = 4; props = record { at = 3; tree = 5 }; pair_keys = 6 }
 
--- these places are those of schema 2, if the store shows runs and is not broken
+-- `StandAt places v`: `places` are those of schema 2, if the store represents runs and is not
+-- broken
 abbrev pub StandAt : Places → View → Type 0
 StandAt places v = IsClean v → v.is_broken ≡ false → (runs : List Run) → Keeps runs v.trees → places ≡ places_2

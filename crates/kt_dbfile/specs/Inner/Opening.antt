@@ -1,4 +1,4 @@
--- From two files to a store that has the runs that they hold.
+-- The steps from two files to a store that has the runs of the files.
 use Rattle.std.specs.Prelude.{◌≡◌, ◌≢◌, true, false, ℕ, ℤ, pos, List, IsTrue}
 use Rattle.sqlite_disk.specs.declared.Disk.{Ghosts}
 use Rattle.sqlite_disk.specs.declared.Files.{Files}
@@ -18,22 +18,24 @@ use Rattle.kt_store.specs.TrustedContents.{ListsObjects}
 use Rattle.kt_store.specs.Types.{FileStore, Ghosts as StoreGhosts, HasCleanDisk, Held, Image, IsClean, PageMap, Recovers, Run, Trees, file_state, recovers, state, view}
 
 module _ {D : Type 0} {g : Ghosts D} (image : Image) (store : FileStore D g) where
-  -- a store shows the runs that a file held, unless it is broken, and a crash leaves them
+  -- `OpensOver image store`: `store` shows the runs of the files `image`, unless it is broken, and
+  -- a crash leaves them
   pub record OpensOver : Type 0 where
     pub holds : (runs : List Run) → HoldsRuns image runs → (view store).is_broken ≡ false → Keeps runs (view store).trees
     pub leaves : (runs : List Run) → HoldsRuns image runs → (trees : Trees) → recovers store trees → Keeps runs trees
 
--- `SaysAnother trees`: the table of settings says another number than 2
+-- `SaysAnother trees`: the schema number in `trees` isn't 2
 abbrev pub SaysAnother : Trees → Type 0
 SaysAnother trees = (n : ℤ) × (n ≢ pos 2) × SaysIn n trees
 
--- `IsOfOptions pages options`: a store with these options keeps so many read pages in memory, and 2,000 written ones
+-- `IsOfOptions pages options`: a store with `options` caches `pages` read pages and 2,000 written
+-- pages
 pub record IsOfOptions (pages : ℕ) (options : Options) : Type 0 where
   pub read : options.cache_pages ≡ pages
   pub written : options.spill_pages ≡ 2000
 
 module _ {D : Type 0} (g : Ghosts D) (old left : Files D) where
-  -- `IsLeft old left`: files that were only read
+  -- `IsLeft g old left`: the files were only read
   pub record IsLeft : Type 0 where
     pub log : IsTrue (g.is_usable left.log)
     pub db : IsTrue (g.is_usable left.db)
@@ -47,7 +49,8 @@ module _ {D : Type 0} {g : Ghosts D} (old new : Unopened D g) where
     pub found : Recovers (state_of old).page_size (image old) pages
     pub again : Recovers (state_of old).page_size (image new) pages
 
-  -- the files recover as before, and if they hold a database with runs it is one of the schema that is now wanted
+  -- `ListsRuns old new`: the files recover as before, and if they hold a database with runs, the
+  -- database has the listed schema
   pub record ListsRuns : Type 0 where
     pub honest : IsTrue (state_of old).is_clean
     pub size : (state_of new).page_size ≡ (state_of old).page_size
@@ -58,13 +61,14 @@ module _ {D : Type 0} {g : Ghosts D} (old new : Unopened D g) where
     pub fits : (runs : List Run) (db : Trees) → HoldsAt (state_of old).page_size (image old) db → Keeps runs db
         → IsOurs (state_of old).page_size true (wanted_by new) pages × (db ≡ file_trees (state_of old).page_size (wanted_by new) pages)
 
--- the tables of a connection were taken, and a store has the last commit of the results; a crash leaves what it left of them
+-- `IsTaken g conn it`: the tables of `conn` were attached, and the store `it` has the last commit
+-- of the results; a crash leaves what it left of the results
 abbrev pub IsTaken : {S : Type 0} → StoreGhosts S → Held S → S → Type 0
 IsTaken g conn it = (results : Held _) × ((was : DatabaseBefore) → IsOf was (state g conn) → TakesTables was (state g conn) (state g results))
     × ((runs : List Run) → StandsFor (state g results) runs → HasCommitted (g.view it) runs)
     × (IsClean (g.view it) → HasCleanDisk (state g results)) × ((trees : Trees) → g.recovers it trees → (state g results).may_leave trees)
     × (IsClean (g.view it) → IsTrue (g.view it).is_numbered)
 
--- the same of a store over files
+-- `IsTakenOf conn it`: `IsTaken` for a store over files
 abbrev pub IsTakenOf : {D : Type 0} {g : Ghosts D} → Held (FileStore D g) → FileStore D g → Type 0
 IsTakenOf conn it = (results : Held _) × ((was : DatabaseBefore) → IsOf was (file_state conn) → TakesTables was (file_state conn) (file_state results)) × Follows results it

@@ -1,8 +1,8 @@
--- What is supposed of files holds of files without a byte.
+-- The assumption on opened files holds for empty files.
 use Rattle.std.proofs.Math.Nat.{lt_irrefl}
 use Rattle.std.specs.Prelude.{[]}
 use Rattle.kt_store.specs.TrustedContents.{IsOfRuns}
 
--- they list nothing
+-- empty files list no tables
 pub of_nothing : IsOfRuns (record { log = []; db = [] })
 of_nothing size pages found lists = absurd (lt_irrefl 0 found.present)
