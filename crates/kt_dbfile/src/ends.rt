@@ -11,7 +11,7 @@ ghost use Rattle.sqlite_trees.specs.View.{IsClean};
 
 use crate::places::Places;
 use crate::tables::{entries_at, entry_place, last_row, pairs_at, stored_head};
-use crate::trees::{Table, are_shaped, columns_of, count_under, next_row, number_row};
+use crate::trees::{TreeTable, are_shaped, columns_of, count_under, next_row, number_row};
 use kt_base::{Entry, NoMemory};
 use kt_store::RunHead;
 use kt_store::lookup::key;
@@ -36,7 +36,7 @@ pub(crate) const NO_RUN: RunHead = RunHead {
 fn last_place<S: Store>(
     store: &mut S,
     alloc: Global,
-    table: &Table,
+    table: &TreeTable,
     key: &Row,
 ) -> Result<Row, StoreFailure>
     ensures looks { Looks S.Store store.old store.new }
@@ -54,7 +54,7 @@ fn last_place<S: Store>(
 fn is_last_row_placed<S: Store>(
     store: &mut S,
     alloc: Global,
-    table: &Table,
+    table: &TreeTable,
 ) -> Result<bool, StoreFailure>
     ensures looks { Looks S.Store store.old store.new }
 {
@@ -68,7 +68,7 @@ fn is_last_row_placed<S: Store>(
 
 /// Returns the run and the position of the last index key of a table. Fails if the index lacks the
 /// key of the table's last row.
-fn end_of<S: Store>(store: &mut S, alloc: Global, table: &Table) -> Result<Row, StoreFailure>
+fn end_of<S: Store>(store: &mut S, alloc: Global, table: &TreeTable) -> Result<Row, StoreFailure>
     ensures looks { Looks S.Store store.old store.new }
 {
     sure(is_last_row_placed(store, alloc, table)?)?;
@@ -233,7 +233,7 @@ fn may_be_all(head: RunHead, entries: &[Entry]) -> bool
 fn count_pairs<S: Store>(
     store: &mut S,
     alloc: Global,
-    table: &Table,
+    table: &TreeTable,
     run: u32,
     entries: &[Entry],
 ) -> Result<u64, StoreFailure>

@@ -3,7 +3,7 @@ ghost use Rattle.kt_dbfile.specs.Common.{Int, IsLast, Looks, LooksThrough, Run, 
 ghost use Rattle.sqlite_trees.specs.View.{IsClean};
 
 use crate::places::Places;
-use crate::trees::{Table, number_row, shown};
+use crate::trees::{TreeTable, number_row, shown};
 use kt_base::NoMemory;
 use kt_store::RunHead;
 use kt_store::heads::head_in;
@@ -14,11 +14,11 @@ use sqlite_value::row::Row;
 use std::alloc::Global;
 
 /// Returns the table of entries with its index.
-pub(crate) fn entries_at(places: Places) -> Table<'static>
+pub(crate) fn entries_at(places: Places) -> TreeTable<'static>
     ensures tree { result.tree ≡ places.entries.tree }
     ensures index { result.index ≡ places.entry_keys }
 {
-    Table {
+    TreeTable {
         tree: places.entries.tree,
         index: places.entry_keys,
         key: &[1, 2],
@@ -27,11 +27,11 @@ pub(crate) fn entries_at(places: Places) -> Table<'static>
 }
 
 /// Returns the table of pairs with its index.
-pub(crate) fn pairs_at(places: Places) -> Table<'static>
+pub(crate) fn pairs_at(places: Places) -> TreeTable<'static>
     ensures tree { result.tree ≡ places.props.tree }
     ensures index { result.index ≡ places.pair_keys }
 {
-    Table {
+    TreeTable {
         tree: places.props.tree,
         index: places.pair_keys,
         key: &[1, 2, 3],

@@ -24,7 +24,7 @@ use std::cmp::Ordering;
 /// A table's tree and the index of its key, with the columns of the key and the columns that are
 /// blobs.
 #[derive(Clone, Copy)]
-pub(crate) struct Table<'a> {
+pub(crate) struct TreeTable<'a> {
     pub(crate) tree: u32,
     pub(crate) index: u32,
     pub(crate) key: &'a [usize],
@@ -114,7 +114,7 @@ fn rowid_of(place: &row::Row) -> Option<i64>
 
 /// Returns `true` if the tree of a table has the shape of a table, and that of its key the shape of
 /// an index in byte order.
-pub(crate) fn are_shaped<S: Store>(store: &S, table: &Table) -> bool
+pub(crate) fn are_shaped<S: Store>(store: &S, table: &TreeTable) -> bool
     ensures table { IsTrue result
         → (S.Store.view store.now).shape table.now.tree ≡ kind.Table }
     ensures index { IsTrue result
@@ -140,7 +140,7 @@ fn has_blobs(row: &row::Row, columns: &[usize]) -> bool {
 pub(crate) fn next_row<S: Store>(
     store: &mut S,
     alloc: Global,
-    table: &Table,
+    table: &TreeTable,
     key: &row::Row,
     place: &mut row::Row,
     row: &mut row::Row,
@@ -172,7 +172,7 @@ pub(crate) fn next_row<S: Store>(
 pub(crate) fn row_behind<S: Store>(
     store: &mut S,
     alloc: Global,
-    table: &Table,
+    table: &TreeTable,
     key: &row::Row,
 ) -> Result<Option<row::Row>, StoreFailure>
     ensures found { IfOk result (λ found. IsClean (S.Store.view store.new)
@@ -197,7 +197,7 @@ pub(crate) fn row_behind<S: Store>(
 fn rows_behind<S: Store>(
     store: &mut S,
     alloc: Global,
-    table: &Table,
+    table: &TreeTable,
     key: &row::Row,
     columns: &[usize],
 ) -> Result<Vec<Row>, StoreFailure>
@@ -230,7 +230,7 @@ fn rows_behind<S: Store>(
 pub(crate) fn rows_after<S: Store>(
     store: &mut S,
     alloc: Global,
-    table: &Table,
+    table: &TreeTable,
     before: &row::Row,
     key: &row::Row,
     columns: &[usize],
@@ -255,7 +255,7 @@ pub(crate) fn rows_after<S: Store>(
 pub(crate) fn count_under<S: Store>(
     store: &mut S,
     alloc: Global,
-    table: &Table,
+    table: &TreeTable,
     key: &row::Row,
 ) -> Result<u64, StoreFailure>
     ensures counted { IfOk result (λ n. IsClean (S.Store.view store.new)
