@@ -36,8 +36,8 @@ pub use verdicts::{ending_of, push_reason, push_verdict};
 /// # Errors
 ///
 /// - `Misspelled`: this crate has no such subject, or `row` doesn't have the format of its subject.
-/// - `NoMemory`: an allocation failed. A failed append to `out` is returned by [`ExampleOutput::end`]
-///   instead.
+/// - `NoMemory`: an allocation failed. A failed append to `out` is returned by
+///   [`ExampleOutput::end`] instead.
 pub fn push_answer(out: &mut ExampleOutput, subject: &str, row: &Example<'_>) -> Result<()> {
     match subject {
         "claims" => streams::answer(out, row, "file"),

@@ -43,8 +43,8 @@ fn run_list<O: Os>(os: &mut O, plan: &Spawning, case: CaseAttempt) -> Listing
     }
 }
 
-/// Returns the `CaseAttempt` of a program that lists its test cases, and the plan of its start. `source`
-/// is the absolute directory of the root Kyuafile.
+/// Returns the `CaseAttempt` of a program that lists its test cases, and the plan of its start.
+/// `source` is the absolute directory of the root Kyuafile.
 fn plan_list(
     alloc: Global,
     source: &Text,

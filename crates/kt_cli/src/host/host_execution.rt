@@ -57,8 +57,8 @@ fn driver_of<O: Os + Drop>(
 /// Executes a command over test cases on the host.
 ///
 /// The command has its own root directory for work directories, which is removed at the end. Fails,
-/// and changes no results, if the driver can't be created. The returned `HostHandles` is the given one,
-/// after the calls of the command.
+/// and changes no results, if the driver can't be created. The returned `HostHandles` is the given
+/// one, after the calls of the command.
 pub fn execute_over_cases<M: HostFiles + Drop, O: Os + Drop, S: ResultStore, W: Write>(
     outside: HostHandles<M, O>,
     around: ProcessEnv,

@@ -112,7 +112,8 @@ fn reject<W: Write, E: Write>(fault: &CommandFault, out: &mut LineOutput<W>, err
 ///
 /// The command runs over the machine and the system of `outside`, and over the results file that
 /// the platform opens and closes. `list` and `debug` run over an empty store in memory. At the end
-/// all output is written. The returned `HostHandles` is the given one, after the calls of the command.
+/// all output is written. The returned `HostHandles` is the given one, after the calls of the
+/// command.
 pub fn run_command<M: HostFiles + Drop, O: Os + Drop, P: ResultsHost, W: Write, E: Write>(
     outside: HostHandles<M, O>,
     platform: &mut P,
