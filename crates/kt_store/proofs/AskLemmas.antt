@@ -1,5 +1,4 @@
--- What a query leaves of a connection that stands for runs, and what prepared statements tell of
--- its tables.
+-- The state of a connection after a query, and the tables that prepared statements show.
 use Rattle.kt_store.proofs.Common.{Asked, AsksNumber, CommitsNothing, Compiled, Database, Err, Ghosts, HasCleanDisk, HasTables, Held, IsStore, IsTrue, IsUnchanged, IsUnderstood, List, Looked, MayShow, Ok, Outlines, Rests, Result, Row, Run, SaysSchema, Shown, ShowsRows, StandsFor, State, Survives, Trees, ap, arith, never_commits, refl, schema_2, state, subst, survives_then, survives_weaker, sym, unchanged_then, understood, ℕ, ℤ, ◌∙◌, ◌≡◌}
 use Rattle.sqlite.specs.Given.{IsPlain}
 use Rattle.sqlite.specs.Clock.{timed}
@@ -12,7 +11,7 @@ unfolding Shown
 shown_same sql params old new rows plain h =
     let none = (subst IsPlain h.1.is plain).0 in (subst (ShowsRows old new sql h.0 (timed params h.0.formats h.1.now) rows) none h.2).3
 
--- where only the statement is known
+-- the case where only the statement is known
 module _ {S : Type 0} (g : Ghosts S) (old new : Held S) (survives : HasCleanDisk (state g new) → HasCleanDisk (state g old))
     (sql : List ℕ) (plain : HasCleanDisk (state g old) → IsTrue (state g old).is_open → IsPlain (understood (state g old).now.schema sql)) (params : Row) where
   mid_plain : HasCleanDisk (state g new) → (mid : Held S) → IsUnchanged (state g old) (state g mid) → IsPlain (understood (state g mid).now.schema sql)
@@ -28,7 +27,7 @@ module _ {S : Type 0} (g : Ghosts S) (old new : Held S) (survives : HasCleanDisk
   pub asked_leaves : Survives (state g old) (state g new) (MayShow g sql params old) → Survives (state g old) (state g new) (λ _. ⊥)
   asked_leaves h = survives_weaker (state g old) (state g new) (MayShow g sql params old) (λ _. ⊥) shows_nothing h
 
--- the same where the tables stand for runs
+-- the case where the tables represent runs
 module _ {S : Type 0} (g : Ghosts S) (old new : Held S) (runs : List Run) (has : StandsFor (state g old) runs) (survives : HasCleanDisk (state g new) → HasCleanDisk (state g old))
     (sql : List ℕ) (plain : IsPlain (understood schema_2 sql)) (params : Row) where
   stored_plain : HasCleanDisk (state g old) → IsTrue (state g old).is_open → IsPlain (understood (state g old).now.schema sql)
@@ -51,18 +50,18 @@ looked-then {S} {g} {old} {mid} {new} a b = record {
   crash = λ runs has. survives_then (state g old) (state g mid) (state g new) (λ _. ⊥) (λ _. ⊥) (λ _. ⊥) (λ _ db none. none) (λ _ db none. none) (a.crash runs has) (b.crash runs (a.stands runs has));
 }
 
--- a disk that is clean after a call that reads was so before it
+-- a disk that is clean after a call that reads was clean before the call
 pub was_clean : {S : Type 0} {g : Ghosts S} {old new : Held S} → Looked g old new → (runs : List Run) → StandsFor (state g old) runs → HasCleanDisk (state g new) → HasCleanDisk (state g old)
 was_clean looked runs has clean = omega (arith, clean, (looked.crash runs has).clean)
 
--- ---- what prepared statements tell of the tables
+-- ---- the tables that prepared statements show
 
 -- a statement that was prepared is understood
 pub outlined : (r : Result Compiled CompileError) (s : Outline) → Outlines r s → (c : Compiled) × (r ≡ Ok c)
 outlined (Ok c) s h = (c, refl)
 outlined (Err e) s h = absurd h
 
--- what is understood over unchanged tables was so before
+-- a statement that is understood over unchanged tables was understood before
 pub understood_before : (old mid : State) (sql : List ℕ) → IsUnchanged old mid → IsUnderstood mid sql → IsUnderstood old sql
 understood_before old mid sql same it = (it.0, ap (λ (db : Database). understood db.schema sql) (sym same.0.now_is) ∙ it.1)
 
@@ -77,7 +76,7 @@ tables_before old mid n same it = record {
 pub nothing_then : (a b c : State) → Survives a b (λ (db : Trees). ⊥) → Survives b c (λ (db : Trees). ⊥) → Survives a c (λ (db : Trees). ⊥)
 nothing_then a b c one two = survives_then a b c (λ _. ⊥) (λ _. ⊥) (λ _. ⊥) (λ _ db none. none) (λ _ db none. none) one two
 
--- a call that commits nothing after one that asked for the number
+-- a call that commits nothing, after a call that read the schema number
 pub asks_then : {S : Type 0} (g : Ghosts S) (a b c : Held S) → AsksNumber g a b → CommitsNothing g b c
     → ((n : ℤ) → SaysSchema n (state g a) → HasCleanDisk (state g c) → Rests (state g a) (state g c)) → AsksNumber g a c
 asks_then g a b c first survives rests = record {

@@ -1,4 +1,4 @@
--- Taking the tables of a database, by what it was.
+-- Attaching the tables of a database, by its earlier state.
 use Rattle.kt_store.proofs.Common.{Blank, Current, Ghosts, HasCleanDisk, HasNumber, HasTables, Held, IsEmpty, IsLive, IsOf, IsStoreFault, IsTrue, IsUnchanged, Keeps, List, Numbered, OldTables, Older, Refuses, Rests, Run, SaysSchema, StandsInOld, State, StoreFault, Survives, Tables, TakesTables, Trees, DatabaseBefore, [], arith, inl, inr, no_schema, pos, refl, state, survives_then, survives_weaker, ℤ, ⊤, ◌≡◌, ◌≢◌, ◌⊎◌}
 use Rattle.kt_store.proofs.StepLemmas.{rests_hold, rests_then, outlives, either_left, leaves_held}
 use Rattle.kt_store.proofs.MetaLemmas.{says_one, says_two, says_filled, empty_blank, still_holds, still_says}
@@ -10,7 +10,7 @@ one_is_not_two e = cc
 two_is_not_one : pos 2 ≢ pos 1
 two_is_not_one e = cc
 
--- the number that its tables say
+-- the schema number of its tables
 abbrev pub number_of : DatabaseBefore → ℤ
 number_of Blank = pos 0
 number_of (Current runs) = pos 2
@@ -23,7 +23,7 @@ says_of (Current runs) s has is = says_two s runs is
 says_of (Older runs) s has is = says_one s runs is
 says_of (Numbered n) s has is = is
 
--- why it may be refused
+-- the reasons why attaching can fail
 abbrev pub IsDue : DatabaseBefore → StoreFault → Type 0
 IsDue (Numbered n) fault = ⊤
 IsDue _ fault = IsStoreFault fault
@@ -38,7 +38,7 @@ known_due (Current runs) fault has h = h (inr refl)
 known_due (Older runs) fault has h = h (inl refl)
 known_due (Numbered n) fault has h = tt
 
--- where the disk never was clean, nothing is known
+-- if the disk was never clean, nothing is known
 module _ (old new : State) (never : ¬ HasCleanDisk new) (nothing : Survives old new (λ (db : Trees). ⊥)) where
   more : (P : Trees → Type 0) → Survives old new P
   more P = survives_weaker old new (λ _. ⊥) P (λ _ db none. absurd none) nothing
@@ -55,7 +55,7 @@ module _ (old new : State) (never : ¬ HasCleanDisk new) (nothing : Survives old
   never_refuses fault (Older runs) = (λ clean opened. absurd (never clean), more (Keeps runs), λ clean. absurd (never clean), λ opened clean trees may. absurd (never clean))
   never_refuses fault (Numbered n) = λ other. (λ clean. absurd (never clean), nothing)
 
--- a look that leaves the database as it was, and what is done after it
+-- a check that leaves the database unchanged, and the call after the check
 module _ (old mid new : State) (first : Survives old mid (λ (db : Trees). ⊥)) (same : HasCleanDisk mid → IsUnchanged old mid) where
   earlier : HasCleanDisk mid → HasCleanDisk old
   earlier clean = omega (arith, clean, first.clean)
@@ -82,7 +82,7 @@ module _ (old mid new : State) (first : Survives old mid (λ (db : Trees). ⊥))
     refuses_after fault (Older runs) r = (r.0, after (Keeps runs) r.1, r.2, λ opened clean trees may. r.3 (same (early clean)).0.is_open clean trees may)
     refuses_after fault (Numbered n) r = λ other. let it = r other in (λ clean. rests_then old mid new (same (early clean)) (it.0 clean), after (λ _. ⊥) it.1)
 
-    -- the look shows that the database is not such a one
+    -- the check shows that the database is not in this state
     module _ (P : Trees → Type 0) (never : ¬ HasCleanDisk mid) (then : Survives mid new P) where
       nothing : Survives old new (λ (db : Trees). ⊥)
       nothing = survives_then old mid new (λ _. ⊥) P (λ _. ⊥) (λ _ db none. none) (λ clean db it. absurd (never (early clean))) first then
@@ -93,7 +93,7 @@ module _ (old mid new : State) (first : Survives old mid (λ (db : Trees). ⊥))
       not_refused : (fault : StoreFault) (was : DatabaseBefore) → Refuses was old new fault
       not_refused fault was = never_refuses old new (λ clean. never (early clean)) nothing fault was
 
-    -- tables are made only where there is none
+    -- tables are created only in a database without tables
     module _ (blank : mid.now.schema.tables ≡ []) where
       filled : (was : DatabaseBefore) → HasNumber was → IsOf was old → ¬ HasCleanDisk mid
       filled was has is clean = says_filled old mid earlier same (number_of was) (says_of was old has is) clean blank
@@ -109,7 +109,7 @@ module _ (old mid new : State) (first : Survives old mid (λ (db : Trees). ⊥))
       create_refuses fault r Blank is = refuses_after fault Blank (r (still_of Blank is))
       create_refuses fault r was is = not_refused (Keeps []) (filled was tt is) (r (none was tt is)).1 fault was
 
-    -- tables are taken only where there are some
+    -- tables are accepted only in a database with tables
     module _ (filled : mid.now.schema.tables ≢ []) where
       empty_never : IsEmpty old → ¬ HasCleanDisk mid
       empty_never is clean = filled (empty_blank old mid earlier same is clean)
@@ -122,7 +122,7 @@ module _ (old mid new : State) (first : Survives old mid (λ (db : Trees). ⊥))
       take_refuses fault r Blank is = not_refused (λ _. ⊥) (empty_never is) (r (Current []) tt (λ clean opened. absurd (empty_never is clean))).1 fault Blank
       take_refuses fault r was is = refuses_after fault was (r was tt (still_of was is))
 
-    -- schema 1 is renewed only where that is its number
+    -- schema 1 is migrated only if the schema number is 1
     none_older : ¬ HasCleanDisk mid → StandsInOld mid []
     none_older never clean opened = absurd (never clean)
 
@@ -139,7 +139,7 @@ module _ (old mid new : State) (first : Survives old mid (λ (db : Trees). ⊥))
     renew_refuses fault r (Older runs) has one is = refuses_after fault (Older runs) (r runs (still_of (Older runs) is))
     renew_refuses fault r (Numbered n) has one is = λ other. let never : ¬ HasCleanDisk mid = λ clean. other (one clean) in not_refused (Keeps []) never (r [] (none_older never)).1 fault (Numbered n) other
 
--- a look alone
+-- a check alone
 module _ {S : Type 0} (g : Ghosts S) (old new : Held S) (law : (db : Trees) → IsTrue (state g old).is_open → (state g old).may_leave db → db ≡ (state g old).committed.trees) (live : IsLive (state g old))
     (nothing : Survives (state g old) (state g new) (λ (db : Trees). ⊥)) where
   was_clean : HasCleanDisk (state g new) → HasCleanDisk (state g old)
@@ -148,7 +148,7 @@ module _ {S : Type 0} (g : Ghosts S) (old new : Held S) (law : (db : Trees) → 
   weaker : (P : Trees → Type 0) → Survives (state g old) (state g new) P
   weaker P = survives_weaker (state g old) (state g new) (λ _. ⊥) P (λ _ db none. absurd none) nothing
 
-  -- that was refused
+  -- a check that failed
   pub look_refuses : (fault : StoreFault) → (HasCleanDisk (state g new) → Rests (state g old) (state g new)) → (was : DatabaseBefore) → (HasCleanDisk (state g new) → IsDue was fault) → IsOf was (state g old) → Refuses was (state g old) (state g new) fault
   look_refuses fault left Blank due is = (rests_hold (λ db. db.schema ≡ no_schema) (state g old) (state g new) is was_clean left, weaker (Keeps []), due)
   look_refuses fault left (Current runs) due is = (
@@ -165,7 +165,7 @@ module _ {S : Type 0} (g : Ghosts S) (old new : Held S) (law : (db : Trees) → 
   )
   look_refuses fault left (Numbered n) due is = λ other. (left, nothing)
 
-  -- that found schema 2
+  -- a check that found schema 2
   pub look_takes : (HasCleanDisk (state g new) → IsUnchanged (state g old) (state g new)) → (was : DatabaseBefore) → HasNumber was → (HasCleanDisk (state g new) → number_of was ≡ pos 2) → (HasCleanDisk (state g new) → HasTables (number_of was) (state g old))
       → IsOf was (state g old) → TakesTables was (state g old) (state g new)
   look_takes same Blank has two tables is = absurd has

@@ -1,4 +1,4 @@
--- What the INSERT of `begin` does.
+-- The effect of the INSERT of `begin`.
 use Rattle.kt_store.proofs.Common.{AreNumbered, Chosen, Command, Database, Does, Enforced, Ghosts, HasCleanDisk, Held, Insert, Int, IsDatabase, IsRun, IsStore, IsTrue, Keeps, Leaves, Less, List, MayExecute, Mode, None, Ok, Option, Row, Run, Some, StandsFor, State, Tables, Tally, Executed, Trees, Values, [], all-append, ap, append-nil, arith, begin_text, drop, edit_of, entry_row, entry_rows, flat_map, fold, id_in, inl, inr, ints, last_id, length, length-append, map, map-append, new_run, next_rowid, pair_rows, pos, prop_rows, put_all, put_row, refl, rowid, run_row, runs_1, schema_2, state, subst, suc, sym, taken_by, unwrap_or, value_cmp, value_rows, works, ℕ, ℤ, ◌++◌, ◌+ℤ◌, ◌+◌, ◌<◌, ◌∙◌, ◌∷◌, ◌≡◌}
 use Rattle.std.specs.List.Sorted.{IsPermutation}
 use Rattle.std.proofs.lemmas.Grind.{flat_map-append}
@@ -62,7 +62,7 @@ module _ (runs : List Run) (total started : ℕ) (db after : Database) (tally : 
 abbrev pub begin_command : Command
 begin_command = Insert 1 (Values begin_terms 5)
 
--- where no key refers to `runs` that acts
+-- no acting foreign key refers to `runs`
 pub begin_works : (params : Row) (trees : Trees) → let edit = edit_of trees runs_1 [] Chosen 0 (value_rows params 5 1 begin_terms) in works schema_2 Enforced 0 edit.table.tree (taken_by trees edit) edit.news ≡ []
 begin_works params trees = refl
 

@@ -1,4 +1,4 @@
--- A run is finished.
+-- Finishing a run.
 use Rattle.kt_store.proofs.Common.{AllByRecursion, Applies, AreRuns, Database, Does, Enforced, Entry, Ghosts, Given, HasCleanDisk, Held, Incomplete, Int, IsAscending, IsComplete, IsDatabase, IsPermutation, IsRun, IsStore, IsTrue, Keeps, List, MayExecute, Mode, None, Ok, Option, Run, RunClosed, Some, StandsFor, Tables, Tally, Executed, Trees, Update, [], all_from, all_weaker, ap, arith, done_row, drop, edit_of, entries_of, entry_row, entry_rows, false, finish, finish_refusal, finish_refusal_of, finish_text, flat_map, ids_of, length, map, nat_lt, nat_tests, pair_rows, pos, prop_rows, refl, run_at, runs_1, schema_2, state, subst, suc, sym, true, zero, ℕ, ◌++◌, ◌+◌, ◌<◌, ◌∙◌, ◌∷◌, ◌≡◌, ◌≤◌}
 use Rattle.std.specs.List.{slice_index_or}
 use Rattle.kt_store.proofs.RunsByNumber.{finish_each, finish_unseen, run_of}
@@ -10,7 +10,7 @@ use Rattle.kt_store.proofs.WriteLemmas.{executed_update, crash_update}
 whole_run : (r : Run) → IsRun r → length r.entries ≡ r.total → IsRun (record r { finished = true })
 whole_run r is whole = record { small = is.small; ordered = is.ordered; below = is.below; sound = is.sound; whole = λ done. whole }
 
--- the tables of runs of which one is finished, as the rules of the schema do it
+-- the tables of runs with one run finished, by the rules of the schema
 pub finish_in : (runs : List Run) (k : ℕ) (r : Run) → run_at runs (suc k) ≡ Some r → length r.entries ≡ r.total → (db after : Database) → Tables db runs → after.schema ≡ schema_2
     → Applies schema_2 Enforced db.trees (edit_of db.trees runs_1 (ids_of (done_row r ∷ [])) Given 1 (done_row r ∷ [])) after.trees → Tables after (finish (suc k) runs)
 finish_in runs k r there whole db after has schema_is applies =
@@ -57,13 +57,13 @@ module _ {S : Type 0} (g : Ghosts S) (old new : Held S) (runs : List Run) (run :
   pub crash_finish : Closes → HasCleanDisk (state g new) → (trees : Trees) → MayExecute g finish_text (Int (pos run) ∷ []) old trees → Keeps (finish run runs) trees
   crash_finish closes clean trees it = let f = closes (earlier clean) in crash_at run f.1 f.3 f.4 clean trees it
 
--- positions that ascend below a bound are no more than it
+-- the number of ascending positions below a bound is at most the bound
 no_more : (from top : ℕ) (es : List Entry) → from ≤ top → AllByRecursion (λ (e : Entry). from ≤ e.position) es → IsAscending (λ (a b : Entry). a.position < b.position) es
     → AllByRecursion (λ (e : Entry). e.position < top) es → from + length es ≤ top
 no_more from top [] low above up below = omega (arith, low)
 no_more from top (e ∷ es) low above up below = omega (arith, above.0, no_more (suc e.position) top es (omega (arith, below.0)) (all_weaker (λ (x : Entry). e.position < x.position) (λ (x : Entry). suc e.position ≤ x.position) (λ x h. omega (arith, h)) es up.0) up.1 below.1)
 
--- so many below a bound as there may be are at their places
+-- if there are as many ascending positions as the bound, each is its index
 at_place : (from i : ℕ) (es : List Entry) (e : Entry) → AllByRecursion (λ (d : Entry). from ≤ d.position) es → IsAscending (λ (a b : Entry). a.position < b.position) es
     → AllByRecursion (λ (d : Entry). d.position < from + length es) es → i < length es → e ≡ slice_index_or es i e → e.position ≡ from + i
 at_place from i [] e above up below low is = absurd (omega (arith, low))

@@ -1,16 +1,16 @@
--- Statements of a transaction, one after the other, and what their commit leaves.
+-- Statements of a transaction, in turn, and the state after their commit.
 use Rattle.kt_store.proofs.Common.{Commits, CommitsLater, Database, Error, ExecutesInside, Fails, FailsToCommit, Ghosts, HasCleanDisk, Held, IsSettledWhileOpen, IsDatabase, IsRolledBack, IsSettled, IsTrue, Keeps, KeepsCommit, Leaves, List, MayCommit, Result, Row, Run, RunInTurn, RunsOne, StandsFor, State, Statement, Survives, Tables, Trees, Undoes, Variable, [], ap, arith, begun, both_ways, cases_Bool, drop, drop-cons, drop_more, false, get_or, inl, inr, inside_keeps, keeps_then, length, map, pair_statement, pair_statements, plain_statements, refl, state, subst, suc, survives_begin, survives_then, survives_weaker, sym, ℕ, ◌+◌, ◌<◌, ◌∙◌, ◌∷◌, ◌≡◌}
 use Rattle.kt_store.proofs.StepLemmas.{undone_settled}
 
 module _ {S : Type 0} (g : Ghosts S) where
-  -- what is done now, and what the rest does to the whole
+  -- the effect of the first statement and of the rest is that of all
   pub record SoFar (statements rest : List Statement) (start now : Held S) : Type 0 where
     pub survives : Survives (state g start) (state g now) (λ (db : Trees). ⊥)
     pub keeps : HasCleanDisk (state g now) → KeepsCommit (state g start) (state g now)
     pub inside : HasCleanDisk (state g now) → IsTrue (state g start).in_transaction → IsTrue (state g now).in_transaction
     pub runs : HasCleanDisk (state g now) → IsTrue (state g start).in_transaction → (end : Held S) → RunInTurn g rest now end → RunInTurn g statements start end
 
-  -- one more is done
+  -- one more statement was run
   pub one_done : (statements rest : List Statement) (s : Statement) (start now next : Held S) → SoFar statements (s ∷ rest) start now → CommitsLater g now next → RunsOne g s now next → SoFar statements rest start next
   one_done statements rest s start now next so_far later ran =
       let early : HasCleanDisk (state g next) → HasCleanDisk (state g now) = λ clean. omega (arith, clean, later.survives.clean) in
@@ -29,7 +29,7 @@ pairs_at run position place i vs v low is = ap (pair_statements run position pla
 pub texts_at : {T : Type 0} (see : T → List ℕ) (i : ℕ) (vs : List T) (d : T) → i < length vs → plain_statements (map see (drop i vs)) ≡ (see (get_or vs i d), [], []) ∷ plain_statements (map see (drop (i + 1) vs))
 texts_at see i vs d low = ap (λ l. plain_statements (map see l)) (drop_more vs i d low)
 
--- ---- what a statement of a transaction keeps
+-- ---- the parts that a statement of a transaction keeps
 
 -- a statement inside a transaction commits nothing
 pub step_keeps : {S : Type 0} (g : Ghosts S) (old new : Held S) (sql : List ℕ) (params : Row) (r : Result ℕ Error)
@@ -39,9 +39,9 @@ step_keeps g old new sql params r runs ended = elim (cases_Bool (state g old).in
   | inr outside ↦ subst (λ h. KeepsCommit (state g old) (state g h)) (sym (ended outside)) (record { was_open = λ h. h; committed = λ h. refl })
 ]
 
--- ---- what statements leave that are run in one commit
+-- ---- the state after statements that are run in one commit
 
--- a commit inside a transaction fails only where the store does
+-- a commit inside a transaction fails only if the store does
 store_fails : (old new : State) (error : Error) → IsTrue old.in_transaction → FailsToCommit old new error → Fails old new ⊥ error
 store_fails old new error inside (inl failed) = failed
 store_fails old new error inside (inr ended) = absurd (both_ways _ ended.1 inside)
@@ -56,7 +56,7 @@ module _ {S : Type 0} (g : Ghosts S) (old left new : Held S) where
     autocommit = back.autocommit;
   })
 
-  -- so is one whose commit failed
+  -- a transaction whose commit failed is undone
   pub failed_undoes : (error : Error) → IsTrue (state g left).in_transaction → KeepsCommit (state g (begun old)) (state g left) → FailsToCommit (state g left) (state g new) error → Undoes g old new
   failed_undoes error inside keeps failed = rolled_undoes keeps (store_fails (state g left) (state g new) error inside failed).3
 
@@ -68,33 +68,33 @@ module _ {S : Type 0} (g : Ghosts S) (old left new : Held S) where
       (survives_then (state g (begun old)) (state g left) (state g new) (λ _. ⊥) (λ db. db ≡ (state g left).now.trees) (MayCommit g statements old) (λ _ db none. absurd none)
       (λ clean db is. (left, ran (omega (arith, clean, commit.clean)), is)) inside commit)
 
--- what was undone holds what it held
+-- an undone connection represents the runs that it represented
 pub undone_holds : {S : Type 0} (g : Ghosts S) (P : Database → Type 0) (old new : Held S) → IsSettledWhileOpen P (state g old) → (HasCleanDisk (state g new) → HasCleanDisk (state g old)) → (HasCleanDisk (state g new) → Undoes g old new) → IsSettledWhileOpen P (state g new)
 undone_holds g P old new has earlier left clean opened = elim (left clean) [
   | inl same ↦ subst (λ h. HasCleanDisk (state g h) → IsTrue (state g h).is_open → IsSettled P (state g h)) (sym same) has clean opened
   | inr undone ↦ undone_settled P (state g old) (state g new) (has (earlier clean) (undone.was_open opened)) undone opened
 ]
 
--- statements that make the tables of these runs
+-- statements that create the tables of these runs
 module _ {S : Type 0} (g : Ghosts S) (statements : List Statement) (old new : Held S) (more : List Run) (survives : Survives (state g old) (state g new) (MayCommit g statements old))
     (made : HasCleanDisk (state g old) → (left : Held S) → RunInTurn g statements (begun old) left → Tables (state g left).now more × IsDatabase (state g left).now) where
   early : HasCleanDisk (state g new) → HasCleanDisk (state g old)
   early clean = omega (arith, clean, survives.clean)
 
-  -- so the tables stand for them
+  -- the tables represent these runs
   pub commit_stands : (HasCleanDisk (state g new) → Commits g statements old new) → StandsFor (state g new) more
   commit_stands done clean opened =
       let it = done clean in
       record { autocommit = it.2.mode; settled = it.2.committed_is ∙ sym it.2.now_is; tables = subst (λ (db : Database). Tables db more) (sym it.2.now_is) (made (early clean) it.0 it.1).0 }
 
-  -- and a crash leaves them
+  -- a crash leaves these runs
   pub commit_lasts : ((db : Trees) → IsTrue (state g new).is_open → (state g new).may_leave db → db ≡ (state g new).committed.trees) → (HasCleanDisk (state g new) → Commits g statements old new) → Leaves (state g new) (Keeps more)
   commit_lasts law done clean trees may =
       let it = done clean in
       let has = commit_stands done clean it.2.is_open in
       ((state g new).now, subst IsDatabase (sym it.2.now_is) (made (early clean) it.0 it.1).1, law trees it.2.is_open may ∙ ap (λ (d : Database). d.trees) has.settled, has.tables)
 
-  -- meanwhile a crash leaves what it left before, or them
+  -- during the call, a crash leaves what it left before, or these runs
   pub commit_crash : Survives (state g old) (state g new) (Keeps more)
   commit_crash = survives_weaker (state g old) (state g new) (MayCommit g statements old) (Keeps more)
       (λ clean db it. let all = made (early clean) it.0 it.1 in ((state g it.0).now, all.1, it.2, all.0)) survives

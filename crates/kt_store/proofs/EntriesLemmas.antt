@@ -1,4 +1,4 @@
--- What queries of the entries by position answer.
+-- The results of the queries of entries by position.
 use Rattle.kt_store.proofs.Common.{AllByRecursion, AreRuns, Binary, Bool, Entry, Ghosts, Held, Int, IsAscending, IsEntry, IsPermutation, IsRun, IsStore, IsSureAnswer, Less, List, None, Option, Output, Query, Row, Run, Shown, ShowsOf, Some, State, Term, [], ap, ap₂, arith, ascending, ascending-filter, ascending-map, ascending_weaker, binary, col, cond, drop, entries_of, entries_text, entry_row, entry_rows, false, filter, from_truth, has_position, holds, is_true, length, length-map, list_all, map, map-map, nat_lt, nat_tests, output, output_cmp, overlay, pos, reads_as, refl, run_at, schema_2, state, subst, sym, there_text, true, whole_columns, ℕ, ◌&&◌, ◌<◌, ◌==◌, ◌||◌, ◌∙◌, ◌∷◌, ◌≡◌}
 use Rattle.kt_store.proofs.QueryLemmas.{selects, answered_sorted}
 use Rattle.kt_store.proofs.EntryLemmas.{back, of_stored, of_run, tests, each, all_pass, and_true, truth}
@@ -35,7 +35,7 @@ module _ (wheres project : List Term) (params : Row) where
     rises es h = ascending-map lower entry_out es
         (ascending_weaker (λ (a b : Entry). a.position < b.position) (λ (a b : Entry). lower (entry_out a) (entry_out b)) lower_entries es h)
 
-    -- the columns of those that are kept, of the entries of one run
+    -- the columns of the selected entries, among the entries of one run
     pub tells_kept : (old : State) (runs : List Run) (rows : List Row) → IsStore old runs → IsAscending (λ (a b : Entry). a.position < b.position) (entries_of (run_at runs n))
         → IsSureAnswer query (overlay old.now.trees []) params rows → rows ≡ map (λ e. (entry_out e).1) (filter keep (entries_of (run_at runs n)))
     tells_kept old runs rows has up sure =
@@ -47,7 +47,7 @@ module _ (wheres project : List Term) (params : Row) where
         answered_sorted 3 wheres project query.order old.now.trees params rows sure (map entry_out es) alike (rises es (ascending-filter _ keep (entries_of (run_at runs n)) up))
         ∙ map-map (λ (o : Output). o.1) entry_out es
 
--- ---- what the query for the entries of a run answers
+-- ---- the result of the query for the entries of a run
 
 abbrev Up : List Entry → Type 0
 Up es = IsAscending (λ (a b : Entry). a.position < b.position) es
@@ -79,7 +79,7 @@ tells_entries old new runs n rows has h =
     tells_kept tests entries_query.project (entries_params n) (same_rows n) n (λ (e : Entry). true) (each n) old runs rows has (up_of runs n has.tables.valid) reads.answer
     ∙ ap (map whole_columns) (all_pass (entries_of (run_at runs n)))
 
--- ---- whether a run has an entry at a position, as its query tells
+-- ---- whether a run has an entry at a position, by its query
 
 abbrev pub there_params : ℕ → ℕ → Row
 there_params n p = Int (pos n) ∷ Int (pos p) ∷ []

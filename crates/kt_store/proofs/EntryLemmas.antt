@@ -1,4 +1,4 @@
--- What queries of the entries answer.
+-- The results of the queries of entries.
 use Rattle.kt_store.proofs.Common.{AreNumbered, Bool, Entry, Int, IsPermutation, IsPermutation-filter, IsPermutation-map, List, None, Null, Option, Row, Run, Some, Term, [], all-map, ap, append-nil, ap₂, arith, binary, col, drop, entries_of, entry_row, entry_rows, false, filter, filter-append, filter-map, filter_none, filter_same, flat_map, from_truth, holds, is_true, list_all, map, map-map, map_same, nat_tests, option_to_list, pos, refl, run_at, slice_get, subst, suc, sym, true, zero, ℕ, ◌&&◌, ◌++◌, ◌+◌, ◌<◌, ◌==◌, ◌∙◌, ◌∷◌, ◌≡◌, ◌≢◌}
 use Rattle.kt_store.proofs.SqlFacts.{is}
 use Rattle.kt_store.proofs.Values.{same_test}
@@ -18,7 +18,7 @@ module _ {X : Type 0} (stored all : List Row) (are : IsPermutation all (map (dro
   of_stored = subst (λ l. IsPermutation (map (λ r. show (back r)) (filter (λ r. passes (back r)) all)) l) (sym (without_id stored))
       (IsPermutation-map (λ r. show (back r)) _ _ (IsPermutation-filter (λ r. passes (back r)) all (map (drop 1) stored) are))
 
--- the rows of one run, of those of all
+-- the rows of one run, among the rows of all runs
 module _ (test : Row → Bool) (rows shown : Run → List Row) (n : ℕ) (here : (r : Run) → r.number ≡ n → filter test (rows r) ≡ shown r) (apart : (r : Run) → r.number ≢ n → filter test (rows r) ≡ []) where
   none_later : (from : ℕ) (runs : List Run) → AreNumbered from runs → n < from → filter test (flat_map rows runs) ≡ []
   none_later from [] h low = refl
@@ -37,7 +37,7 @@ pub of_one : (test : Row → Bool) (rows shown : Run → List Row) (n : ℕ) →
 of_one test rows shown zero here apart runs h = none_later test rows shown 0 here apart 1 runs h (omega arith)
 of_one test rows shown (suc k) here apart runs h = one_from test rows shown (suc k) here apart 1 k runs (omega arith) h
 
--- the entries of one run, of those of all
+-- the entries of one run, among the entries of all runs
 module _ (test : Row → Bool) (keep : Entry → Bool) (n : ℕ) (each : (m : ℕ) (e : Entry) → test (entry_row m e) ≡ (m == n) && keep e) where
   hit : (m : ℕ) → m ≡ n → (es : List Entry) → filter test (map (entry_row m) es) ≡ map (entry_row n) (filter keep es)
   hit m is es =

@@ -1,17 +1,17 @@
--- What a refusal is reported as.
+-- The faults that calls return.
 use Rattle.kt_store.proofs.Common.{Err, IfErr, IfOk, IsErrAnd, IsNoMemory, IsStoreFault, NoMemory, Ok, OnErr, OnOk, Result, StoreFault, subst, sym, ◌≡◌}
 
--- what is known of a fault is known of the answer that hands it on
+-- a fact about a fault holds for the result that returns the fault
 pub if_same : {T : Type 0} (Q : StoreFault → Type 0) (r : Result T StoreFault) (e : StoreFault) → IsErrAnd r (λ x. x ≡ e) → Q e → IfErr r Q
 if_same Q (Ok x) e h q = absurd h
 if_same Q (Err fault) e h q = subst Q (sym h) q
 
--- what a result says, by what two facts say of it
+-- the fact about a result, from the facts about its value and its fault
 pub if_both : {T E : Type 0} (P Q R : T → Type 0) (r : Result T E) → ((x : T) → P x → Q x → R x) → IfOk r P → IfOk r Q → IfOk r R
 if_both P Q R (Ok x) f p q = f x p q
 if_both P Q R (Err e) f p q = tt
 
--- what holds of a result under a premise holds of it with the premise
+-- a fact about a result under a premise holds with the premise
 pub ok_later : {T E A : Type 0} (P : Type 0) (r : Result T E) → (A → OnOk r P) → OnOk r (A → P)
 ok_later P (Ok x) f = f
 ok_later P (Err e) f = tt
@@ -28,7 +28,7 @@ pub fault_later : {T E A : Type 0} (P : E → Type 0) (r : Result T E) → (A �
 fault_later P (Ok x) f = tt
 fault_later P (Err e) f = f
 
--- the same of premises that name something
+-- a fact about a result under a premise with a witness holds with the premise
 pub ok_of : {T E A : Type 0} (B C P : A → Type 0) (r : Result T E) → ((a : A) → B a → C a → OnOk r (P a)) → OnOk r ((a : A) → B a → C a → P a)
 ok_of B C P (Ok x) f = f
 ok_of B C P (Err e) f = tt
@@ -42,7 +42,7 @@ pub starved : (fault : StoreFault) → IsNoMemory fault → IsStoreFault fault
 starved (NoMemory refusal) h = tt
 starved _ h = absurd h
 
--- what is known of each fault is known of the one that is handed on
+-- a fact about each fault holds for the returned fault
 pub if_trouble : {T : Type 0} (Q : StoreFault → Type 0) (r : Result T StoreFault) → IsErrAnd r IsStoreFault → ((e : StoreFault) → IsStoreFault e → Q e) → IfErr r Q
 if_trouble Q (Ok x) h each = absurd h
 if_trouble Q (Err fault) h each = each fault h

@@ -1,4 +1,4 @@
--- What the statements do that put an entry and its pairs, one after the other.
+-- The effect of the statements that put an entry and its pairs.
 use Rattle.kt_store.proofs.Common.{AllByRecursion, Applies, AreRuns, CanAdd, Chosen, Database, Enforced, Entry, Executes, Ghosts, HasCleanDisk, HasTexts, Held, Insert, Int, IsDatabase, IsPair, IsPermutation, IsPermutation-cons, IsPermutation-map, IsPermutation-middle, IsPermutation-sym, IsPermutation-trans, IsTrue, List, None, Ok, Row, Run, RunInTurn, StandsFor, State, Statement, Tables, Text, Values, Variable, Writes, [], and_parts, ap, are_fresh, arith, begun, cast_row, codes, drop, edit_of, entries_1, entry_row, entry_rows, entry_statements, false, is_taken, kind_code, length, map, mode_of, next_rowid, not, not-true, numbered, pair_row, pair_rows, pair_rows_from, pair_statements, pair_text, pos, prop_rows, props_1, put_all, put_row, put_text, refl, run_row, runs_as, schema_2, state, statement_of, subst, suc, sym, true, understood, value_rows, with_entry, ℕ, ◌++◌, ◌+◌, ◌∙◌, ◌∷◌, ◌≡◌}
 use Rattle.kt_store.proofs.SqlFacts.{put_is, put_terms, pair_is, pair_terms}
 use Rattle.kt_store.proofs.InsertLemmas.{changed}
@@ -16,7 +16,7 @@ pub record HasRows (runs : List Run) (entries props : List Row) (db : Database) 
   pub entries_are : IsPermutation entries (map (drop 1) (db.trees 3))
   pub props_are : IsPermutation props (map (drop 1) (db.trees 5))
 
--- a new row with a rowid of its own
+-- a new row with a new rowid
 one_more : (stored : List Row) (rows : List Row) (new row : Row) → drop 1 new ≡ row → is_taken stored new ≡ false → IsPermutation rows (map (drop 1) stored) → IsPermutation (row ∷ rows) (map (drop 1) (put_row new stored))
 one_more stored rows new row bare free have =
     let beside = IsPermutation-map (drop 1) (new ∷ stored) (put_row new stored) (put_beside new stored free) in
@@ -93,13 +93,13 @@ module _ {S : Type 0} (g : Ghosts S) (runs : List Run) (entries : List Row) (n p
       let all = pairs_inside (suc k) vs (pair_row n p k v ∷ props) ran.0 new one.0 one.1 ran.2 in
       (moved runs entries _ _ (state g new).now (IsPermutation-sym _ _ (IsPermutation-middle (pair_rows_from n p (suc k) vs) (pair_row n p k v) props)) all.0, all.1)
 
--- the texts of pairs that were put
+-- the texts of inserted pairs
 module _ {S : Type 0} (g : Ghosts S) (n p : ℕ) where
   pairs_spelled : (k : ℕ) (vs : List Variable) (old new : Held S) → RunInTurn g (pair_statements n p k vs) old new → AllByRecursion IsPair vs
   pairs_spelled k [] old new ran = tt
   pairs_spelled k (v ∷ vs) old new ran = ((ran.1.2.0, ran.1.2.1.0), pairs_spelled (suc k) vs ran.0 new ran.2)
 
--- the tables of runs, and with an entry and its pairs those of the runs that have it
+-- the tables of runs; with an entry and its pairs, they are those of the runs that have the entry
 pub rows_of : (runs : List Run) (db : Database) → Tables db runs → HasRows runs (entry_rows runs) (prop_rows runs) db
 rows_of runs db has = record { schema = has.schema; marked = has.marked; runs_are = has.runs_are; entries_are = has.entries_are; props_are = has.props_are }
 
@@ -121,7 +121,7 @@ tables_of runs run e fits texts were db has =
     }
 
 module _ {S : Type 0} (g : Ghosts S) where
-  -- its texts are texts
+  -- the texts of the entry are texts
   spelled : (n : ℕ) (e : Entry) (old new : Held S) → RunInTurn g (entry_statements n e) old new → HasTexts e
   spelled n e old new ran = (ran.1.2.0, ran.1.2.1.0, ran.1.2.1.1.0, pairs_spelled g n e.position 0 e.meta ran.0 new ran.2)
 
@@ -133,7 +133,7 @@ module _ {S : Type 0} (g : Ghosts S) where
       let all = pairs_inside g runs (entry_row run e ∷ entry_rows runs) run e.position 0 e.meta (prop_rows runs) ran.0 new one.0 one.1 ran.2 in
       (tables_of runs run e fits (spelled run e old new ran) has.valid (state g new).now all.0, all.1)
 
-  -- the same of a transaction
+  -- the entry and its pairs in a transaction
   pub entry_made : (runs : List Run) (e : Entry) (run : ℕ) (old : Held S) → StandsFor (state g old) runs → (HasCleanDisk (state g old) → CanAdd run e runs) → HasCleanDisk (state g old) → (left : Held S)
       → RunInTurn g (entry_statements run e) (begun old) left → Tables (state g left).now (with_entry run e runs) × IsDatabase (state g left).now
   entry_made runs e run old has fits clean left ran = filled runs e run (fits clean) (begun old) left (has clean ran.1.1.1.was_open).tables ran

@@ -1,4 +1,4 @@
--- What the UPDATE of `finish` does.
+-- The effect of the UPDATE of `finish`.
 use Rattle.kt_store.proofs.Common.{Answers, Applies, AreNumbered, AtPlace, Bool, Database, Does, Enforced, Given, Int, IsPermutation, Less, List, Mode, None, Null, Ok, OnRows, Option, Program, Row, Run, Some, Tables, Tally, Task, Trees, Update, Updates, Written, [], ap, arith, col, done_row, edit_of, false, filter, filter_all, finish, ids_of, is_eq, lit, map, nat_tests, not, one_permutation, one_step, option_to_list, pos, put_all, put_row, refl, rowid, run_at, run_row, runs_1, schema_2, slice_get, subst, suc, sym, taken_by, true, value_cmp, without_rowid, works, zero, ℕ, ◌+◌, ◌<◌, ◌==◌, ◌∙◌, ◌∷◌, ◌≡◌}
 use Rattle.sqlite_rules.specs.Action.{Writes}
 use Rattle.kt_store.proofs.SqlFacts.{finish_query, is}
@@ -55,7 +55,7 @@ goes_first : (from n : ℕ) (new : Row) (runs : List Run) → AreNumbered from r
 goes_first from n new [] h id low = refl
 goes_first from n new (r ∷ runs) h id low = rw (id, above r.number n (omega (arith, h.0))) refl
 
--- taken out and put back, finished
+-- the row is removed and inserted again as finished
 pub replaced : (from k : ℕ) (runs : List Run) (r : Run) → AreNumbered from runs → slice_get runs k ≡ Some r
     → put_row (run_row (record r { finished = true })) (filter (lacks (from + k)) (map run_row runs)) ≡ map run_row (finish (from + k) runs)
 replaced from k [] r h there = absurd cc

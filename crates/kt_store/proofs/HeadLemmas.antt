@@ -1,4 +1,4 @@
--- The head of the run that is asked for, or of the last run.
+-- The head of the requested run, or of the last run.
 use Rattle.kt_store.proofs.Common.{IfSome, IsNumbered, List, None, Option, Run, RunHead, Some, ap, arith, head_at, head_of, inl, inr, length, option_map, refl, run_at, slice_get_past, suc, sym, unwrap_or, zero, ℕ, ◌<◌, ◌∙◌, ◌≡◌, ◌⊎◌}
 
 gone : (runs : List Run) (n : ℕ) → n ≡ 0 ⊎ length runs < n → run_at runs n ≡ None
@@ -18,12 +18,12 @@ module _ (runs : List Run) (number : Option ℕ) (last n : ℕ) (last_is : last 
   pub one_head : (head : RunHead) → Some head ≡ option_map head_of (run_at runs n) → Some head ≡ head_at runs number
   one_head head found = found ∙ same
 
--- a head with the number that was asked for, or with that of the last run
+-- a head with the requested number, or with the number of the last run
 pub asked_for : (number : Option ℕ) (last n : ℕ) (head : RunHead) → n ≡ unwrap_or number last → head.number ≡ n → IsNumbered number head
 asked_for None last n head is has = tt
 asked_for (Some m) last n head is has = has ∙ is
 
--- the same, if there is one
+-- a found head has the requested number
 pub all_asked_for : (number : Option ℕ) (last n : ℕ) (found : Option RunHead) → n ≡ unwrap_or number last → IfSome found (λ head. head.number ≡ n) → IfSome found (IsNumbered number)
 all_asked_for number last n None is has = tt
 all_asked_for number last n (Some head) is has = asked_for number last n head is has

@@ -1,4 +1,4 @@
--- The number of the schema, as its query tells.
+-- The schema number, by its query.
 use Rattle.kt_store.proofs.Common.{Asked, AsksNumber, Bool, Database, Ghosts, HasCleanDisk, Held, IsSettledWhileOpen, Int, IsEmpty, IsPermutation, IsTrue, IsUnchanged, List, MayShow, None, Rests, Row, Run, SaysNumber, SaysSchema, Schema, Shown, Some, StandsFor, StandsInOld, State, Survives, Term, Text, Value, [], ap, arith, beside_meta, binary, codes, col, column, drop, entries_1, filter, holds, index_of, inl, list_all, lit, map, meta_1, meta_text, one_permutation, pos, props_1, reads_as, refl, runs_1, slice_get, state, subst, sym, true, understood, value_cmp, ℤ, ◌∙◌, ◌∷◌, ◌≡◌, ◌≢◌}
 use Rattle.sqlite.specs.Given.{IsPlain}
 use Rattle.kt_store.proofs.AskLemmas.{asked_unchanged, asked_leaves}
@@ -19,7 +19,7 @@ pub passes_it : (n : ℤ) (x : Value) → passes (x ∷ Text (codes "schema") �
 unfolding binary value_cmp lib.Ieee.is_nan lib.Ieee.lt
 passes_it n x = refl
 
--- the row of the schema's number, whatever its rowid
+-- the row of the schema number, with any rowid
 pub one_row : (n : ℤ) (rows : List Row) → map (drop 1) rows ≡ (Text (codes "schema") ∷ Int n ∷ []) ∷ [] → (x : Value) × (rows ≡ (x ∷ Text (codes "schema") ∷ Int n ∷ []) ∷ [])
 one_row n ((x ∷ r) ∷ []) is =
     let same : r ≡ Text (codes "schema") ∷ Int n ∷ [] = cc in
@@ -57,7 +57,7 @@ module _ {S : Type 0} (g : Ghosts S) (old new : Held S) (earlier : HasCleanDisk 
       let has = says (earlier clean) it.same.0.was_open in
       tells_meta (state g it.mid) (state g new) n rows (says_then (state g old) (state g it.mid) n same has) it.shown
 
--- what a query for the number keeps, whatever it tells
+-- the state that a query for the schema number keeps, for any result
 module _ {S : Type 0} (g : Ghosts S) (old new : Held S) (survives : Survives (state g old) (state g new) (MayShow g meta_text [] old)) where
   earlier : HasCleanDisk (state g new) → HasCleanDisk (state g old)
   earlier k = omega (arith, k, survives.clean)
@@ -96,7 +96,7 @@ row_is n rows row are first =
     let e : Some (Int n ∷ []) ≡ Some row = sym (ap (λ l. slice_get l 0) are) ∙ first in
     cc
 
--- what was read is the number
+-- the value that was read is the number
 pub read_it : (n m : ℤ) (first : Row) → first ≡ Int n ∷ [] → column first 0 ≡ Int m → m ≡ n
 read_it n m first is read =
     let got : Int n ≡ Int m = sym (ap (λ (r : Row). column r 0) is) ∙ read in
@@ -105,7 +105,7 @@ read_it n m first is read =
 pub some_row : (n : ℤ) (rows : List Row) → rows ≡ (Int n ∷ []) ∷ [] → slice_get rows 0 ≢ None
 some_row n rows are none = let e : Some (Int n ∷ []) ≡ None = sym (ap (λ l. slice_get l 0) are) ∙ none in cc
 
--- what was so before the connection was found open
+-- a fact from before the connection was found open
 module _ (old mid : State) (earlier : HasCleanDisk mid → HasCleanDisk old) (same : HasCleanDisk mid → IsUnchanged old mid) where
   pub still_says : (n : ℤ) → SaysSchema n old → SaysSchema n mid
   still_says n says clean opened =

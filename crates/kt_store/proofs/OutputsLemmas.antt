@@ -23,21 +23,21 @@ run_past : (runs : List Run) (run : ℕ) → length runs < run → run_at runs r
 run_past runs zero low = refl
 run_past runs (suc k) low = slice_get_past runs k (omega (arith, low))
 
--- a run that has no number of its own is none
+-- no run has a number that differs from its key in the tables
 pub past_run : (runs : List Run) (run number : ℕ) → length runs ≤ last_run → (run ≤ last_run → number ≡ run) → number ≢ run → run_at runs run ≡ None
 past_run runs run number few same other = elim (cases_lt last_run run) [
   | inl past ↦ run_past runs run (omega (arith, few, past))
   | inr low ↦ absurd (other (same low))
 ]
 
--- a run that has no number of its own is none, and so is the one of number 0
+-- a number and its key in the tables find the same run
 pub same_run : (runs : List Run) (run number : ℕ) → length runs ≤ last_run → (run ≤ last_run → number ≡ run) → (last_run < run → number ≡ 0) → run_at runs number ≡ run_at runs run
 same_run runs run number few same none = elim (cases_lt last_run run) [
   | inl past ↦ ap (run_at runs) (none past) ∙ sym (run_past runs run (omega (arith, few, past)))
   | inr low ↦ ap (run_at runs) (same low)
 ]
 
--- what holds of no run, and of the one with this number, holds of the one that was asked for
+-- a fact that holds for no run and for the run with this number holds for the requested run
 pub no_run : (P : Option Run → Type 0) → P None → (runs : List Run) (run number : ℕ) → length runs ≤ last_run → (run ≤ last_run → number ≡ run) → P (run_at runs number) → P (run_at runs run)
 no_run P none runs run number few same here = elim (cases_lt last_run run) [
   | inl past ↦ subst P (sym (run_past runs run (omega (arith, few, past)))) none

@@ -1,9 +1,8 @@
--- What the INSERT of `put` does, and the rows of entries and of their pairs where an entry is
--- added.
+-- The effect of the INSERT of `put`, and the rows of entries and pairs after an entry is added.
 use Rattle.kt_store.proofs.Common.{AllByRecursion, AreNumbered, Bool, Chosen, Enforced, Entry, Equal, Greater, HaveNoPairs, IsPermutation, IsPermutation-append_comm, IsPermutation-append_left, IsPermutation-append_right, IsPermutation-cons, IsPermutation-middle, IsPermutation-refl, IsPermutation-trans, Less, List, Ordering, Row, Run, Trees, [], ap, append_assoc, arith, cond, edit_of, entries_1, entry_row, entry_rows, false, flat_map, flat_map_same_on, flat_map_single, insert_at, is_eq, is_taken, length, map, match_ordering, nat_lt, nat_tests, pair_rows, pair_rows_from, prop_rows, put_row, refl, rowid, schema_2, subst, subst₂, suc, sym, taken_by, true, value_cmp, value_rows, with_entry, works, zero, ℕ, ◌++◌, ◌+◌, ◌<◌, ◌==◌, ◌||◌, ◌∙◌, ◌∷◌, ◌≡◌}
 use Rattle.kt_store.proofs.SqlFacts.{put_terms}
 
--- a row with a rowid of its own goes in beside the others
+-- a row with a new rowid is added to the others
 pub put_beside : (new : Row) (rows : List Row) → is_taken rows new ≡ false → IsPermutation (new ∷ rows) (put_row new rows)
 put_beside new [] free = IsPermutation-refl (new ∷ [])
 put_beside new (r ∷ rows) free = go (value_cmp (rowid r) (rowid new)) free (put_beside new rows)
@@ -20,14 +19,14 @@ put_rows run e = value_rows (entry_row run e) 13 1 put_terms
 pub put_works : (params : Row) (trees : Trees) → let edit = edit_of trees entries_1 [] Chosen 0 (value_rows params 13 1 put_terms) in works schema_2 Enforced 0 edit.table.tree (taken_by trees edit) edit.news ≡ []
 put_works params trees = refl
 
--- ---- the rows where an entry is added
+-- ---- the rows after an entry is added
 
 swap_blocks : {X : Type 0} (a b c : List X) → IsPermutation (a ++ (b ++ c)) (b ++ (a ++ c))
 swap_blocks a b c = subst₂ IsPermutation (append_assoc a b c) (append_assoc b a c) (IsPermutation-append_left c (a ++ b) (b ++ a) (IsPermutation-append_comm a b))
 
 -- the rows that entries have in a run of a number
 module _ (of : ℕ → Entry → List Row) where
-  -- an entry at its place among those of a run
+  -- an entry at its index among the entries of a run
   inserted : (run : ℕ) (e : Entry) (es : List Entry) → IsPermutation (of run e ++ flat_map (of run) es) (flat_map (of run) (insert_at e es))
   inserted run e [] = IsPermutation-refl _
   inserted run e (x ∷ es) = go (nat_lt e.position x.position) (inserted run e es)
@@ -59,7 +58,7 @@ module _ (of : ℕ → Entry → List Row) where
 pub more_pairs : (from k : ℕ) (e : Entry) (runs : List Run) → AreNumbered from runs → k < length runs → IsPermutation (pair_rows (from + k) e ++ prop_rows runs) (prop_rows (with_entry (from + k) e runs))
 more_pairs = more pair_rows
 
--- each entry has one row of its own
+-- each entry has exactly one row
 abbrev single : ℕ → Entry → List Row
 single run e = entry_row run e ∷ []
 

@@ -1,4 +1,4 @@
--- What a query of one table answers.
+-- The result of a query of one table.
 use Rattle.kt_store.proofs.Common.{Bool, Int, IsAnswerAs, IsAscending, IsPermutation, IsPermutation-map, IsPermutation-refl, IsPermutation-trans, IsSureAnswer, Less, List, None, Null, Output, Query, Row, Term, Trees, [], ap, ascending-map, cond, end, eval_all, false, filter, flat_map, holds, inner, list_all, lit, map, map-map, matches_as, nat_le, negsuc, output, output_cmp, overlay, pos, refl, sorted_unique, subst, sym, true, unwrap_or, ℕ, ◌++◌, ◌^◌, ◌∙◌, ◌∷◌, ◌≡◌}
 use Rattle.sqlite_value.specs.declared.keys.Key.{Key}
 use Rattle.sqlite_sql.proofs.QueryLemmas.{output_cmp_total}
@@ -57,7 +57,7 @@ module _ (t : ℕ) (tests project : List Term) (order : List (Term × Key)) (db 
         (IsPermutation-trans _ _ _ same (subst (λ k. IsPermutation k a.ordered) kept a.same)) a.sorted in
         a.shown ∙ ap (map (λ (o : Output). o.1)) ordered
 
-    -- and in their own order, where ORDER BY has no ties
+    -- the rows in table order, if ORDER BY has no ties
     pub answered_in_order : IsAscending (λ x y. output_cmp q (output q (params ∷ x ∷ [])) (output q (params ∷ y ∷ [])) ≡ Less) picked → rows ≡ map show picked
     answered_in_order rises =
         answered_sorted (outputs picked) (IsPermutation-refl (outputs picked)) (ascending-map (λ x y. output_cmp q x y ≡ Less) (λ r. output q (params ∷ r ∷ [])) picked rises)

@@ -1,4 +1,4 @@
--- What the statements do that take schema 1 to schema 2.
+-- The effect of the statements that migrate schema 1 to schema 2.
 use Rattle.kt_store.proofs.Common.{AllByRecursion, Applies, AtPlace, Bool, Database, Does, Enforced, Equal, Executes, Ghosts, Given, Greater, Held, Int, Integer, IsDatabase, IsPermutation, IsPermutation-refl, IsTrue, Less, List, Mode, None, Null, Ok, OldTables, OnRows, Option, Ordering, Program, Row, Run, RunInTurn, State, Tables, Tally, Task, Term, Text, Trees, Unique, Update, Value, [], agree, and_parts, ap, are_fresh, arith, begun, binary, cast, clashes, codes, col, cond, create_props, differ, drop, edit_of, entry_rows, false, filter, first_key, has_rowid, have_rowids, id_in, ids_of, int_is, ints, is_eq, is_int, is_null, lit, map, match_ordering, meta_1, mode_of, not, one_permutation, one_step, or_left, or_right, passes, plain, pos, prop_rows, props, put_all, raise_statements, raise_text, refl, runs_as, schema_1, schema_2, slice_get, state, statement_of, subst, sym, taken_by, true, understood, value_cmp, value_cmp-Int, without_rowid, works, ℕ, ◌&&◌, ◌||◌, ◌∙◌, ◌∷◌, ◌≡◌}
 use Rattle.kt_store.proofs.Values.{cast_null, cast_int, went}
 use Rattle.sqlite_rules.specs.Action.{Writes}
@@ -35,7 +35,7 @@ refuted false rest h is = cc
 abbrev IsUnique : Trees → Type 0
 IsUnique db = AllByRecursion (λ row. passes Unique schema_2 db meta_1 row ≡ true) (db 0)
 
--- two rows of the same name do not stand beside one another
+-- no two rows have the same name
 module _ (db : Trees) (x y : Value) (unique : IsUnique db) (one : is_null x ≡ false) (two : is_null y ≡ false) where
   never_before : value_cmp x y ≡ Less → ¬ (db 0 ≡ number_row x ∷ next_row y ∷ [])
   never_before cmp is =
@@ -63,7 +63,7 @@ Alone db = map (drop 1) (db 0) ≡ (Text (codes "schema") ∷ Int (pos 2) ∷ []
 some_int : (y : Value) → (is_int y && true) ≡ true → is_null y ≡ false
 some_int y h = ap is_null (int_is y (and_parts (is_int y) true h).0)
 
--- the old row is gone, or was never there beside the new one
+-- the old row is removed, or was never present with the new row
 pub alone : (db : Trees) (x : Value) (gone : Bool) → has_rowid (id_in x) (number_row x) ≡ gone → IsUnique db → have_rowids (next_row (cast Integer x) ∷ []) ≡ true
     → are_fresh (kept gone x) (next_row (cast Integer x) ∷ []) ≡ true → db 0 ≡ put_all (kept gone x) (next_row (cast Integer x) ∷ []) → Alone db
 alone db x true is unique keyed fresh rows = ap (map (drop 1)) rows
@@ -71,7 +71,7 @@ alone db Null false is unique keyed fresh rows = absurd (let e : (is_int Null &&
 alone db (Int n) false is unique keyed fresh rows = absurd (let e : true ≡ false = sym (ap is_eq (value_cmp-Int n n) ∙ grind (arith, ints)) ∙ is in cc)
 alone db x false is unique keyed fresh rows = absurd (never_beside db x (cast Integer x) unique refl (some_int _ keyed) (value_cmp x (cast Integer x)) refl fresh rows)
 
--- ---- what the statements do that take schema 1 to schema 2
+-- ---- the effect of the statements that migrate schema 1 to schema 2
 
 abbrev raise_program : Program
 raise_program = record { lets = []; body = raise_query }
@@ -140,7 +140,7 @@ raised_all a b c i j runs has one two =
       w.sound,
     )
 
--- the same of a transaction
+-- the two statements in a transaction
 pub raised_in : {S : Type 0} (g : Ghosts S) (old left : Held S) (runs : List Run) → (IsTrue (state g old).is_open → OldTables (state g old).now runs) → RunInTurn g raise_statements (begun old) left
     → Tables (state g left).now runs × IsDatabase (state g left).now
 raised_in g old left runs has ran =

@@ -1,4 +1,4 @@
--- What the queries for one run and for all runs answer.
+-- The results of the queries for one run and for all runs.
 use Rattle.kt_store.proofs.Common.{AllByRecursion, AreNumbered, Binary, Bool, Compare, Eq, Ghosts, Held, Int, IsAscending, IsPermutation, IsStore, Less, List, None, Option, Row, Run, Shown, ShowsOf, Some, State, Term, Trees, [], ap, ap₂, arith, ascending, binary, col, column, eval, false, filter, filter-map, filter_same, flag, flat_map_single, get_or, head_columns, holds, is_eq, is_some, is_true, last_run, length, length_permutation, list_all, map, map-map, nat_lt, nat_tests, nil_from_length, one_permutation, option_map, option_to_list, output, output_cmp, pos, reads_as, refl, rowid, run_at, run_row, run_text, runs_text, schema_2, slice_get, state, subst, suc, sym, take, true, unsigned_abs, value_cmp, zero, ℕ, ◌&&◌, ◌++◌, ◌<◌, ◌∙◌, ◌∷◌, ◌≡◌, ◌≢◌, ◌≤◌}
 use Rattle.kt_store.proofs.RunsByNumber.{all_above}
 use Rattle.kt_store.proofs.EntryLemmas.{and_true, of_one, truth, all_pass}
@@ -18,7 +18,7 @@ found_run n runs h = ap (filter (has_number n)) (sym (flat_map_single run_row ru
     apart : (r : Run) → r.number ≢ n → filter (has_number n) (run_row r ∷ []) ≡ []
     apart r other = let differs : has_number n (run_row r) ≡ false = same_test r.number n ∙ grind (arith, nat_tests, other) in rw differs refl
 
--- the rows of runs that a WHERE on the number picks
+-- the rows of runs that a WHERE on the number selects
 pub picked_run : (n : ℕ) (key : Term) (params : Row) → ((r : Row) → eval key (params ∷ r ∷ []) ≡ Int (pos n)) → (runs : List Run) → AreNumbered 1 runs
     → filter (λ r. list_all (holds (params ∷ r ∷ [])) (is (col 1 0) key ∷ [])) (map run_row runs) ≡ map run_row (option_to_list (run_at runs n))
 unfolding binary
@@ -30,7 +30,7 @@ picked_run n key params key_is runs h =
     each : (r : Run) → list_all (holds (params ∷ run_row r ∷ [])) (is (col 1 0) key ∷ []) ≡ has_number n (run_row r)
     each r = ap (λ v. is_true (binary (Compare Eq Binary) (Int (pos r.number)) v) && true) (key_is (run_row r)) ∙ ap (λ b. b && true) (truth (has_number n (run_row r))) ∙ and_true (has_number n (run_row r))
 
--- ---- what the query for one run answers
+-- ---- the result of the query for one run
 
 abbrev pub head_row : Run → Row
 head_row r = Int (pos r.total) ∷ Int (flag r.finished) ∷ []
@@ -67,7 +67,7 @@ pub some_there : (f : Run → Row) (o : Option Run) (rows : List Row) (row : Row
 some_there f None rows row are some = absurd (let e : None ≡ Some row = sym (ap (λ l. slice_get l 0) are) ∙ some in cc)
 some_there f (Some r) rows row are some = let e : Some (f r) ≡ Some row = sym (ap (λ l. slice_get l 0) are) ∙ some in let same : row ≡ f r = cc in (r, refl, same)
 
--- a number that was read from the column that tells whether a run is finished
+-- a number read from the finished flag
 pub flag_read : (n : ℕ) (finished : Bool) → Int (pos n) ≡ Int (flag finished) → n ≡ unsigned_abs (flag finished)
 flag_read n finished is = let same : pos n ≡ flag finished = cc in ap unsigned_abs same
 
@@ -98,7 +98,7 @@ module _ (runs : List Run) (found : Option (ℕ × ℕ)) (told : found ≡ optio
   pub has_room : is_some found ≡ false → length runs < last_run
   has_room none = omega (arith, none_past runs 999999 (ap is_some (sym told) ∙ none))
 
--- ---- what the query for all runs answers
+-- ---- the result of the query for all runs
 
 abbrev params_of : Row → List Row
 params_of r = [] ∷ r ∷ []
@@ -121,7 +121,7 @@ tells_heads old new runs rows has h =
     (subst (IsAscending lower) (sym picked) (rises 1 runs has.tables.valid.numbered))
     ∙ ap (map (λ r. column r 0 ∷ column r 2 ∷ column r 3 ∷ column r 4 ∷ [])) picked ∙ map-map _ run_row runs
 
--- one more of those that rows were read from, of which something holds
+-- one more item read from a row, with its property
 pub one_more : {X Y Z : Type 0} (P : X → Type 0) (f : X → Y) (h : X → Z) (xs : List X) (i : ℕ) (y : Y) → AllByRecursion P xs → i < length xs → y ≡ get_or (map f xs) i y
     → (x : X) × (y ≡ f x) × P x × (map h (take (suc i) xs) ≡ map h (take i xs) ++ h x ∷ [])
 one_more P f h [] i y all low is = absurd (omega (arith, low))

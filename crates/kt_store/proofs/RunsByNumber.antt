@@ -6,7 +6,7 @@ number_at from k [] r h there = absurd cc
 number_at from zero (x ∷ runs) r h there = let same : x ≡ r = cc in ap (λ (y : Run). y.number) (sym same) ∙ omega (arith, h.0)
 number_at from (suc k) (x ∷ runs) r h there = number_at (suc from) k runs r h.1 there ∙ omega arith
 
--- what holds of the row of each run of a greater number
+-- a fact about the row of each run with a greater number
 pub all_above : (P : Row → Type 0) (n from : ℕ) (runs : List Run) → ((r : Run) → n < r.number → P (run_row r)) → AreNumbered from runs → n < from → AllByRecursion P (map run_row runs)
 all_above P n from [] each h low = tt
 all_above P n from (r ∷ runs) each h low = (each r (omega (arith, h.0, low)), all_above P n (suc from) runs each h.1 (omega (arith, low)))
@@ -43,7 +43,7 @@ head_of_found n (r ∷ runs) = go (r.number == n) (head_of_found n runs)
     go true more = refl
     go false more = more
 
--- so is the head of a run among all heads
+-- the head of a run is found among all heads by its number
 pub head_found : (number : Option ℕ) (runs : List Run) (heads : List RunHead) → AreNumbered 1 runs → heads ≡ map head_of runs
     → find (λ (head : RunHead). head.number == unwrap_or number (length heads)) heads ≡ head_at runs number
 head_found number runs heads h are =
@@ -52,10 +52,10 @@ head_found number runs heads h are =
     ∙ head_of_found (unwrap_or number (length runs)) runs
     ∙ ap (option_map head_of) (run_found (unwrap_or number (length runs)) runs h))
 
--- ---- lists of runs of which the one with a number is changed
+-- ---- lists of runs in which the run with a number is changed
 
 module _ (n : ℕ) (f : Run → Run) (changed : List Run → List Run) (nil : changed [] ≡ []) (cons : (r : Run) (rs : List Run) → changed (r ∷ rs) ≡ cond (r.number == n) (f r ∷ rs) (r ∷ changed rs)) where
-  -- what does not see the change
+  -- a function that ignores the change
   unseen : {X : Type 0} (F : List Run → X) (G : Run → X → X) → ((r : Run) (rs : List Run) → F (r ∷ rs) ≡ G r (F rs)) → ((r : Run) (x : X) → G (f r) x ≡ G r x) → (runs : List Run) → F (changed runs) ≡ F runs
   unseen F G is same [] = ap F nil
   unseen F G is same (r ∷ runs) = ap F (cons r runs) ∙ go (r.number == n) (unseen F G is same runs) ∙ sym (is r runs)
@@ -64,7 +64,7 @@ module _ (n : ℕ) (f : Run → Run) (changed : List Run → List Run) (nil : ch
       go true more = is (f r) runs ∙ same r (F runs)
       go false more = is r (changed runs) ∙ ap (G r) more
 
-  -- what holds of each run, and of the changed one
+  -- a fact about each run, and about the changed run
   each : (P : Run → Type 0) (from k : ℕ) (runs : List Run) (r : Run) → n ≡ from + k → AreNumbered from runs → AllByRecursion P runs → slice_get runs k ≡ Some r → P (f r) → AllByRecursion P (changed runs)
   each P from k [] r is h all there new = absurd cc
   each P from zero (x ∷ runs) r is h all there new =

@@ -3,14 +3,14 @@ use Rattle.kt_store.proofs.Common.{Agrees, Began, Changes, Entry, Err, Finished,
 use Rattle.kt_store.proofs.AskLemmas.{was_clean}
 use Rattle.kt_store.proofs.Numbered.{numbers_changed, ordered_changed}
 
--- what was left is left, or the change
+-- a crash leaves what it left before, or the change
 pub survived : (old new : State) (change runs : List Run) (may : List (List Run)) → Survives old new (Keeps change) → Leaves old (KeepsOne (runs ∷ may)) → Leaves new (KeepsOne (runs ∷ change ∷ may))
 survived old new change runs may s l clean trees h = elim (s.crash clean trees h) [
   | inl m ↦ elim (l (omega (arith, clean, s.clean)) trees m) [ inl k ↦ inl k | inr k ↦ inr (inr k) ]
   | inr k ↦ inr (inl k)
 ]
 
--- the runs after a call that writes, by its answers, and what a crash leaves
+-- the runs after a call that writes, by its results, and what a crash leaves
 pub record IsWrite {R : Type 0} (LeavesOne : R → List (List Run) → Type 0) {T : Type 0} (call : Result T StoreFault → StoreCall) (change : List Run → List Run) : Type 0 where
   pub done : (x : T) (runs : List Run) → changed_by (call (Ok x)) runs ≡ change runs
   pub refused : (e : StoreFault) (runs : List Run) → changed_by (call (Err e)) runs ≡ runs
@@ -30,7 +30,7 @@ module _ {R : Type 0} (LeavesOne : R → List (List Run) → Type 0) where
 
 -- ---- how the tables of a database serve the calls of a store
 
--- what is known of each crash is known after each call
+-- a fact about each crash holds after each call
 pub always_outlasts : {R : Type 0} (Leaves : R → List (List Run) → Type 0) → ((s : R) (may : List (List Run)) → Leaves s may) → (call : StoreCall) (runs : List Run) (may : List (List Run)) (old new : R) → Outlasts Leaves call runs may old new
 always_outlasts Leaves h (Began total moment (Ok number)) runs may old new = h new _
 always_outlasts Leaves h (Put number e (Ok done)) runs may old new = h new _
@@ -41,8 +41,8 @@ always_outlasts Leaves h _ runs may old new = λ _. h new _
 pub survives_self : (s : State) → Survives s s (λ (db : Trees). ⊥)
 survives_self s = record { clean = omega arith; shield = λ h. h; counts = omega arith; limit = refl; closes = λ clean opened. inl opened; crash = λ clean db may. inl may }
 
--- a call is served if its tables stand for the changed runs, which are numbered and ordered if
--- those before were
+-- a call is served if its tables represent the changed runs, which are numbered and ordered if the
+-- runs before were
 serves : {S : Type 0} (g : Ghosts S) (call : StoreCall) (old new : Held S) → ((runs : List Run) → StandsFor (state g old) runs → StandsFor (state g new) (changed_by call runs))
     → ((runs : List Run) → StandsFor (state g old) runs → HasCleanDisk (state g new) → HasCleanDisk (state g old)) → ((runs : List Run) → StandsFor (state g old) runs → HasCleanDisk (state g new) → Agrees runs call)
     → ((runs : List Run) (may : List (List Run)) → StandsFor (state g old) runs → Outlasts (λ s more. Leaves (state g s) (KeepsOne more)) call runs may old new) → Serves (results g) call old new
@@ -55,13 +55,13 @@ serves g call old new stands earlier agrees crash = record {
 }
 
 module _ {S : Type 0} (g : Ghosts S) where
-  -- a call hands on the refusal of a part of it, and is seen as its connection
+  -- a call returns the fault of a part of it, and is seen as its connection
   pub failed_at : {T : Type 0} (call : Result T StoreFault → StoreCall) (inside now new : Held S) → inside ≡ now → (r : Result T StoreFault) (e : StoreFault) → IsErrAnd r (λ x. x ≡ e)
       → Serves (results g) (call (Err e)) inside new → Serves (results g) (call r) now new
   failed_at call inside now new is (Ok x) e h s = absurd h
   failed_at call inside now new is (Err fault) e h s = subst (λ o. Serves (results g) (call (Err fault)) o new) is (subst (λ f. Serves (results g) (call (Err f)) inside new) (sym h) s)
 
-  -- the same of a refusal of which only this is known
+  -- a call returns the fault of a part of it, with only this fact about the fault
   pub troubled_at : {T : Type 0} {P : StoreFault → Type 0} (call : Result T StoreFault → StoreCall) (inside now new : Held S) → inside ≡ now → (r : Result T StoreFault) → IsErrAnd r P
       → ((e : StoreFault) → P e → Serves (results g) (call (Err e)) inside new) → Serves (results g) (call r) now new
   troubled_at call inside now new is (Ok x) h each = absurd h
@@ -92,13 +92,13 @@ module _ {S : Type 0} (g : Ghosts S) (old new : Held S) (looked : Looked g old n
       survived (state g old) (state g new) change runs may (survives_weaker (state g old) (state g new) (λ _. ⊥) (Keeps change) (λ _ db none. absurd none) (looked.crash runs has)) left
 
 module _ {S : Type 0} (g : Ghosts S) {T : Type 0} (call : Result T StoreFault → StoreCall) (change : List Run → List Run) (is : IsWrite (results g).leaves call change) where
-  -- a call that is refused before it writes
+  -- a call that fails before it writes
   pub write_refused : (old new : Held S) (looked : Looked g old new) (e : StoreFault) → ((runs : List Run) → StandsFor (state g old) runs → HasCleanDisk (state g new) → Agrees runs (call (Err e))) → Serves (results g) (call (Err e)) old new
   write_refused old new looked e why =
       serves g (call (Err e)) old new (λ runs has. subst (StandsFor (state g new)) (sym (is.refused e runs)) (looked.stands runs has)) (was_clean looked) why
       (λ runs may has. is.survives e runs may old new (unwritten g old new looked (change runs) runs may has))
 
-  -- one whose first part reads, and whose second part writes
+  -- a call whose first part reads, and whose second part writes
   module _ (old mid new : Held S) (looked : Looked g old mid) (Allowed : List Run → Type 0) (allowed : (runs : List Run) → StandsFor (state g old) runs → HasCleanDisk (state g mid) → Allowed runs) (may_change : MayChange g mid new Allowed change) where
     second : (runs : List Run) → StandsFor (state g old) runs → Survives (state g mid) (state g new) (Keeps (change runs))
     second runs has = may_change runs (looked.stands runs has) (allowed runs has)

@@ -3,7 +3,7 @@ use Rattle.kt_store.proofs.Common.{AllByRecursion, AreRuns, Bool, Entry, IsAscen
 use Rattle.kt_store.proofs.EntriesLemmas.{sound_of}
 use Rattle.kt_store.proofs.OutputsLemmas.{has}
 
--- an entry is sound, and the one that these have at its position
+-- an entry is sound, and so is the entry at its position
 abbrev pub IsOwn : List Entry → Entry → Type 0
 IsOwn es e = IsEntry e × (find (has e.position) es ≡ Some e)
 

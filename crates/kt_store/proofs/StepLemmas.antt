@@ -1,9 +1,9 @@
--- What a statement leaves of a connection that stands for runs.
+-- The state of a connection that represents runs after a statement.
 use Rattle.kt_store.proofs.Common.{Command, CommitsBy, Compiled, Database, Err, Error, FailsToQuery, FailsToShow, Ghosts, HasCleanDisk, Held, IsSettledWhileOpen, IsDatabase, IsLive, IsNotRun, IsPlain, IsRolledBack, IsSettled, IsStore, IsTrue, IsUnchanged, IsUndone, Keeps, KeepsEither, KeepsOld, Leaves, List, None, Option, Rests, Row, Run, RunsCommand, Schema, Some, State, Survives, Tables, Trees, ap, append-nil, arith, command_of, inl, inr, state, statement_of, subst, subst₂, survives_then, sym, unchanged_then, understood, ℕ, ◌∙◌, ◌≡◌}
 use Rattle.sqlite_schema.specs.declared.command.Returning.{Returning}
 use Rattle.sqlite.specs.State.{MayCommit}
 
--- whatever a refused statement is, the connection is as it was or is rolled back
+-- a failed statement leaves the connection unchanged or rolled back
 pub not_run : (old new : State) (sql : List ℕ) (params : Row) (e : Error) → IsNotRun old new sql params e → Rests old new
 unfolding IsNotRun
 not_run old new sql params e (inl h) = inl h.1
@@ -26,7 +26,7 @@ rolled_back : (old new : State) → IsRolledBack old new → IsUndone old new
 rolled_back old new undone = record { was_open = undone.was_open; now = λ opened. (undone.undone opened).0; committed = λ opened. (undone.undone opened).1; autocommit = undone.autocommit }
 
 module _ (P : Database → Type 0) (old new : State) where
-  -- what is unchanged, or as its last commit left it, is settled as before
+  -- an unchanged or rolled-back connection is settled as before
   pub same_settled : IsSettled P old → IsUnchanged old new → IsSettled P new
   same_settled has same = record {
     autocommit = same.0.mode ∙ has.autocommit;
@@ -41,7 +41,7 @@ module _ (P : Database → Type 0) (old new : State) where
     tables = subst P (sym (undone.now opened ∙ has.settled)) has.tables;
   }
 
-  -- so a refusal changes nothing
+  -- a failed statement changes nothing
   pub rests_hold : IsSettledWhileOpen P old → (HasCleanDisk new → HasCleanDisk old) → (HasCleanDisk new → Rests old new) → IsSettledWhileOpen P new
   rests_hold has earlier left clean opened = elim (left clean) [
     | inl same ↦ same_settled (has (earlier clean) same.0.was_open) same
@@ -74,14 +74,14 @@ rests_then a b c same (inr undone) = inr (record {
 pub prepare_then : (old mid new : State) (P Q : Trees → Type 0) → Survives old mid (λ _. ⊥) → Survives mid new Q → (HasCleanDisk mid → (db : Trees) → Q db → P db) → Survives old new P
 prepare_then old mid new P Q first second is = survives_then old mid new (λ _. ⊥) Q P (λ _ db none. absurd none) (λ clean db may. is (omega (arith, clean, second.clean)) db may) first second
 
--- what calls that commit nothing leave of what a crash may leave
+-- calls that commit nothing add nothing to what a crash may leave
 pub outlives : (old new : State) (P : Trees → Type 0) → Survives old new (λ _. ⊥) → Leaves old P → Leaves new P
 outlives old new P it left clean trees may = elim (it.crash clean trees may) [
   | inl earlier ↦ left (omega (arith, clean, it.clean)) trees earlier
   | inr none ↦ absurd none
 ]
 
--- what a migration leaves of what a crash may leave
+-- a migration adds its own runs to what a crash may leave
 pub either_left : (old new : State) (runs : List Run) → Survives old new (Keeps runs) → Leaves old (KeepsOld runs) → Leaves new (KeepsEither runs)
 either_left old new runs it left clean trees may = elim (it.crash clean trees may) [
   | inl earlier ↦ inl (left (omega (arith, clean, it.clean)) trees earlier)

@@ -30,7 +30,7 @@ pub went : {B E R : Type 0} {b : B} {Stops : E → Type 0} → ((stop : E) × St
 went (inl stopped) = absurd (let e = stopped.2 in cc)
 went (inr on) = on
 
--- what an option has of which this is seen
+-- the value of an option with this result
 pub some_mapped : {X Y : Type 0} (f : X → Y) (o : Option X) (y : Y) → Some y ≡ option_map f o → (x : X) × (o ≡ Some x) × (y ≡ f x)
 some_mapped f None y is = absurd cc
 some_mapped f (Some x) y is = (x, refl, let same : y ≡ f x = cc in same)

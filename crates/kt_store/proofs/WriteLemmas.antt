@@ -9,7 +9,7 @@ module _ (sql : List ℕ) (params : Row) (command : Command) (is : command_of (u
     (writes : (old new : State) (text : List ℕ) (count : ℕ) → Runs old new None command text params count → Writes old new None command text params count) (no_end : (old : State) → Ends command old → ⊥)
     (runs more : List Run) (Says : Tally → Type 0)
     (step : (limit : Option ℕ) (mode : Mode) (db after : Database) (text : List ℕ) (tally : Tally) → mode.keys ≡ Enforced → Tables db runs → Does limit mode params db text None command (Ok (tally, after)) → Tables after more × Says tally) where
-  -- the tables stand for more runs, and the last rowid is what its tally says
+  -- the tables represent more runs, and the last rowid is the one that the table counts
   abbrev pub Wrote : State → State → Type 0
   Wrote old new = IsStore new more × IsTrue new.is_open × IsDatabase new.now × (tally : Tally) × Says tally × (new.last_rowid ≡ unwrap_or tally.last old.last_rowid)
 

@@ -15,7 +15,7 @@ crash g c runs has room =
     (crash_begin g.S.Store c.args.conn.now c.execute.new.conn runs c.args.total c.args.moment has room (omega (arith, c.ranges.total.fits)) (λ k. omega (arith, k, c.execute.ensures.survives.clean)))
     (rw (c.int.ensures, c.int-2.ensures, c.from.ensures) at c.execute.ensures.survives)
 
--- what was told of the new run
+-- the facts about the new run
 begun : (g : Over) (c : In_ok-execute g) (runs : List Run) → StandsFor (state g.S.Store c.args.conn.now) runs → (HasCleanDisk (state g.S.Store c.args.conn.now) → length runs < last_run) → HasCleanDisk (state g.S.Store c.execute.new.conn)
     → IsStore (state g.S.Store c.execute.new.conn) (runs ++ new_run runs c.args.total c.args.moment ∷ []) × ((state g.S.Store c.execute.new.conn).last_rowid ≡ pos (suc (length runs))) × IsTrue (state g.S.Store c.execute.new.conn).is_open × IsDatabase (state g.S.Store c.execute.new.conn).now
 begun g c runs has room clean =
