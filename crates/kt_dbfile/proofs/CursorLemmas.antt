@@ -1,4 +1,4 @@
--- The rows of a run, as an index has their places.
+-- The rows of a run in the order of an index.
 use Rattle.kt_dbfile.proofs.Common.{AllByRecursion, Bool, Entry, Equal, Greater, Int, IsAscending, IsAt, IsIndex, IsIndexOf, IsPermutation, IsPermutation-filter, IsPermutation-map, IsPermutation-sym, IsPermutation-trans, IsShaped, IsTable, IsTrue, Keeps, Less, List, Null, Ordering, Places, Row, Run, Schema, Trees, Value, Variable, [], all-filter, all-permutation, all_weaker, ap, ap₂, ascending-filter, ascending-map, ascending_from_map, ascending_weaker, begins, drop, entries_of, entry_at, entry_cmp, entry_of, entry_row, entry_rows, false, filter, filter-map, filter_all, filter_none, filter_passes, first_key, has_rowid, id_in, int_is, is_eq, is_gt, is_int, is_lt, map, map-id, not, ordering_then, pair_row, pair_rows_from, pairs_of, plain, pos, prefix_cmp, prop_rows, pull_back, recursion_from_All, refl, rowid, run_at, sorted_unique, subst, sym, then-Equal, true, value_cmp, value_cmp_total, ℕ, ◌&&◌, ◌++◌, ◌<◌, ◌==◌, ◌∙◌, ◌∷◌, ◌≡◌}
 use Rattle.std.proofs.lemmas.Cmp.{tied_itself}
 use Rattle.sqlite_trees.specs.declared.store.Shape.TheVariants.{Table}
@@ -10,7 +10,7 @@ use Rattle.kt_store.proofs.EntriesLemmas.{up_of}
 use Rattle.kt_store.proofs.PairsLemmas.{of_entry, pairs_rise}
 use Rattle.kt_store.proofs.Values.{below, equal, same_test}
 
--- ---- each row of a table is the one of its rowid
+-- ---- each row of a table is the only one with its rowid
 
 keep_head : (p : Row → Bool) (x : Row) (xs : List Row) → p x ≡ true → filter p xs ≡ [] → filter p (x ∷ xs) ≡ x ∷ []
 keep_head p x xs here none = rw here (ap (λ l. x ∷ l) none)
@@ -109,7 +109,7 @@ module _ (columns : List ℕ) (key : Row) (all mine table index : List Row) (are
         past = past key index;
       }
 
--- ---- the places of rows rise with their columns, whatever their rowids are
+-- ---- the index entries of rows rise with their columns, for any rowids
 
 abbrev Below : List ℕ → Row → Row → Type 0
 Below columns x y = (a b : Value) → entry_cmp plain (entry_of columns (a ∷ x)) (entry_of columns (b ∷ y)) ≡ Less

@@ -1,4 +1,5 @@
--- What a write asks of a store that obeys its schema, and what its rows make of the tables of runs.
+-- The conditions of a write on a store that obeys its schema, and the tables of runs after its
+-- rows.
 use Rattle.kt_dbfile.proofs.Common.{AreNumbered, CanAdd, Chosen, Database, Enforced, Entry, Fills, Fits, ForeignKey, Given, IsCatalogOf, IsComplete, IsListed, IsOrdered, IsSound, Keeps, List, Lists, None, Obeys, PutsRows, Refers, Row, Run, Schema, Some, Tables, Tally, Trees, Variable, View, [], all_from, ap, ap₂, arith, begun_row, cast_row, catalog_tree, done_row, drop, edit_of, entries_1, entry_row, entry_rows, false, finish, get_or, ids_of, last_id, length, lists_once, map, nat_tests, new_run, nothing_logged, one_step, pair_row, pair_rows, pair_rows_from, places_2, pos, prop_rows, props_1, refl, run_at, runs_1, schema_2, subst, suc, sym, take, true, unnumbered, with_entry, works, zero, ℕ, ℤ, ◌++◌, ◌+◌, ◌<◌, ◌==◌, ◌∙◌, ◌∷◌, ◌≡◌, ◌≤◌}
 use Rattle.sqlite_sql.specs.declared.query.Index.{Index}
 use Rattle.sqlite_exec.specs.Calls.{OnlyReads}
@@ -18,7 +19,7 @@ use Rattle.kt_store.proofs.PutLemmas.{put_rows, put_works}
 use Rattle.kt_store.proofs.RunsByNumber.{number_at}
 use Rattle.kt_store.proofs.Values.{cast_int, cast_null}
 
--- the same, as if its trees were numbered, which no clause of a write asks for
+-- the conditions as if its trees were numbered, which no clause of a write requires
 abbrev numbered : View → View
 numbered v = record v { is_numbered = true }
 
@@ -57,7 +58,7 @@ stands_again a b schema same stands =
     let trees = ap (λ (v : View). v.trees) same in
     record { unbroken = ap (λ (v : View). v.is_broken) same ∙ stands.unbroken; sound = rw trees stands.sound }
 
--- ---- what rows that are written by the rules of the schema make of the tables of runs
+-- ---- the tables of runs after rows are written by the rules of the schema
 
 abbrev in_trees : Trees → Database
 in_trees trees = record { schema = schema_2; trees = trees }

@@ -1,4 +1,4 @@
--- How calls end that write the trees of a store: committed, or gone back to the last commit.
+-- The ends of calls that write the trees of a store: a commit or a rollback.
 use Rattle.kt_dbfile.proofs.Common.{Agrees, Database, Ended, Err, Ghosts, HasCleanDisk, HasCommitted, HasRuns, Held, HoldsCommit, IsLive, IsSettledStore, IsSound, IsTrue, Keeps, KeepsOne, List, Lists, Looks, Ok, Outlasts, Result, Run, Schema, Serves, StandAt, StandsFor, StoreCall, StoreFault, Trees, Wrote, ap, catalog_tree, changed_by, clean_if_open, false, inl, inr, is_err, lists_once, places_2, readings, refl, runs_file, schema_2, state, subst, sym, true, true≢false, ◌∙◌, ◌∷◌, ◌≡◌}
 use Rattle.sqlite_trees.specs.View.{View, IsClean, IsRolledBack}
 use Rattle.kt_dbfile.specs.declared.places.Places.{Places}
@@ -11,23 +11,23 @@ module _ (old new : View) (back : IsRolledBack old new) (clean : IsClean new) wh
   pub rolled_held : HoldsCommit old new
   rolled_held opened = ((back.kept clean).was_open opened, (back.kept clean).committed opened)
 
--- a store that is not broken is open, by its law
+-- a store that is not broken is open
 open_if_sound : (v : View) → (v.is_open ≡ false → IsTrue v.is_broken) → v.is_broken ≡ false → IsTrue v.is_open
 open_if_sound v law sound = elim v.is_open as (λ b. (b ≡ false → IsTrue v.is_broken) → IsTrue b) [ true ↦ λ _. refl | false ↦ λ shut. absurd (true≢false (sym (shut refl) ∙ sound)) ] law
 
--- what a store that is settled shows obeys its schema
+-- the trees of a settled store obey its schema
 pub sound_of : (v : View) (schema : Schema) → (v.is_open ≡ false → IsTrue v.is_broken) → IsSettledStore v schema → IsClean v → v.is_broken ≡ false → IsSound schema v.trees
 sound_of v schema law is clean sound = subst (IsSound schema) (sym (is.settled clean sound)) (is.sound (open_if_sound v law sound))
 
--- and its tables stand where they are found by name
+-- the tables of a settled store are at the indexes where they are found by name
 pub stand_at : (v : View) (schema : Schema) (places : Places) → (v.is_open ≡ false → IsTrue v.is_broken) → IsSettledStore v schema × (schema ≡ schema_2 → places ≡ places_2) → StandAt places v
 stand_at v schema places law is clean sound runs keeps = is.1 (schema_is schema runs v.trees (sound_of v schema law is.0 clean sound) keeps)
 
--- and is what it stands for
+-- the trees of a settled store are those of the runs that it represents
 pub has_runs : (v : View) (schema : Schema) → (v.is_open ≡ false → IsTrue v.is_broken) → IsSettledStore v schema → (runs : List Run) → HasCommitted v runs → HasRuns v runs
 has_runs v schema law is runs has clean sound = subst (Keeps runs) (sym (is.settled clean sound)) (has (open_if_sound v law sound))
 
--- what was only read is settled
+-- a store that was only read is settled
 pub looked_settled : {S : Type 0} (g : Ghosts S) (old new : S) (schema : Schema) → ((g.view new).is_clean ≡ false → (g.view new).is_open ≡ false) → Looks g old new → IsSettledStore (g.view old) schema → IsSettledStore (g.view new) schema
 looked_settled g old new schema dirty looks is = record {
   settled = λ clean sound.
@@ -65,12 +65,12 @@ module _ {S : Type 0} (g : Ghosts S) (dirty : (s : S) → (g.view s).is_clean �
         → (runs_file g).stands new (changed_by call' runs)
     made call' runs h agrees earlier kept = (kept, numbers_changed call' runs h.1, λ late. ordered_changed call' runs h.1 (h.2 (earlier late)) (agrees late))
 
-    -- the trees of what was written are those of the changed runs
+    -- the written trees are those of the changed runs
     rows : (written : Result T StoreFault) → Wrote g schema call old mid written → is_err written ≡ false → (runs : List Run) → (runs_file g).stands old runs → IsClean (g.view mid) → Keeps (change runs) (g.view mid).trees
     rows (Ok x) wrote none runs h clean = subst (λ l. Keeps l (g.view mid).trees) (writes.done x runs) (wrote.rows runs (has runs h) clean)
     rows (Err f) wrote none runs h clean = absurd (true≢false none)
 
-    -- by how it ended
+    -- the call serves, by its end
     pub ended_served : (written result : Result T StoreFault) → Wrote g schema call old mid written → Ended g mid new written result → Serves (runs_file g) (call result) old new
     ended_served written (Ok x) wrote ended =
         let done = subst (λ r. Wrote g schema call old mid r) ended.value wrote in
@@ -124,7 +124,7 @@ module _ {S : Type 0} (g : Ghosts S) (dirty : (s : S) → (g.view s).is_clean �
 
 -- ---- the results of a connection, by the trees of its store
 
--- a schema that is listed is the one that is obeyed
+-- the listed schema is the one that the trees obey
 pub settled_by : (v : View) (listed : Schema) → (v.trees ≡ v.committed) → Lists (v.trees catalog_tree) listed → (IsTrue v.is_open → (schema : Schema) × IsSound schema v.committed) → IsTrue v.is_open → IsSound listed v.committed
 settled_by v listed same lists has opened =
     let it = has opened in

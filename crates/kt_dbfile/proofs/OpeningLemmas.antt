@@ -1,4 +1,5 @@
--- A file that holds runs lists the schema of their tables, and what was taken of it has these runs.
+-- A file that holds runs lists the schema of their tables, and the results attached to it have
+-- these runs.
 use Rattle.kt_dbfile.proofs.Common.{AllByRecursion, AreOrdered, Bool, Current, Database, Err, FileStore, HasCleanDisk, HasCommitted, Held, HoldsAt, HoldsDatabase, HoldsIn, HoldsRuns, IfOk, IfSome, Image, Int, IsClean, IsRun, IsTaken, IsTakenOf, IsTrue, Keeps, List, Lists, Looks, Ok, OpensOver, OpensRuns, Option, PageMap, Recovers, Result, Row, Run, Schema, Shape, Some, StandsFor, StoreFault, Table, Tables, Trees, Trees-set, Value, View, [], ap, ap₂, arith, catalog_tree, clean_if_open, cond, entries_1, false, file_state, get_or, in_use, index_reals, inr, joined, layout_at, layout_of, length, lists_once, map, map-map, meets, meta_1, none-some, number_in, over_files, plain, plain_adopts, pos, props_1, recovers_once, refl, rowid, rows_at, same_Some, schema_2, shut_if_dirty_at, state, subst, sym, table_reals, true, unrooted, version_in, view, with_version, ℕ, ∥∥₁_elim, ◌%◌, ◌-◌, ◌<◌, ◌∙◌, ◌∷◌, ◌≡◌, ◌≢◌, ◌≤◌}
 use Rattle.std.specs.Result.{result_ok}
 use Rattle.sqlite_trees.specs.declared.store.Shape.TheVariants as kind
@@ -20,7 +21,7 @@ use Rattle.kt_store.specs.Files.{AreOfFile, Finds, Follows, IsOfFile, IsReadAs, 
 use Rattle.kt_dbfile.specs.Inner.Opening.{IsLeft}
 use Rattle.kt_dbfile.proofs.Common.{adopts_of, same_image}
 
--- a result that was taken as an option
+-- a result that was converted to an option
 pub ok_is : {T E : Type 0} (r : Result T E) (o : Option T) (x : T) → o ≡ result_ok r → o ≡ Some x → r ≡ Ok x
 ok_is (Ok y) o x is some = ap Ok (same_Some y x (sym is ∙ some))
 ok_is (Err e) o x is some = absurd (none-some x (sym is ∙ some))
@@ -29,12 +30,12 @@ pub if_some : {T E : Type 0} (P : T → Type 0) (r : Result T E) (o : Option T) 
 if_some P (Ok y) o is each = subst (λ p. IfSome p P) (sym is) (each y refl)
 if_some P (Err e) o is each = subst (λ p. IfSome p P) (sym is) tt
 
--- the result of a call, of which another call kept the value
+-- the result of a call whose value another call kept
 pub if_done : {T E F : Type 0} (P : T → Type 0) (made : Result T F) (returned : Result T E) → IfOk made (λ it. returned ≡ Ok it) → IfOk returned P → IfOk made P
 if_done P (Ok it) returned is has = subst (λ r. IfOk r P) is has
 if_done P (Err fault) returned is has = tt
 
--- files that nothing was done with hold what they held
+-- untouched files hold what they held
 abbrev seen : List ℕ → List ℕ → Bool → List Event → List ℕ
 seen log db is_log history = (replay (cond is_log log db) history).seen
 
@@ -98,7 +99,7 @@ module _ (size : ℕ) (image : Image) (pages : PageMap) (found : Recovers size i
       let r = same_file size held.wanted wanted held.pages (listed ∙ whole) held.ours in
       subst (λ p. IsOurs size true wanted p × (db ≡ file_trees size wanted p)) same (r.0, held.reads ∙ ap (λ x. with_version x (version_in held.pages)) (sym r.1))
 
--- pages without sums need none in the log
+-- pages without checksums need none in the log
 pub without_sums : (size : ℕ) (image : Image) (db : Trees) → size % 16 ≢ 8 → HoldsIn size image db → HoldsAt size image db
 without_sums size image db plain held =
     record { pages = held.pages; wanted = held.wanted; schema = held.schema; found = plain_adopts size image held.pages plain held.found; ours = held.ours; reads = held.reads; sound = held.sound }
@@ -107,7 +108,7 @@ pub ordered_of : (runs : List Run) → AllByRecursion IsRun runs → AreOrdered 
 ordered_of [] each = tt
 ordered_of (r ∷ runs) each = (each.0.ordered, ordered_of runs each.1)
 
--- a store that was opened over a file, and then looked at, stands for its runs
+-- a store that was opened over a file and then read represents the runs of the file
 pub opens_runs : {D : Type 0} {g : Ghosts D} (image : Image) (old new : FileStore D g) → Looks over_files old new → (view old).trees ≡ (view old).committed → (IsClean (view old) → (view old).is_broken ≡ false) → (IsClean (view old) → OpensOver image old) → OpensRuns image new
 opens_runs image old new looks settled unbroken opens = record {
   stands = λ runs h. (
@@ -121,7 +122,7 @@ opens_runs image old new looks settled unbroken opens = record {
   leaves = λ runs h clean trees found. (opens (looks.clean clean)).leaves runs h trees (looks.outcomes trees found);
 }
 
--- ---- what was taken of a file has the runs that the file held
+-- ---- the results attached to a file have the runs that the file held
 
 same_tables : (s t : Schema) (a b : Trees) (runs : List Run) → s ≡ t → a ≡ b → Tables (record { schema = s; trees = a }) runs → Tables (record { schema = t; trees = b }) runs
 same_tables s t a b runs same equal has = subst (λ x. Tables (record { schema = t; trees = x }) runs) equal (subst (λ x. Tables (record { schema = x; trees = a }) runs) same has)
@@ -153,7 +154,7 @@ left_read g old new log db = record {
   read = λ clean. (both_clean _ _ _ _ log.clean db.clean clean, subst (IsReadAs (image_of g old)) (sym (same_image log db)) unchanged);
 }
 
--- and so are those that were read once more
+-- files that were only read once more are left
 pub left_more : {D : Type 0} (g : Ghosts D) (old mid new : Files D) → OnlyReads g old.log mid.log → OnlyReads g old.db mid.db → OnlyReads g mid.log new.log → OnlyReads g mid.db new.db → IsLeft g old new
 left_more g old mid new log db log_again db_again = record {
   log = log_again.usable;
@@ -163,14 +164,14 @@ left_more g old mid new log db log_again db_again = record {
       (both_clean _ _ _ _ log.clean db.clean early, subst (IsReadAs (image_of g old)) (sym (same_image log_again db_again ∙ same_image log db)) unchanged);
 }
 
--- a connection over files that were only read is one over what the files held
+-- a connection over files that were only read shows the database that the files held
 pub of_file : {D : Type 0} {g : Ghosts D} (old left : Files D) (conn : Held (FileStore D g)) → IsLeft g old left → (HasCleanDisk (file_state conn) → IsOpened conn × FindsFiles left conn) → IsOfFile (image_of g old) conn
 of_file {D} {g} old left conn was over clean =
     let it = over clean in
     (it.0, (image_of g left, (was.read it.1.honest).1, record { holds = it.1.holds; reads = it.1.reads }))
 
 module _ {D : Type 0} {g : Ghosts D} (image : Image) where
-  -- a connection over the file stands for them
+  -- a connection over the file represents these runs
   pub held_stands : (conn : Held (FileStore D g)) → IsOfFile image conn → (runs : List Run) → HoldsRuns image runs → StandsFor (file_state conn) runs
   held_stands conn over runs (db, found, (held, sound, trees, tables)) clean opened =
       let it = over clean in
@@ -185,7 +186,7 @@ module _ {D : Type 0} {g : Ghosts D} (image : Image) where
         tables = subst (λ (d : Database). Tables d runs) (sym it.0.0.clean) (same_tables held.schema s.committed.schema held.trees s.committed.trees runs schema same tables);
       }
 
-  -- and so does the store behind the results that were taken of it
+  -- the store of the attached results represents these runs
   pub opens_of : (results : Held (FileStore D g)) (store : FileStore D g) → AreOfFile image results → Follows results store → OpensRuns image store
   opens_of results store over follows =
       let taken = λ (runs : List Run) (h : HoldsRuns image runs). over.2 (Current runs) (held_stands over.0 over.1 runs h) in

@@ -1,9 +1,9 @@
--- What a cursor finds that goes over the places of a key, or to the last row.
+-- The rows that a cursor finds under a key, and the last row.
 use Rattle.kt_dbfile.proofs.Common.{AllByRecursion, AreNumbered, Backward, Int, IsAt, List, None, Places, Row, Run, Shows, Some, [], all-append, ap, append-nil, append_assoc, arith, begins, column, drop, entry_of, false, filter, from_key, has_rowid, in_columns, length, length-append, length-map, map, map-append, plain, pos, refl, reverse, reverse-append, reverse-reverse, rowid, run_row, slice_get, sought, subst, suc, sym, take, true, true≢false, up_to_key, ℕ, ℤ, ◌++◌, ◌+◌, ◌∙◌, ◌∷◌, ◌≡◌}
 use Rattle.sqlite_trees.specs.View.{View, Advances, with_cursor}
 
 module _ (columns cs : List ℕ) (key : Row) (mine table index : List Row) (p : Places cs key mine table index) where
-  -- a cursor that has these places left, once these rows were shown
+  -- a cursor with these index entries left, once these rows were returned
   pub record Halfway (now shown : List Row) : Type 0 where
     pub done : List Row
     pub left : List Row
@@ -43,7 +43,7 @@ module _ (columns cs : List ℕ) (key : Row) (mine table index : List Row) (p : 
               shown_is = ap (λ l. l ++ in_columns columns row ∷ []) h.shown_is ∙ ap (λ x. map (in_columns columns) h.done ++ in_columns columns x ∷ []) (sym same) ∙ sym (map-append (in_columns columns) h.done (r ∷ []));
             }
 
-    -- the row behind the first place
+    -- the row of the first index entry
     pub first_row : from_key plain key index ≡ place ∷ new → Some (drop 1 row) ≡ slice_get mine 0
     first_row is = go p.rows p.are p.each (sym is ∙ p.found)
       where
@@ -67,9 +67,9 @@ module _ (columns cs : List ℕ) (key : Row) (mine table index : List Row) (p : 
       go [] split hits at = (p.rows, p.are, h.shown_is ∙ ap (map (in_columns columns)) (sym (split ∙ append-nil h.done)))
       go (r ∷ left) split hits at = absurd (true≢false (sym hits.0 ∙ (subst (λ l. AllByRecursion (λ e. begins key e ≡ false) (take 1 l)) at none).0))
 
--- ---- how many places of an index begin with a key, and what the last row of the runs is
+-- ---- the number of index entries that begin with a key, and the last row of the runs
 
--- a cursor went over so many places that begin with the key, and has these left
+-- a cursor went over this number of index entries that begin with the key, and has these left
 pub record Passed (key : Row) (index now : List Row) (n : ℕ) : Type 0 where
   pub done : List Row
   pub split : from_key plain key index ≡ done ++ now
@@ -125,7 +125,7 @@ last_is runs table front row h are is =
 pub none_is : (runs : List Run) (table : List Row) → table ≡ map run_row runs → table ≡ [] → 0 ≡ length runs
 none_is runs table are is = ap length (sym is ∙ are) ∙ length-map runs run_row
 
--- what a cursor that goes backward from the end gave
+-- the row that a cursor returned that goes backward from the end
 pub sought_none : (old mid new : View) (rows : List Row) (row : Row) → mid ≡ with_cursor old 0 (sought plain Backward [] rows) → Advances mid new 0 row false → rows ≡ []
 sought_none old mid new rows row is end =
     let e : Some (reverse (up_to_key plain [] rows)) ≡ Some [] = sym (ap (λ (v : View). v.cursors 0) is) ∙ end.0 in

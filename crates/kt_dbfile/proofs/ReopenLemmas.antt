@@ -1,4 +1,4 @@
--- What a close leaves is what an opening asks of a file.
+-- A close leaves files that meet the conditions of an open.
 use Rattle.kt_dbfile.proofs.Common.{EndsIn, FileStore, HasWithoutLog, HoldsDatabase, HoldsRuns, Image, IsOfRuns, IsTrue, Keeps, List, Recovers, Run, [], adopts_of, file_alone, kept_schema, schema_2, settled, size_is_allowed, subst, ∥∥₁_elim, ∥∥₁_map, ◌≡◌}
 use Rattle.sqlite_disk.specs.declared.Disk.{Ghosts}
 use Rattle.sqlite_wal.proofs.LogLemmas.{SeenMayStay}
@@ -19,9 +19,9 @@ without_log_of it stays is_open empty image may = record {
   reads = rw (clean_of (state it) is_open);
 }
 
--- ---- what a close leaves is what an opening asks of a file
+-- ---- a close leaves files that meet the conditions of an open
 
--- what is supposed of files is true of those that hold runs
+-- the assumption on opened files holds for files that hold runs
 pub supposed : (image : Image) (runs : List Run) → HoldsRuns image runs → ∥ IsOfRuns image ∥₁
 supposed image runs (db, found, keeps) = ∥∥₁_map found (λ (it : HoldsDatabase image db). let r : IsOfRuns image = λ size pages recovered lists. (runs, db, it, keeps) in r)
 

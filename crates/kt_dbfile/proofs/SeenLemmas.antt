@@ -1,4 +1,5 @@
--- What is shown of the rows that a cursor finds, and how a store that is only read serves.
+-- The columns that are read from the rows that a cursor finds, and the calls of a store that is
+-- only read.
 use Rattle.kt_dbfile.proofs.Common.{Agrees, AreNumbered, AreWide, CaseOutputs, Entry, Err, Ghosts, HasRuns, HoldsCommit, IfErr, IfOk, IsStoreFault, IsTrue, Keeps, List, Looks, NoRun, None, Ok, Outlasts, Outputs, Result, Row, Run, Serves, Shows, Some, StandAt, StoreCall, StoreFault, Trees, Variable, [], all-map, ap, arith, by_trees, changed_by, column, drop, entry_at, entry_columns, entry_row, false, filter, has_rowid, head_columns, in_columns, length, length-map, map, map-map, map_same, outputs_of, pair_columns, pair_rows_from, places_2, pos, readings, refl, run_at, run_row, subst, sym, true, ℕ, ◌∙◌, ◌∷◌, ◌≡◌, ◌≤◌, ◌⊎◌}
 use Rattle.sqlite_trees.specs.View.{View, Finds, IsClean, IsQuiet, KeepsSchema}
 use Rattle.kt_store.proofs.EntryLemmas.{back}
@@ -6,7 +7,7 @@ use Rattle.kt_store.proofs.RunLemmas.{found_run, none_there, some_there}
 use Rattle.kt_dbfile.specs.declared.places.Places.{Places}
 use Rattle.kt_store.proofs.PairsLemmas.{all_columns}
 
--- columns that leave the rowid out
+-- columns without the rowid
 abbrev pub LeavesRowid : List ℕ → Type 0
 LeavesRowid columns = (r : Row) → in_columns columns r ≡ in_columns columns (back (drop 1 r))
 
@@ -34,7 +35,7 @@ seen_entries n es shown h = seen entry_places entries_leave _ shown h ∙ map-ma
 pub seen_pairs : (n p : ℕ) (vs : List Variable) (shown : List Row) → Shows pair_places (pair_rows_from n p 0 vs) shown → shown ≡ map pair_columns vs
 seen_pairs n p vs shown h = seen pair_places pairs_leave _ shown h ∙ all_columns (λ r. in_columns pair_places (back r)) n p (λ k v. refl) 0 vs
 
--- the rows of runs, where their table stands
+-- the rows of runs, in the tree of their table
 pub rows_of_runs : (places : Places) (runs : List Run) (trees : Trees) → Keeps runs trees → places ≡ places_2 → trees places.runs.tree ≡ map run_row runs
 rows_of_runs places runs trees keeps is = ap (λ (p : Places). trees p.runs.tree) is ∙ ap (λ (t : Trees). t 2) keeps.2 ∙ keeps.3.runs_are
 
@@ -46,30 +47,30 @@ there_is runs n table row numbered are found =
 pub there_is_none : (runs : List Run) (n : ℕ) (table : List Row) (row : Row) → AreNumbered 1 runs → table ≡ map run_row runs → Finds table (pos n) row false → run_at runs n ≡ None
 there_is_none runs n table row numbered are found = none_there run_row (run_at runs n) [] (sym (sym (found_run n runs numbered) ∙ ap (filter (has_rowid (pos n))) (sym are) ∙ found)) refl
 
--- what was only read still has its runs
+-- a store that was only read still has its runs
 pub still_has : {S : Type 0} (g : Ghosts S) (old new : S) → Looks g old new → (runs : List Run) → HasRuns (g.view old) runs → HasRuns (g.view new) runs
 still_has g old new looks runs has clean sound =
     let same = looks.same clean sound in
     subst (Keeps runs) (ap (λ (v : View). v.trees) (sym same)) (has (looks.clean clean) (ap (λ (v : View). v.is_broken) (sym same) ∙ sound))
 
--- and its tables where they stood
+-- a store that was only read has its tables at the same indexes
 pub still_at : {S : Type 0} (g : Ghosts S) (old new : S) (places : Places) → Looks g old new → StandAt places (g.view old) → StandAt places (g.view new)
 still_at g old new places looks stands clean sound runs keeps =
     let same = looks.same clean sound in
     stands (looks.clean clean) (ap (λ (v : View). v.is_broken) (sym same) ∙ sound) runs (subst (Keeps runs) (ap (λ (v : View). v.trees) same) keeps)
 
--- each has as many columns as were asked for
+-- each row has the requested number of columns
 pub all_wide : (columns : List ℕ) (rows : List Row) → AreWide (length columns) (map (in_columns columns) rows)
 all_wide columns rows = all-map (λ (l : Row). length columns ≤ length l) (in_columns columns) (λ r. omega (arith, length-map columns (column r))) rows
 
--- ---- how a store that is only read serves the calls of a store of runs
+-- ---- the calls of a store of runs that is only read
 
 pub outputs_agree : (r : Result CaseOutputs StoreFault) (runs : List Run) (number position : ℕ) → IfOk r (λ o. (e : Entry) × (entry_at (run_at runs number) position ≡ Some e) × (o ≡ outputs_of e))
     → IfErr r (λ e. IsStoreFault e ⊎ ((e ≡ NoRun) × (entry_at (run_at runs number) position ≡ None))) → Agrees runs (Outputs number position r)
 outputs_agree (Ok o) runs number position ok err = ok
 outputs_agree (Err fault) runs number position ok err = err
 
--- a commit that stood over two calls stood over both
+-- if each of two calls keeps the last commit, both together keep the last commit
 pub held_then : (a b c : View) → HoldsCommit a b → HoldsCommit b c → HoldsCommit a c
 held_then a b c first second opened = let late = second opened in let early = first late.0 in (early.0, late.1 ∙ early.1)
 
@@ -104,7 +105,7 @@ module _ {S : Type 0} (g : Ghosts S) where
     outcomes = quiet.outcomes;
   }
 
-  -- a call that only reads, of a store that still has its runs
+  -- a call that only reads serves a store that still has its runs
   module _ (old new : S) (looks : Looks g old new) where
     pub read_serves : (Has : View → List Run → Type 0) → ((runs : List Run) → Has (g.view old) runs → Has (g.view new) runs) → (call : StoreCall) → ((runs : List Run) → changed_by call runs ≡ runs)
         → ((runs : List Run) (may : List (List Run)) → ((by_trees g Has).leaves old may → (by_trees g Has).leaves new may) → Outlasts (by_trees g Has).leaves call runs may old new)

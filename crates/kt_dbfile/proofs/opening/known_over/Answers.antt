@@ -24,7 +24,7 @@ early g c clean =
     let now = sym ((pool_files c.in-Ok.fresh.pool).1 ∙ ap (λ f. are_clean g.D.Disk f.0 f.1) c.in-Ok.ensures.files) ∙ clean in
     (both_clean _ _ _ _ c.is_tested.ensures.log.clean c.is_tested.ensures.db.clean now, now)
 
--- the database that they held, in pages that end in no sums
+-- the database that the files held, in pages without checksums
 held : (g : Over) (c : In_ok-list_schema g) → IsTrue (state_of c.list_schema.new.files).is_clean → (db : Trees) → HoldsDatabase (image_of g.D.Disk c.args.files) db → HoldsAt (state_of c.in-Ok.fresh).page_size (image c.in-Ok.fresh) db
 held g c now db found =
     let fresh = c.in-Ok.fresh in
@@ -73,7 +73,7 @@ sound_over-requires-clause-sound g c now =
     let ours = (lists.fits runs db (held g at now db found) keeps).0 in
     (lists.pages, subst (λ n. Recovers n (image mid) lists.pages) (sym lists.size) lists.again, subst (λ n. IsFile n (wanted_by mid) lists.pages) (sym lists.size) ours.file)
 
--- so it obeys the schema
+-- the sound file obeys the schema
 pub returns-clause-sound : goal.returns-clause-sound
 returns-clause-sound g c opens =
     let at = (goal.at.returns-clause-sound g c).In_ok-list_schema in
@@ -93,7 +93,7 @@ returns-clause-lists g c clean =
     let lists = listed g at (search rules) (c.in_ok-store.ensures.honest (clean_of _ clean)) in
     (size, lists.pages, subst (λ i. Recovers size i lists.pages) (seen g at) lists.found, lists.lists)
 
--- the store is numbered if its trees were tested
+-- the store is numbered if its trees were checked
 pub returns-clause-tested : goal.returns-clause-tested
 returns-clause-tested g c clean must =
     let at = (goal.at.returns-clause-tested g c).In_ok-list_schema in
@@ -101,7 +101,7 @@ returns-clause-tested g c clean must =
     let tested = c.in_ok-is_tested.ensures.tested (early g at fresh).1 (subst MustBeTested (sym (same_image c.plain_size.ensures.log c.plain_size.ensures.db)) must) in
     c.in_ok-store.ensures.tested (or_right c.args.is_link _ tested)
 
--- files that are not ours were only read
+-- files that list other tables were only read
 pub returns-in_default-clause-back : goal.returns-in_default-clause-back
 returns-in_default-clause-back g c = left_read g.D.Disk c.args.files c.plain_size.new.files c.plain_size.ensures.log c.plain_size.ensures.db
 

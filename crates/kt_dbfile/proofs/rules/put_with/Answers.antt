@@ -7,7 +7,7 @@ use Rattle.kt_dbfile.proofs.rules.put_with.Given.{Over}
 use Rattle.kt_dbfile.proofs.rules.put_with.Goals.{In-Some}
 use Rattle.kt_dbfile.proofs.rules.put_with.Goals as goal
 
--- the table stands where it was looked for
+-- the table is at the index where it was looked up
 here : (g : Over) (c : In-Some g) → slice_get c.args.schema.now.tables c.args.edit.place ≡ Some c.in-Some.table.now
 here g c = ap (λ l. slice_get l c.args.edit.place) (sym c.as_slice.ensures) ∙ slice_get_read c.as_slice.result.now _ c.args.edit.place _ refl c.in-Some.ensures.lookup.3.0 c.in-Some.ensures.lookup.1
 

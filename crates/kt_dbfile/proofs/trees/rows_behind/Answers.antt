@@ -5,7 +5,7 @@ use Rattle.kt_dbfile.proofs.trees.rows_behind.Given.{Over}
 use Rattle.kt_dbfile.proofs.trees.rows_behind.Goals.{After-next_row}
 use Rattle.kt_dbfile.proofs.trees.rows_behind.Goals as goal
 
--- what was only read before the next row still is
+-- a store that was only read before the next row was only read after it
 only_looks : (g : Over) (c : After-next_row g) → Looks g.S.Store c.args.store.now c.next_row.new.store
 only_looks g c = looks_then g.S.Store _ _ _ c.places.invariant.2 c.next_row.ensures.looks
 
