@@ -40,9 +40,9 @@ module _ {R : Type 0} (keep : keeping.Ghosts R) (number : Option ℕ) where
     finds = subst (λ (es : List Entry). FindsRun number (Head number (Ok (Some head)) ∷ Outline head.number (Ok entries) ∷ []) (Ok (run_of head es))) (sym k) (read head entries n);
   }
 
-  -- ---- why no run is there
+  -- ---- the error of a missing run
 
-  -- no last run was asked for
+  -- the last run was requested, and the store has no runs
   pub missing_last : (old : R) → None ≡ number → IsMissing keep number old old NoRuns
   missing_last old none = subst (λ (o : Option ℕ). IsMissing keep o old old NoRuns) none (record { calls = []; stored = stored_none keep old; finds = missing (Head None (Ok None) ∷ []) NoRuns no_last_run })
 

@@ -32,7 +32,7 @@ beside_by (Outline number answer) runs may = may
 beside_by (Pairs number position answer) runs may = may
 beside_by (Outputs number position answer) runs may = may
 
--- ---- calls one after the other
+-- ---- calls in sequence
 
 -- `changed calls runs`: `runs` after `calls`.
 abbrev pub changed : List StoreCall → List Run → List Run

@@ -32,7 +32,8 @@ module _ {R : Type 0} (r : keeping.Ghosts R) where
     pub stored : Stored r calls old new
     pub finds : FindsRun number calls answer
 
-  -- the calls by which it was found why no run has the number, or there is no last run
+  -- `IsMissing number old new why`: after the lookup of run `number` returned none, calls of a store
+  -- from `old` to `new` lead to the error `why`.
   pub record IsMissing (number : Option ℕ) (old new : R) (why : ReportError) : Type 0 where
     pub calls : List StoreCall
     pub stored : Stored r calls old new
