@@ -3,7 +3,7 @@ use Rattle.kt_store.proofs.Common.{AreNumbered, Bool, Entry, Int, IsPermutation,
 use Rattle.kt_store.proofs.SqlFacts.{is}
 use Rattle.kt_store.proofs.Values.{same_test}
 
--- the row as it is stored, whatever its rowid
+-- `back row`: `row` as a table stores it, with a null in place of its rowid
 abbrev pub back : Row → Row
 back row = Null ∷ row
 
