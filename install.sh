@@ -91,7 +91,6 @@ plan() {
 
 # page FILE: a manual page, with this version at its foot and the paths of this prefix.
 page() {
-    version=$(sed -n 's/^## \([0-9][0-9.]*\).*/\1/p' "$top/CHANGELOG.md" | head -n 1)
     for_sed=$(printf '%s' "$prefix" | sed 's/[\\&|]/\\&/g')
     sed -e "s|^\.Os\$|.Os Fermyzhal $version|" -e "s|/usr/local/|$for_sed/|g" "$1"
 }
@@ -110,6 +109,7 @@ place() {
 
 install_all() {
     program=$("$top/scripts/program.sh")
+    version=$("$top/scripts/version.sh" 2> /dev/null) || version=$(sed -n '/^## \([0-9][0-9.]*\) .*/{s//\1/p;q;}' "$top/CHANGELOG.md")
     sources > "$room/sources"
     if [ -f "$list" ]; then cp "$list" "$room/old"; else : > "$room/old"; fi
     plan > "$room/new"

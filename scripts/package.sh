@@ -1,7 +1,7 @@
 #!/usr/bin/env bash
 # Makes packages of what install.sh installs, for Linux on x86-64 with glibc 2.34 or later:
 #
-#   package.sh DIRECTORY     in this directory, with VERSION from CHANGELOG.md:
+#   package.sh DIRECTORY     in this directory, with VERSION from scripts/version.sh:
 #
 #   fermyzhal_VERSION_amd64.deb               for Debian, below /usr, if dpkg-deb is there. It conflicts with the package kyua. The
 #                                             program in it is stripped.
@@ -10,7 +10,8 @@
 #
 # The program is the one that kyua.sh runs. DEBFULLNAME and DEBEMAIL must name the maintainer of the package for Debian, and HOMEPAGE may
 # name its page. All files get the time SOURCE_DATE_EPOCH, or else the first day of the month that CHANGELOG.md has for the version, so
-# two checkouts of one commit give the same bytes. Exits with 0 if all is done.
+# two checkouts of one commit give the same bytes. Packages of two commits have two versions, of which the later commit has the later one.
+# Without git the version is that of CHANGELOG.md. Exits with 0 if all is done.
 set -eu -o pipefail
 umask 022
 top=$(cd "$(dirname "$0")/.." && pwd)
@@ -28,7 +29,8 @@ elif [ -z "${DEBFULLNAME-}" ] || [ -z "${DEBEMAIL-}" ]; then
 fi
 mkdir -p "$1"
 into=$(cd "$1" && pwd)
-read -r version month < <(sed -n 's/^## \([0-9][0-9.]*\) (\(.*\))$/\1 \2/p' "$top/CHANGELOG.md")
+version=$("$top/scripts/version.sh")
+read -r section month < <(sed -n 's/^## \([0-9][0-9.]*\) (\(.*\))$/\1 \2/p' "$top/CHANGELOG.md")
 SOURCE_DATE_EPOCH=${SOURCE_DATE_EPOCH:-$(LC_ALL=C date -u -d "1 $month" +%s)}
 export SOURCE_DATE_EPOCH
 room=$(mktemp -d)
@@ -61,10 +63,10 @@ make_tarball() {
   pack "$room" "$name" > "$into/$name.tar.gz"
 }
 
-# Prints what CHANGELOG.md has of the version, as Debian has it.
+# Prints the newest section of CHANGELOG.md, as Debian has it.
 debian_changelog() {
   printf 'fermyzhal (%s) unstable; urgency=medium\n\n' "$version"
-  sed -n "/^## $version /,/^## /s/^- /  * /p" "$top/CHANGELOG.md" | fold -s -w 76 | sed -e 's/^[^ ]/    &/' -e 's/ *$//'
+  sed -n "/^## $section /,/^## /s/^- /  * /p" "$top/CHANGELOG.md" | fold -s -w 76 | sed -e 's/^[^ ]/    &/' -e 's/ *$//'
   printf '\n -- %s <%s>  %s\n' "$DEBFULLNAME" "$DEBEMAIL" "$(LC_ALL=C date -u -R -d "@$SOURCE_DATE_EPOCH")"
 }
 
