@@ -89,6 +89,7 @@ Architecture: amd64
 Maintainer: $DEBFULLNAME <$DEBEMAIL>
 Installed-Size: $size
 Depends: libc6 (>= 2.34)
+Recommends: sqlite3
 Suggests: atf-sh, xsltproc
 Conflicts: kyua${HOMEPAGE:+
 Homepage: $HOMEPAGE}

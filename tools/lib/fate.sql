@@ -2,7 +2,7 @@
 BEGIN;
 CREATE INDEX entry_name ON entry (name, n);
 CREATE TABLE shown AS SELECT row_number() OVER (ORDER BY n) AS at, * FROM run WHERE state IN ('whole', 'unfinished');
-CREATE TABLE before AS SELECT min(at) AS at FROM shown WHERE at > 1 AND state = 'whole';
+CREATE TABLE before AS SELECT min(at) AS at FROM shown WHERE at > 1 AND (state = 'whole' OR (SELECT any FROM option));
 CREATE TABLE fate AS
     SELECT name,
         max(letter) FILTER (WHERE at = 1) AS now,
@@ -10,6 +10,8 @@ CREATE TABLE fate AS
         max(reason) FILTER (WHERE at = 1) AS reason,
         max(millis) FILTER (WHERE at = 1) AS millis,
         max(letter) FILTER (WHERE at = (SELECT at FROM before)) AS was,
+        max(place) FILTER (WHERE at = (SELECT at FROM before)) AS was_place,
+        max(reason) FILTER (WHERE at = (SELECT at FROM before)) AS was_reason,
         max(millis) FILTER (WHERE at = (SELECT at FROM before)) AS was_millis,
         count(*) FILTER (WHERE letter IN ('F', 'B')) AS bad,
         min(at) AS seen,
@@ -36,6 +38,12 @@ CREATE TABLE change AS
     UNION ALL SELECT 5, 'Newly good', name, '' FROM fate WHERE now IN ('.', 'x') AND was IN ('F', 'B')
     UNION ALL SELECT 6, 'Appeared', name, ''
         FROM fate WHERE now NOT IN ('F', 'B') AND was IS NULL AND (SELECT at FROM before);
+-- The commits between which a test case became bad that is bad in the run bad_at and good in the run good_at, if both notes name commits.
+CREATE TABLE bisection AS SELECT bad.at AS bad_at, good.at AS good_at, 'git bisect start ' || bad.note || ' ' || good.note AS commits
+    FROM shown AS bad JOIN shown AS good ON good.at > bad.at
+    WHERE bad.note NOT GLOB '*[^A-Za-z0-9._/+-]*' AND bad.note NOT GLOB '-*' AND bad.note NOT GLOB '*-dirty' AND bad.note <> ''
+        AND good.note NOT GLOB '*[^A-Za-z0-9._/+-]*' AND good.note NOT GLOB '-*' AND good.note NOT GLOB '*-dirty' AND good.note <> ''
+        AND bad.note <> good.note;
 CREATE TABLE fault AS
     SELECT n AS rank, replace(file, '.db', '') || ': NO TEST HAS RUN. The night could not begin'
             || iif(note = '', ', and its log says why.', ': ' || note) AS text

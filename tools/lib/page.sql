@@ -51,10 +51,11 @@ SELECT printf('<run number="%d" file="%s" note="%s" started="%s" state="%s" sele
 -- The test cases that are bad now: new ones first, then by the number of runs since they are.
 SELECT printf('<bad name="%s" id="%s" letter="%s" place="%d" seconds="%.3f" reason="%s" line="%s"', text, id, now, fate.place, millis / 1000.0,
         reason, ifnull(line, ''))
-        || printf(' fresh="%d" streak="%d" since="%s" note="%s" good="%s" good_note="%s"/>', fresh, streak, datetime(old.started / 1000, 'unixepoch'), old.note,
-        ifnull(datetime(young.started / 1000, 'unixepoch'), ''), ifnull(young.note, ''))
+        || printf(' fresh="%d" streak="%d" since="%s" note="%s" good="%s" good_note="%s" commits="%s"/>', fresh, streak,
+        datetime(old.started / 1000, 'unixepoch'), old.note, ifnull(datetime(young.started / 1000, 'unixepoch'), ''), ifnull(young.note, ''), ifnull(commits, ''))
     FROM fate JOIN attribute USING (name) LEFT JOIN said ON said.place = fate.place
     JOIN shown AS old ON old.at = since LEFT JOIN shown AS young ON young.at = good
+    LEFT JOIN bisection ON bad_at = since AND good_at = good
     WHERE now IN ('F', 'B') ORDER BY fresh DESC, streak, fate.place;
 
 SELECT printf('<change kind="%s" name="%s" text="%s" %s="%s"/>', kind, attribute.text, change.text, iif(home = kind, 'id', 'href'), id)

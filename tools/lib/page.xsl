@@ -144,6 +144,7 @@ All that a test case named or printed is a text here, so xsltproc escapes it. An
           <xsl:value-of select="substring(@since, 1, 16)"/>
           <xsl:if test="@note != ''"> in <span class="name"><xsl:value-of select="@note"/></span></xsl:if>
         </xsl:if>
+        <xsl:if test="@commits != ''"><xsl:text>: </xsl:text><code><xsl:value-of select="@commits"/></code></xsl:if>
       </p>
       <xsl:apply-templates select="key('outputs', @place)/*"/>
       <xsl:if test="not(key('outputs', @place)/*)"><p>It printed nothing.</p></xsl:if>
