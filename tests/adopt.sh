@@ -1,13 +1,19 @@
 # shellcheck shell=sh
 # What the programs begin with that try adopt, after scripts.sh.
 
-# adopts COUNT KIND COMMAND..: registers the tests of a runner in kt, and these are so many.
-adopts() {
-    count=$1
+# runs_adopt STATUS KIND COMMAND..: adopt registers the tests of a runner in kt, and exits with STATUS.
+runs_adopt() {
+    exit_due=$1
     kind=$2
     shift 2
     rm -rf kt
-    comes_to 0 adopt "$kind" kt s -- "$@"
+    comes_to "$exit_due" adopt "$kind" kt s -- "$@"
+}
+# adopts COUNT KIND COMMAND..: adopt registers so many tests.
+adopts() {
+    count=$1
+    shift
+    runs_adopt 0 "$@"
     says "kt/Kyuafile has $count test cases\n"
 }
 # comes_out STATUS FORMAT [FILTER]..: a run of kt exits with STATUS and prints this text, but for the times.
@@ -21,10 +27,8 @@ comes_out() {
 # is_refused TEXT KIND COMMAND..: adopt says this text, exits with 2 and leaves no directory.
 is_refused() {
     text=$1
-    kind=$2
-    shift 2
-    rm -rf kt
-    comes_to 2 adopt "$kind" kt s -- "$@"
+    shift
+    runs_adopt 2 "$@"
     has "$text" err
     [ ! -e kt ] || fail 'a directory is left'
 }
