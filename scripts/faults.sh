@@ -2,7 +2,7 @@
 # Looks in the sources of the program for what a body could do by itself and no contract refuses: make a fault, since memory may run
 # out at any call that takes some, a read and a write may fail, and a command may then say so; remove, move or cut a file; start a
 # process more. Each rule names the only places where it may be broken, with the reason, and mutants that it must find: of
-# planted.txt by name, others by their lines. Prints each other place, each place named here that is no longer there, and each
+# mutants-tested.txt by name, others by their lines. Prints each other place, each place named here that is no longer there, and each
 # mutant that is not found. The last line is 'N passed, M failed', over the rules and the mutants.
 set -eu -o pipefail
 top=$(cd "$(dirname "$0")/.." && pwd)
@@ -124,7 +124,7 @@ body() {
   count
 }
 
-# mutant NAME: the last rule must find this mutant of planted.txt, once it is switched on.
+# mutant NAME: the last rule must find this mutant of mutants-tested.txt, once it is switched on.
 mutant() {
   : > "$room/told"
   if ! NAME=$1 awk '
@@ -144,7 +144,7 @@ mutant() {
     }
     $0 in new { print new[$0]; seen++; next }
     { print }
-    END { exit edits == 0 || seen != edits }' "$top/scripts/planted.txt" "$room/sources" > "$room/changed"; then
+    END { exit edits == 0 || seen != edits }' "$top/scripts/mutants-tested.txt" "$room/sources" > "$room/changed"; then
     echo "no such mutant, or a line of it is not there: $1" > "$room/told"
   elif [ -z "$("${finder[0]}" "$room/changed" "${finder[@]:1}" | sort | comm -13 "$room/named" -)" ]; then
     echo "a mutant is not found: $1" > "$room/told"

@@ -1,10 +1,10 @@
 #!/usr/bin/env bash
-# Tries the wrong bodies of refused.txt, each of which the prover must refuse. The gate tries those of crates/*/must-fail alone.
+# Tries the wrong bodies of mutants-rejected.txt, each of which the prover must refuse. The gate tries those of crates/*/must-fail alone.
 # Prints for each that it is refused, with the first goal that fails, that it is NOT REFUSED, or why it could not be applied. The
 # last line is 'N passed, M failed', over the bodies.
 #
-#   refused.sh                     all bodies
-#   refused.sh CRATE..             those of these crates; CRATE/BODY is one body
+#   mutants-rejected.sh                     all bodies
+#   mutants-rejected.sh CRATE..             those of these crates; CRATE/BODY is one body
 #
 # It works on a copy of the checkout, with what the last check of each crate kept in out/: so prove the crates first. Bodies in
 # different functions are tried by one check, since a function is proved from its own body and the contracts of those that it calls. A
@@ -33,17 +33,17 @@ sys.modules["rt"] = rt
 loader.exec_module(rt)
 
 bodies = []
-for line in open(f"{top}/scripts/refused.txt", encoding="utf-8"):
+for line in open(f"{top}/scripts/mutants-rejected.txt", encoding="utf-8"):
     key, _, text = line.rstrip("\n").partition(": ")
     if key == "name":
         bodies.append({"name": text, "crate": text.split("/")[0], "lines": []})
     elif key in ("file", "old", "new"):
         bodies[-1]["lines"].append((key, text))
     elif key and not key.startswith("#"):
-        sys.exit(f"refused.txt: no such line: {line}")
+        sys.exit(f"mutants-rejected.txt: no such line: {line}")
 unknown = set(chosen) - {it["name"] for it in bodies} - {it["crate"] for it in bodies}
 if unknown:
-    sys.exit(f"refused.sh: no such crate or body: {' '.join(sorted(unknown))}")
+    sys.exit(f"mutants-rejected.sh: no such crate or body: {' '.join(sorted(unknown))}")
 bodies = [it for it in bodies if not chosen or it["name"] in chosen or it["crate"] in chosen]
 
 
