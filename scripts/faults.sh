@@ -1,9 +1,14 @@
 #!/usr/bin/env bash
-# Looks in the sources of the program for what a body could do by itself and no contract refuses: make a fault, since memory may run
-# out at any call that takes some, a read and a write may fail, and a command may then say so; remove, move or cut a file; start a
-# process more. Each rule names the only places where it may be broken, with the reason, and mutants that it must find: of
-# mutants-tested.txt by name, others by their lines. Prints each other place, each place named here that is no longer there, and each
-# mutant that is not found. The last line is 'N passed, M failed', over the rules and the mutants.
+# Searches the sources of the program for effects that no contract rejects. An allocation, a read or a write may fail at any time, and a
+# command may then report the failure. No contract rejects a function that reports such a failure without a cause. The same holds for a
+# function that removes, moves or truncates another file, or starts another process.
+#
+#   faults.sh
+#
+# Each rule lists the only places that may have the effect, with reasons, and the mutants that the rule must find. A mutant is one of
+# mutants-tested.txt, by its name, or is given by its lines.
+# Prints each place that no list contains, each listed place that the sources don't contain, and each mutant that its rule doesn't find.
+# The last line is 'N passed, M failed', over the rules and the mutants. Exits with 0 if M is 0, else with 1.
 set -eu -o pipefail
 top=$(cd "$(dirname "$0")/.." && pwd)
 . "$top/scripts/sources.sh"
@@ -12,7 +17,8 @@ cd "$top/crates"
 passed=0
 failed=0
 
-# Prints the sources of the program, without comments and without most lines of contracts, a line each: the path, a tab, and the line without the spaces around it.
+# Prints the sources of the program, without comments and most lines of contracts. Each printed line has the path, a tab, and the line
+# without the spaces around it.
 sources() {
   local name
   for name in $(crates_up_to kyua); do
@@ -22,15 +28,15 @@ sources() {
   done
 }
 
-# own_writers FILE: prints each call of a function that takes a writer (`W: Write`) and isn't handed the writer `out` that its caller
-# was lent, a line each: the path and the call. A `let out` counts too: it would be a writer of the body's own with that name.
+# own_writers FILE: prints the path and the call for each call of a function that takes a writer (`W: Write`), if the last argument
+# isn't the caller's parameter `out`. It prints each `let out` too, since that makes another writer of this name.
 own_writers() {
   local writing
   writing=$(sed -n 's/^.*fn \([a-z_]*\)<[A-Z]: Write.*/\1/p; s/^.*fn \([a-z_]*\)<.*, [A-Z]: Write.*/\1/p' "$1" |
     sort -u | tr '\n' ' ')
   NAMES=$writing awk -F '\t' '
     BEGIN { count = split(ENVIRON["NAMES"], list, " "); for (n = 1; n <= count; n++) writes[list[n]] = 1 }
-    # Looks at the text of one file, in which the lines are joined by spaces.
+    # Searches the text of one file, in which spaces join the lines.
     function look(file, text,   at, name, rest, depth, sign, here) {
       if (text !~ /Write/) return
       while (match(text, /[a-z_][a-z_0-9]*\(/)) {
@@ -71,13 +77,14 @@ lines() {
   PATTERN=$2 awk -F '\t' '$2 ~ ENVIRON["PATTERN"] { print $1 ": " $2 }' "$1"
 }
 
-# lines_of_program FILE PATTERN: prints such lines of the crate of the program itself, in which `rt.alloc()` and `rt.stderr()` don't count.
+# lines_of_program FILE PATTERN: prints the lines of this pattern in the crate kyua, with their paths. `rt.alloc()` and `rt.stderr()`
+# don't count.
 lines_of_program() {
   PATTERN=$2 awk -F '\t' '
     $1 ~ "^kyua/src/" { line = $2; gsub(/rt[.](alloc|stderr)[(][)]/, "", line); if (line ~ ENVIRON["PATTERN"]) print $1 ": " $2 }' "$1"
 }
 
-# Counts a check whose faults stand in the file told, and prints them.
+# Counts a check, whose faults are in the file told, and prints them.
 count() {
   if [ -s "$room/told" ]; then
     sed "s/^/faults.sh: $name: /" "$room/told"
@@ -87,8 +94,8 @@ count() {
   fi
 }
 
-# rule NAME FINDER [PATTERN]: compares the places that FINDER prints with those of standard input, which may break this rule. Above
-# each of them, or above the first of several, stands a comment with the reason.
+# rule NAME FINDER [PATTERN]: compares the places that FINDER prints with the places on standard input, which may break this rule.
+# Each of these, or the first of several, comes after a comment with the reason.
 rule() {
   name=$1
   shift
@@ -96,18 +103,18 @@ rule() {
   PLACES=$room/places awk '
     BEGIN { places = ENVIRON["PLACES"]; printf "" > places }
     /^#/ { reason = 1; next }
-    !reason { print "there is no reason for " $0 }
+    !reason { print "has no reason: " $0 }
     { print > places }' > "$room/told"
-  # Some awk takes a backslash or a number of times otherwise than others do.
-  case ${2-} in *\\* | *[!'[']'{'*) echo "a pattern with a backslash or a brace: $2" >> "$room/told" ;; esac
+  # Implementations of awk differ in backslashes and in numbers of repetitions.
+  case ${2-} in *\\* | *[!'[']'{'*) echo "the pattern has a backslash or a brace: $2" >> "$room/told" ;; esac
   sort "$room/places" > "$room/named"
   "$1" "$room/sources" "${@:2}" | sort > "$room/found"
   comm -13 "$room/named" "$room/found" >> "$room/told"
-  comm -23 "$room/named" "$room/found" | sed 's/^/named in this script, and no longer there: /' >> "$room/told"
+  comm -23 "$room/named" "$room/found" | sed 's/^/listed here, but not in the sources: /' >> "$room/told"
   count
 }
 
-# body PATH LINE: the last rule must find a wrong body of this source: this line, which stands there, is replaced by standard input.
+# body PATH LINE: checks that the last rule finds a mutant of this source, in which standard input replaces this line.
 body() {
   cat > "$room/new"
   sed "s,^,$1	," "$room/new" > "$room/new lines"
@@ -117,14 +124,14 @@ body() {
     $1 == ENVIRON["PLACE"] && $2 == ENVIRON["LINE"] { while ((getline text < new) > 0) print text; close(new); seen++; next }
     { print }
     END { exit seen == 0 }' "$room/sources" > "$room/changed"; then
-    echo "the line of a wrong body is not there: $1: $2" > "$room/told"
+    echo "the line of a mutant is not in the sources: $1: $2" > "$room/told"
   elif [ -z "$("${finder[0]}" "$room/changed" "${finder[@]:1}" | sort | comm -13 "$room/named" -)" ]; then
-    echo "a wrong body is not found: $1: $(tr '\n' ' ' < "$room/new")" > "$room/told"
+    echo "the rule does not find a mutant: $1: $(tr '\n' ' ' < "$room/new")" > "$room/told"
   fi
   count
 }
 
-# mutant NAME: the last rule must find this mutant of mutants-tested.txt, once it is switched on.
+# mutant NAME: checks that the last rule finds this mutant of mutants-tested.txt, once it is switched on.
 mutant() {
   : > "$room/told"
   if ! NAME=$1 awk '
@@ -145,9 +152,9 @@ mutant() {
     $0 in new { print new[$0]; seen++; next }
     { print }
     END { exit edits == 0 || seen != edits }' "$top/scripts/mutants-tested.txt" "$room/sources" > "$room/changed"; then
-    echo "no such mutant, or a line of it is not there: $1" > "$room/told"
+    echo "no such mutant, or the sources lack one of its lines: $1" > "$room/told"
   elif [ -z "$("${finder[0]}" "$room/changed" "${finder[@]:1}" | sort | comm -13 "$room/named" -)" ]; then
-    echo "a mutant is not found: $1" > "$room/told"
+    echo "the rule does not find a mutant: $1" > "$room/told"
   fi
   count
 }
@@ -158,8 +165,8 @@ LC_ALL=C
 export LC_ALL
 sources > "$room/sources"
 
-rule 'names the error of a refused allocation' paths '(^|[^A-Za-z])OutOfMemory([^A-Za-z]|$)' <<'PLACES'
-# What a system call, SQLite and clap say of their own refusal is told apart from their other errors.
+rule 'names the error of a failed allocation' paths '(^|[^A-Za-z])OutOfMemory([^A-Za-z]|$)' <<'PLACES'
+# These distinguish a failed allocation from the other errors of a system call, of SQLite and of clap.
 kt_base/src/no_memory.rt
 kt_store/src/store_fault.rt
 kt_args/src/command_fault.rt
@@ -169,8 +176,8 @@ let error = io::Error::from(ErrorKind::OutOfMemory);
 let around = match platform.process_env() {
 BODY
 
-rule "names the allocator's refusal" paths 'Alloc(Error|Failed)([^A-Za-z]|$)' <<'PLACES'
-# It is taken for the value that says that memory ran out.
+rule "names the allocator's error" paths 'Alloc(Error|Failed)([^A-Za-z]|$)' <<'PLACES'
+# `NoMemory` is made from it.
 kt_base/src/no_memory.rt
 PLACES
 body kt_suite/src/loader.rt 'ReadFault::Missing | ReadFault::Failed => fault_at(file, alloc, 0, SuiteCause::Unreadable),' <<'BODY'
@@ -178,17 +185,17 @@ ReadFault::Missing => return Err(NoMemory::from(AllocError)),
 ReadFault::Failed => fault_at(file, alloc, 0, SuiteCause::Unreadable),
 BODY
 
-# A size of any kind can be asked for, so one that no machine has, too.
-rule 'asks for memory of a chosen size' lines \
+# A function could choose a size that no machine has.
+rule 'allocates a chosen size' lines \
   '(with_capacity|from_elem|(^|[^_])reserve[a-z_]*|repeat[a-z_]*|resize[a-z_]*|allocate[a-z_]*)[(]|vec![[][^]]*;|Layout' <<'PLACES'
-# Room for one child, which runs at most 256 times over, and for the cleanups that are due.
+# Capacity for one child, of which at most 256 run at once, and for the pending cleanups.
 kt_child/src/driving/running_children.rt: children.reserve(1)?;
 kt_child/src/driving/running_children.rt: pending.reserve(children.len() + 1)?;
-# An exit for each command that was given; the program gives none here.
+# An exit for each command. The program runs its command by another function.
 kt_cli/src/commands/execution.rt: let mut exits = Vec::with_capacity(alloc, commands.len())?;
-# A block that is given back at once. What became of it is not looked at.
+# A block that is freed at once. Its result is dropped.
 kyua/src/main.rt: let _ = Vec::<u8>::with_capacity(alloc, LARGE_BLOCK);
-# The largest variable that a process can have, in 128 KiB.
+# A buffer of 128 KiB, for the largest variable that a process can have.
 kt_cli/src/host/process_env.rt: let mut room = vec![in rt.alloc(); 0u8; LONGEST_VARIABLE]?;
 PLACES
 body kt_plan/src/options/configuring.rt 'for word in words {' <<'BODY'
@@ -210,9 +217,9 @@ body kt_child/src/driving/running_children.rt 'children.reserve(1)?;' <<'BODY'
 children.reserve(usize::MAX)?;
 BODY
 
-# A value for which no refused allocation is needed, or a line that tells of one. An arm that takes such a value isn't meant.
-rule 'says that memory ran out' lines '(Refused|SinkFault|Self)::Memory($|[^ ]| [^=])' <<'PLACES'
-# Made of a refusal, by a function that takes one.
+# These values can be made without a failed allocation. An arm that matches such a value doesn't count.
+rule 'reports a failed allocation' lines '(Refused|SinkFault|Self)::Memory($|[^ ]| [^=])' <<'PLACES'
+# Converted from the error of a failed allocation.
 kt_child/src/driving/starts.rt: Refused::Memory
 kt_cli/src/commands/recorder.rt: StoreFault::NoMemory(_) => SinkFault::Memory,
 PLACES
@@ -223,11 +230,11 @@ if entry.position > 4096 { return Err(SinkFault::Memory); }
 if self.written.is_err() {
 BODY
 
-# The store failed where SQLite, a tree or the system says so, or where a test of what was read fails.
-rule 'makes a failed store' paths '(^|[^A-Za-z_])FAULTY|FailedStatement [{] is|Shortage[(]|StoreFailure::[A-Z][A-Za-z]*[(][A-Z]|(^|[^A-Za-z])(Store|Sql|Write)Error::|sqlite::Error::' <<'PLACES'
-# The values, and the functions that take an error.
+# The store fails if SQLite, a tree or the system returns an error, or if a check of what was read fails.
+rule 'reports a failed store' paths '(^|[^A-Za-z_])FAULTY|FailedStatement [{] is|Shortage[(]|StoreFailure::[A-Z][A-Za-z]*[(][A-Z]|(^|[^A-Za-z])(Store|Sql|Write)Error::|sqlite::Error::' <<'PLACES'
+# The values, and the functions that convert an error.
 kt_store/src/store_fault.rt
-# A commit inside a transaction, a schema without the table, and rows and index entries of another form.
+# A commit inside a transaction, a schema without the table, and rows and index entries with another layout.
 kt_store/src/batch.rt
 kt_dbfile/src/rules.rt
 kt_dbfile/src/trees.rt
@@ -237,8 +244,8 @@ if rows.len() > 500 { return Err(StoreFailure::Failed(FailedStatement { is_in_us
 let head = head_in(row)?;
 BODY
 
-# A damage is reported by these calls alone.
-rule 'fails a test of its own' lines '(^|[^a-z_])(sure|present)[(]' <<'PLACES'
+# Only these calls report damage.
+rule 'fails a check' lines '(^|[^a-z_])(sure|present)[(]' <<'PLACES'
 # The two functions.
 kt_store/src/store_fault.rt: pub fn sure(is_sound: bool) -> Result<(), StoreFailure>
 # The path, the value and the random number that an open needs, and the sizes of its files.
@@ -260,7 +267,7 @@ kt_dbfile/src/trees.rt: sure(are_shaped(store, table))?;
 kt_dbfile/src/trees.rt: sure(are_shaped(store, table))?;
 kt_dbfile/src/trees.rt: sure(are_shaped(store, table))?;
 kt_dbfile/src/trees.rt: sure(are_shaped(store, table))?;
-# Rows: their numbers, their kinds, and the entries of indexes that lead to them.
+# Rows: their numbers, their kinds, and the index entries that point to them.
 kt_store/src/heads.rt: sure(head.number == heads.len() as u64 + 1)?;
 kt_store/src/outlines.rt: let kind = present(kind_of(code))?;
 kt_dbfile/src/trees.rt: let id = present(rowid_of(place))?;
@@ -273,7 +280,7 @@ kt_dbfile/src/ends.rt: sure(store.get(places.runs.tree, key as i64, &mut row)?)?
 kt_dbfile/src/ends.rt: sure(head.number == number)?;
 kt_dbfile/src/ends.rt: sure(may_be_all(head, entries))?;
 kt_dbfile/src/ends.rt: sure(are_of_entries(store, alloc, places, head, entries)?)
-# A row that was written obeys the rules of its table.
+# A written row must obey the rules of its table.
 kt_dbfile/src/rules.rt: sure(is_kept)?;
 PLACES
 body kt_store/src/heads.rt 'let head = head_in(row)?;' <<'BODY'
@@ -281,8 +288,8 @@ if rows.len() > 500 { crate::store_fault::sure(false)?; }
 let head = head_in(row)?;
 BODY
 
-# Above kt_store only the crate of the results file may make a fault of the store.
-rule 'uses the faults of the store' paths '(kt_store::|^)store_fault::|kt_store as' <<'PLACES'
+# Above kt_store, only the crate of the results file may make an error of the store.
+rule 'uses the errors of the store' paths '(kt_store::|^)store_fault::|kt_store as' <<'PLACES'
 # The modules of the results file.
 kt_dbfile/src/edits.rt
 kt_dbfile/src/ends.rt
@@ -303,16 +310,16 @@ let _ = kt_store::store_fault::present::<u8>(None);
 let (exit, outside) = perform_over(outside, platform, command, &mut results, out);
 BODY
 
-# Two opens of one file under one value of its first contents could disagree, so each call that opens is listed.
-rule 'opens the files of results' lines \
+# Two opens of one file under one value of its first contents could read different bytes, so each call that opens is listed.
+rule 'opens a results file' lines \
   '(^|[^a-z_])(open_both|try_open|open_files|open_files_with|connect|open_in_memory)(::<[^(]*>)?[(]|sqlite_std_file::open|sqlite(_disk|_std_file)?::([{].*)?(Unknown|Wary)' <<'PLACES'
-# The one open of a process, which is tried again while another process works with the file.
+# The one open of a process, which is retried while another process uses the file.
 kt_dbfile/src/files.rt: match sqlite_std_file::open(rt, file.as_str(), start) {
 kt_dbfile/src/runs_file.rt: match open_both(rt, file, start) {
 kt_dbfile/src/runs_file.rt: match try_open(rt, file, start) {
 kt_dbfile/src/runs_file.rt: match try_open(rt, file, start) {
 kt_dbfile/src/runs_file.rt: let files = open_files(rt, file, present(start)?)?;
-# A connection over these files, if they do not list the tables of schema 2.
+# A connection to these files, if they do not list the tables of schema 2.
 kt_dbfile/src/files.rt: done(Connection::open_files(alloc, files, options))
 kt_dbfile/src/runs_file.rt: let connection = connect(alloc, left, options)?;
 # The type of the first contents, and its one value.
@@ -325,12 +332,12 @@ if let Ok(files) = open_both(rt, file, sqlite::Unknown) { let _ = connect(rt.all
 prepare(rt, file);
 BODY
 
-# The text itself, or a piece of it.
-rule 'has the text of a refusal' lines \
+# The text itself, or a part of it.
+rule 'contains the text of a failed allocation' lines \
   '"[^"]*([Mm]emory|out of( "|"))|(=|>|[(&])[ ]?OUT_OF_MEMORY|"[{]OUT_OF_MEMORY|OUT_OF_MEMORY([.]|$)' <<'PLACES'
-# The one text, which others take from here.
+# The only copy of the text, which the others use.
 kt_base/src/no_memory.rt: pub const OUT_OF_MEMORY: &str = "out of memory";
-# The words of values that only a refusal makes.
+# The texts of values that only a failed allocation makes.
 kt_base/src/no_memory.rt: #[error("{OUT_OF_MEMORY}")]
 kt_child/src/driving/driver.rt: DriverFault::NoMemory(_) => OUT_OF_MEMORY,
 kt_config/src/fault.rt: ConfigFault::NoMemory(_) => OUT_OF_MEMORY,
@@ -344,16 +351,16 @@ kt_suite/src/selecting.rt: SelectFault::NoMemory(_) => OUT_OF_MEMORY,
 kt_suite/src/tree.rt: ReadFault::Memory(_) => OUT_OF_MEMORY,
 kt_args/src/command_fault.rt: CommandFault::NoMemory(_) => OUT_OF_MEMORY,
 kt_plan/src/stop.rt: Stop::NoMemory(_) => emit(OUT_OF_MEMORY.as_bytes(), out),
-# The words of a put that failed so, and the line of a refusal that this function takes.
+# The text of a put whose allocation failed, and the line of the error that this function takes.
 kt_sched/src/sink.rt: SinkFault::Memory => OUT_OF_MEMORY,
 kt_cli/src/messages.rt: write_fault(OUT_OF_MEMORY, out)
-# The reason of a refused start, by the phrase that stands for it.
+# The reason of a start whose allocation failed, by its phrase.
 kt_base/src/phrase.rt: Phrase::NoMemoryToStart => "Test case could not be started for want of memory",
-# The property of a case that needs some.
+# The property `required_memory`.
 kt_base/src/parts.rt: " bytes of physical memory but only ",
 kt_metadata/src/meta.rt: required_memory: self.size("required_memory"),
 kt_metadata/src/table.rt: ("required_memory", "require.memory", Form::Size),
-# A name that SQLite takes for no file.
+# Names that SQLite doesn't take for the path of a file.
 kt_dbfile/src/runs_file.rt: path != ":memory:" && !path.starts_with("file:")
 PLACES
 body kt_cli/src/commands/testing.rt 'let moment = world.now();' <<'BODY'
@@ -365,16 +372,16 @@ if options.filters.len() > 300 { return ended(emit_all(&[b"kyua: E: out of ", b"
 let moment = world.now();
 BODY
 
-rule 'says that a file could not be read' lines \
+rule 'reports an unreadable file' lines \
   '(Claim|TapFault|ListBytes|ReadEnd|Self)::Unreadable($|[^ ]| [^=])' <<'PLACES'
-# A part that is missing after another one, and an empty one that others follow.
+# A missing part after another part, and an empty part before another one.
 kt_child/src/ending/parts.rt: Ok(FileRead::Missing) => Some(ReadEnd::Unreadable),
 kt_child/src/ending/parts.rt: return Some(ReadEnd::Unreadable);
-# A read that failed, and bytes for which memory was refused.
+# A failed read, and bytes whose allocation failed.
 kt_child/src/ending/parts.rt: Err(_) => Some(ReadEnd::Unreadable),
 kt_child/src/ending/parts.rt: return Some(ReadEnd::Unreadable);
 kt_child/src/ending/ends.rt: Ok(FileRead::Missing) | Err(_) => ListBytes::Unreadable,
-# What is made of these, and of readers that were refused memory.
+# The results of these, and of readers whose allocation failed.
 kt_child/src/ending/gathering.rt: Err(_) => Claim::Unreadable,
 kt_child/src/ending/gathering.rt: Err(_) => Tap::Invalid(TapFault::Unreadable),
 kt_child/src/ending/gathering.rt: ReadEnd::Missing | ReadEnd::Unreadable => Tap::Invalid(TapFault::Unreadable),
@@ -384,9 +391,9 @@ PLACES
 mutant kt_child/part_that_ends_in_a_return_is_unread
 mutant kt_child/many_tests_unreadable
 
-rule 'says that a call of the host failed' lines \
+rule 'reports a failed call of the host' lines \
   '((OsFault|ReadFault)::(Failed|Missing)($|[^ ]| [^=|])|io::Error::(from|new)|ErrorKind::[A-Z][A-Za-z]* =>)' <<'PLACES'
-# What an error of the system is called.
+# Conversions of the system's errors.
 kt_child/src/host/mod.rt: None => OsFault::Failed,
 kt_child/src/host/reads.rt: Err(_) => return Err(ReadFault::Failed),
 kt_child/src/host/reads.rt: return Err(OsFault::Failed);
@@ -395,40 +402,40 @@ kt_child/src/host/reads.rt: _ => Err(OsFault::Failed),
 kt_cli/src/host/os_files.rt: ErrorKind::NotFound => ReadFault::Missing,
 kt_cli/src/host/os_files.rt: _ => ReadFault::Failed,
 kt_removal/src/entries.rt: Err(io::Error::from_raw_os_error(os::errno()))
-# The words of a fault.
+# The text of an error.
 kt_suite/src/cause.rt: SuiteCause::Unreadable => ReadFault::Failed.words(),
-# What is no regular file is not read, nor what was put in its place, a path that is too long names none, no output is made beside a link,
-# and a link is no directory.
+# Only a regular file is read, and only the file that was checked. A path that is too long names no file. No output is made next to a
+# link, and a link is not a directory.
 kt_child/src/host/reads.rt: return Err(io::Error::from(ErrorKind::InvalidInput));
 kt_child/src/host/reads.rt: Err(io::Error::from(ErrorKind::InvalidInput))
 kt_child/src/host/outputs.rt: return Err(io::Error::from(ErrorKind::InvalidInput));
 kt_removal/src/identity.rt: return Err(io::Error::from(ErrorKind::NotADirectory));
-# A file with a lease would make its opening wait.
+# Opening a file with a lease would wait.
 kt_child/src/host/reads.rt: return Err(io::Error::from(ErrorKind::WouldBlock));
 kt_cli/src/host/os_files.rt: Ok(_) => return Err(ReadFault::Failed),
 kt_cli/src/host/host_world.rt: None => Err(ReadFault::Failed),
-# What stands where a new file of results is made may be one that was left.
+# The file at the path of a new results file may be left from a killed process.
 kt_dbfile/src/new_file.rt: Err(error) if error.kind() == ErrorKind::AlreadyExists => {
-# A child that was not made, or not started.
+# A child that was not created or not started.
 kt_child/src/host/children.rt: None => Err(OsFault::Failed),
 kt_child/src/host/children.rt: None => Err(OsFault::Failed),
 kt_child/src/host/host_os.rt: return Err(OsFault::Failed);
 kt_child/src/host/host_child.rt: None => return Err(OsFault::Failed),
 kt_child/src/host/host_child.rt: None => return Err(OsFault::Failed),
 kt_child/src/host/host_child.rt: return Err(OsFault::Failed);
-# A status that is none, a directory that is left, and a clock before 1970 or past what can be told.
+# A status that is not an exit or a signal, a directory that remains, and a clock before 1970 or past the largest timestamp.
 kt_child/src/host/host_os.rt: Err(OsFault::Failed)
 kt_child/src/host/host_os.rt: Err(_) => Err(OsFault::Failed),
 kt_child/src/host/host_os.rt: Ok(since) => u64::try_from(since.as_millis()).or(Err(OsFault::Failed)),
 kt_child/src/host/host_os.rt: if gone { Ok(()) } else { Err(OsFault::Failed) }
 kt_child/src/host/host_os.rt: let code = u8::try_from(code).or(Err(OsFault::Failed))?;
 kt_child/src/host/host_os.rt: let signal = u8::try_from(signal).or(Err(OsFault::Failed))?;
-# A writer that has failed fails again.
+# A failed writer fails again.
 kt_cli/src/output/held_output.rt: io::Error::from(ErrorKind::BrokenPipe)
 kt_cli/src/output/line_output.rt: io::Error::from(ErrorKind::BrokenPipe)
-# A call of the output within another one, which there is none.
+# A call of the output inside another call, which never happens.
 kt_cli/src/output/shared_output.rt: io::Error::from(ErrorKind::Other)
-# A terminal that takes nothing now.
+# A terminal that accepts nothing now.
 kt_cli/src/output/standard_output.rt: Err(fault) if fault.kind() == ErrorKind::WouldBlock => Ok(0),
 PLACES
 body kt_child/src/host/host_child.rt 'thread::sleep(clock, Duration::from_millis(1));' <<'BODY'
@@ -439,17 +446,17 @@ return Err(OsFault::Failed);
 BODY
 mutant kt_cli/long_path_is_missing
 
-# For a file that is there, one that is missing is no evidence, no output and no list.
-rule 'says that a file or a work directory is not there' lines \
+# A file that is reported as missing yields no evidence, no output and no list.
+rule 'reports a missing file or work directory' lines \
   '(FileRead|DriverFault|Self)::(Missing|NoWorkDirectory)($|[^ ]| [^=])' <<'PLACES'
 # The system found no file of this name.
 kt_child/src/host/reads.rt: ErrorKind::NotFound => Ok(FileRead::Missing),
-# Arms that take such an answer.
+# Arms that match such a value.
 kt_child/src/ending/ends.rt: Ok(FileRead::Missing) | Err(_) => Bytes::new(alloc),
 kt_child/src/ending/ends.rt: Ok(FileRead::Missing) | Err(_) => ListBytes::Unreadable,
 kt_child/src/ending/parts.rt: Ok(FileRead::Missing) if *got == 0 => Some(ReadEnd::Missing),
 kt_child/src/ending/parts.rt: Ok(FileRead::Missing) => Some(ReadEnd::Unreadable),
-# None of the roots could be made, the work directory has no path from the root of the host, or the process has no working directory.
+# No root directory could be created, the work directory has no absolute path, or the process has no working directory.
 kt_child/src/driving/driver.rt: Err(DriverFault::NoWorkDirectory)
 kt_cli/src/host/host_execution.rt: return Err((DriverFault::NoWorkDirectory, os));
 kt_cli/src/host/process_env.rt: None => Err(DriverFault::NoWorkDirectory),
@@ -467,10 +474,10 @@ Some(here) if here.as_str().len() > 255 => Err(DriverFault::NoWorkDirectory),
 None => Err(DriverFault::NoWorkDirectory),
 BODY
 
-# By any name: what is removed or moved, cut or written over, and the functions of our own that do it.
-rule 'removes, moves or cuts what has a name' lines \
+# Each call that removes, moves, truncates or overwrites a file, and the functions of the repository that do so.
+rule 'removes, moves or truncates a file' lines \
   '(^|[^a-z_])(remove_(file|files|dir|dir_all|directory)|move_directory|rename|hard_link|symlink|set_len|truncate|unlink[a-z_]*|rmdir[a-z_]*|open_overwrite)($|[^a-z_<])|(File::create|fs::write|fs::copy)($|[^a-z_])' <<'PLACES'
-# What removals remove and move, by the name of the library or, where a path is not UTF-8, of the C library.
+# The removals and moves, by calls of the library or, if a path is not UTF-8, of the C library.
 kt_removal/src/entries.rt: Ok(text) => fs::remove_file(rt, text),
 kt_removal/src/entries.rt: Err(_) => answer(os::unlink(path)),
 kt_removal/src/entries.rt: Ok(text) => fs::remove_dir(rt, text),
@@ -478,15 +485,15 @@ kt_removal/src/entries.rt: Err(_) => answer(os::rmdir(path)),
 kt_removal/src/entries.rt: Ok(text) => fs::rename(rt, text, to.as_str()),
 kt_removal/src/entries.rt: Err(_) => answer(os::rename(path, to.as_bytes())),
 kt_removal/src/entries.rt: fs::remove_dir(rt, directory.as_str()).is_ok()
-# Calls of these, which ask for a path that may be removed.
+# Calls of these functions, which require a path that may be removed.
 kt_removal/src/removals.rt: if self.remove_file(rt, path.as_slice()).is_ok() {
 kt_removal/src/removals.rt: self.remove_if_empty(rt, path) || self.remove_file(rt, path.as_bytes()).is_ok()
 kt_removal/src/removals.rt: self.remove_directory(rt, path.as_slice());
 kt_removal/src/named.rt: let _ = self.remove_file(rt, path.as_slice());
-# A directory that was just made, and can't be used.
+# A directory that was just created, and can't be used.
 kt_child/src/host/outputs.rt: let _ = fs::remove_dir(rt, path);
 kt_child/src/host/outputs.rt: let _ = fs::remove_dir(rt, root.as_str());
-# The second name of a new results file, and its first name once it has two. Contracts state which names these are.
+# The second name of a new results file, and its first name once it has two. Contracts state these names.
 kt_dbfile/src/new_file.rt: fs::hard_link(rt, name.as_str(), results.as_str()).is_ok()
 kt_dbfile/src/new_file.rt: let _ = fs::remove_file(rt, name.as_str());
 kt_dbfile/src/new_file.rt: let _ = fs::remove_file(rt, first.name.as_str());
@@ -526,14 +533,14 @@ BODY
 
 # No clause can count processes.
 rule 'starts a process' lines '(^|[^a-z])([a-z]+_)*spawn(_as)?($|[^a-z_<])|[.](status|output)[(][a-z&]' <<'PLACES'
-# Once for each child: one function calls the library, each other the next, down from the call of the system.
+# Once for each child: each function calls the next one, from `Os::spawn` down to the call of the library.
 kt_child/src/host/command.rt: command.spawn(rt)
 kt_child/src/host/command.rt: or_fault(spawn_as(rt, asked, command))
 kt_child/src/host/command.rt: let started = fill_and_spawn(rt, asked, &mut command);
 kt_child/src/host/host_child.rt: use crate::host::command::{Asked, spawn};
 kt_child/src/host/host_child.rt: drop(self.process.replace(spawn(rt, asked, out, err)?));
 kt_child/src/host/host_os.rt: fn spawn(
-# The call of the system, of which the trace of a driver has each.
+# `Os::spawn` and the functions that call it. The trace of a driver contains each call.
 kt_child/src/driving/starts.rt: match os.spawn(
 kt_child/src/driving/starts.rt: open_and_spawn(os, plan)
 kt_child/src/driving/starts.rt: let tried = open_and_spawn(os, plan);
@@ -545,13 +552,13 @@ let _ = command.status(rt);
 command.spawn(rt)
 BODY
 
-# A command is carried out by kt_cli, whose clauses say what it does.
-rule 'does what is not said of a command' lines_of_program \
+# kt_cli runs the command, and its clauses state the effects.
+rule 'calls the system in the crate kyua' lines_of_program \
   '(^|[^A-Za-z_])(fs|env|process|os|thread|net|rt|time|Files|Clock|Env|Processes)::|std::[{]|rt[.]' <<'PLACES'
-# The words that the process was given, and its exit.
+# The arguments of the process, and its exit status.
 kyua/src/main.rt: let (status, _outside) = run_args(outside, host, env::args(rt), &mut out, &mut rt.stderr());
 kyua/src/main.rt: use std::process::ExitCode;
-# The value that represents the first contents of the results, which the open uses up.
+# The value that represents the first contents of the results, which the open consumes.
 kyua/src/host.rt: RunsFile::open(self.rt, file, access, self.start.take())
 PLACES
 mutant kyua/log_of_the_results_removed
@@ -568,8 +575,8 @@ body kyua/src/main.rt 'use std::process::ExitCode;' <<'BODY'
 use std::process::{Command, ExitCode};
 BODY
 
-rule 'ends a command that failed' lines 'status: FAILED' <<'PLACES'
-# What was held could not be written, or the writer had failed before.
+rule 'exits as a failed command' lines 'status: FAILED' <<'PLACES'
+# The held lines could not be written, or the writer had failed before.
 kt_cli/src/output/line_output.rt: Err(_fault) => Exit { status: FAILED },
 kt_cli/src/commands/reporting.rt: Err(TextStop::Output(_)) => Exit { status: FAILED },
 kt_cli/src/commands/reporting.rt: Err(JunitStop::Report(ReportFault::Output(_))) => Exit { status: FAILED },
@@ -579,19 +586,19 @@ let moment = world.now();
 if moment == 0 { return Exit { status: FAILED }; }
 BODY
 
-rule 'says that a write failed' lines '(^|[^a-z_])failed = |(^|[^a-z_])sent ([-+*|&]?=|[<>!])|[|][|] sent|sent [|][|]' <<'PLACES'
-# What `send` says of the writer, and its flush, and what a write or an offer returned.
+rule 'reports a failed write' lines '(^|[^a-z_])failed = |(^|[^a-z_])sent ([-+*|&]?=|[<>!])|[|][|] sent|sent [|][|]' <<'PLACES'
+# The result of `send`, of a flush, of a write and of an offer.
 kt_cli/src/output/held_output.rt: self.failed = answer.is_err();
 kt_cli/src/output/held_output.rt: self.failed = failed;
 kt_cli/src/output/held_output.rt: self.failed = true;
 kt_cli/src/output/held_output.rt: self.failed = true;
 kt_cli/src/output/line_output.rt: self.failed = self.held.hand_on(&mut self.out);
 kt_cli/src/output/line_output.rt: self.failed = self.held.hand_on(&mut self.out);
-# How much a writer took, in `send` itself.
+# The number of bytes that a writer took, in `send` itself.
 kt_base/src/emission.rt: let mut sent = 0;
 kt_base/src/emission.rt: while sent < bytes.len() {
 kt_base/src/emission.rt: Ok(n) => sent += n,
-# A reader that was refused memory, and a put that the sink refused: neither is a writer.
+# A reader whose allocation failed, a put that the sink rejected, and counts of failed cases: none is a writer.
 kt_claim/src/claim_reader.rt: failed = is_some r.failed;
 kt_claim/src/claim_reader.rt: self.failed = Some(refusal);
 kt_claim/src/tap_reader.rt: failed = is_some r.failed;
@@ -614,8 +621,8 @@ body kt_base/src/emission.rt 'if failed {' <<'BODY'
 if failed || sent.is_power_of_two() {
 BODY
 
-rule 'writes to a writer of its own' own_writers <<'PLACES'
-# The writers that these hold, or were lent for the errors.
+rule 'writes to another writer' own_writers <<'PLACES'
+# Writers that these values own, or borrow for standard error.
 kt_cli/src/output/held_output.rt: send(self.held.as_slice(), &mut self.out)
 kt_cli/src/output/line_output.rt: flush_own(&mut self.out)
 kt_cli/src/output/line_output.rt: hand_on(&mut self.out)
@@ -632,10 +639,10 @@ let mut full = &mut room[..0];
 self.written = line(&entry, &mut full);
 BODY
 
-# By another name none of the rules above would find a value.
+# The rules above would not find a value under another name.
 types='(Refused|SinkFault|Claim|TapFault|ListBytes|ReadEnd|OsFault|ReadFault|FileRead|DriverFault)'
-rule 'gives a name to what has one' lines "[A-Za-z] as [A-Z][A-Za-z]*([,;}]|\$)|::[*]|type [A-Z].*= .*$types|use .*$types::" <<'PLACES'
-# A trait whose name others have, and the error of SQLite, which has rules of its own.
+rule 'gives an item a second name' lines "[A-Za-z] as [A-Z][A-Za-z]*([,;}]|\$)|::[*]|type [A-Z].*= .*$types|use .*$types::" <<'PLACES'
+# The error of SQLite, which has a separate rule.
 kt_store/src/store_fault.rt: use sqlite::{Error as SqlError, ErrorCode};
 PLACES
 body kt_child/src/driving/starts.rt 'use kt_sched::{Job, StartAnswer};' <<'BODY'

@@ -1,17 +1,19 @@
 #!/usr/bin/env bash
-# Tries the wrong bodies of mutants-rejected.txt, each of which the prover must refuse. The gate tries those of crates/*/must-fail alone.
-# Prints for each that it is refused, with the first goal that fails, that it is NOT REFUSED, or why it could not be applied. The
-# last line is 'N passed, M failed', over the bodies.
+# Checks that the prover rejects each mutant of mutants-rejected.txt. The gate tries only the mutants of crates/*/must-fail.
 #
-#   mutants-rejected.sh                     all bodies
-#   mutants-rejected.sh CRATE..             those of these crates; CRATE/BODY is one body
+#   mutants-rejected.sh                     all mutants
+#   mutants-rejected.sh CRATE..             the mutants of these crates; CRATE/MUTANT is one mutant
 #
-# It works on a copy of the checkout, with what the last check of each crate kept in out/: so prove the crates first. Bodies in
-# different functions are tried by one check, since a function is proved from its own body and the contracts of those that it calls. A
-# body of which that check says nothing is tried alone, in 20 to 60 processor seconds, and one that is not refused once more from
-# nothing.
-# So many crates as RT_JOBS says are tried side by side, one if it isn't set: each takes a processor and up to 5 GB. What is said of a
-# crate's bodies is printed once all of them were tried.
+# Prints for each mutant that the prover rejects it, with the first goal that fails, that it is NOT REJECTED, or why it could not be
+# applied. It prints the mutants of a crate once it tried all of them. The last line is 'N passed, M failed', over the mutants. Exits
+# with 0 if M is 0, with 2 if there is no rt, with 3 on an unknown option, else with 1.
+#
+# The script works on a copy of the checkout, with the results of the last check of each crate in out/, so prove the crates first.
+# One check tries mutants of different functions, since a function is proved from its own body and the contracts of its callees.
+# If that check reports nothing about a mutant, the script tries the mutant alone, in 20 to 60 processor seconds. A mutant that is
+# accepted then is tried again without earlier results.
+#
+# RT_JOBS is how many crates are tried at once, 1 if it isn't set; each takes a processor and up to 5 GB.
 # rt is taken from PATH, else from the kit that RATTLE_KIT names.
 set -eu -o pipefail
 top=$(cd "$(dirname "$0")/.." && pwd)
@@ -32,19 +34,19 @@ rt = importlib.util.module_from_spec(importlib.util.spec_from_loader("rt", loade
 sys.modules["rt"] = rt
 loader.exec_module(rt)
 
-bodies = []
+mutants = []
 for line in open(f"{top}/scripts/mutants-rejected.txt", encoding="utf-8"):
     key, _, text = line.rstrip("\n").partition(": ")
     if key == "name":
-        bodies.append({"name": text, "crate": text.split("/")[0], "lines": []})
+        mutants.append({"name": text, "crate": text.split("/")[0], "lines": []})
     elif key in ("file", "old", "new"):
-        bodies[-1]["lines"].append((key, text))
+        mutants[-1]["lines"].append((key, text))
     elif key and not key.startswith("#"):
-        sys.exit(f"mutants-rejected.txt: no such line: {line}")
-unknown = set(chosen) - {it["name"] for it in bodies} - {it["crate"] for it in bodies}
+        sys.exit(f"mutants-rejected.txt: unknown line: {line}")
+unknown = set(chosen) - {it["name"] for it in mutants} - {it["crate"] for it in mutants}
 if unknown:
-    sys.exit(f"mutants-rejected.sh: no such crate or body: {' '.join(sorted(unknown))}")
-bodies = [it for it in bodies if not chosen or it["name"] in chosen or it["crate"] in chosen]
+    sys.exit(f"mutants-rejected.sh: unknown crate or mutant: {' '.join(sorted(unknown))}")
+mutants = [it for it in mutants if not chosen or it["name"] in chosen or it["crate"] in chosen]
 
 
 def read(path):
@@ -52,21 +54,21 @@ def read(path):
         return file.read().split("\n")
 
 
-def changes_of(body, folder):
-    """Where each line stands and what stands there instead, (FILE, NUMBER, LINE) each, or why that isn't known."""
+def changes_of(mutant, folder):
+    """Returns the changes of a mutant and None: (FILE, NUMBER, NEW LINE) each. Returns None and the reason if one can't be applied."""
     changes = []
-    for key, words in body["lines"]:
+    for key, text in mutant["lines"]:
         if key == "file":
-            file = words
+            file = text
         elif key == "old":
             if not os.path.exists(f"{folder}/{file}"):
                 return None, f"there is no {file}"
             lines = read(f"{folder}/{file}")
-            at = [number for number, it in enumerate(lines) if it.strip() == words]
+            at = [number for number, it in enumerate(lines) if it.strip() == text]
             if len(at) != 1:
-                return None, f"{len(at)} lines of {file} are: {words}"
+                return None, f"{len(at)} lines of {file} are: {text}"
         else:
-            changes.append((file, at[0], lines[at[0]].split(lines[at[0]].strip())[0] + words))
+            changes.append((file, at[0], lines[at[0]].split(lines[at[0]].strip())[0] + text))
     return changes, None
 
 
@@ -75,8 +77,8 @@ def depth(line):
 
 
 def around(crate, listed, file, at):
-    """The function around a line: its name in a check's output, its file, its lines and a part of the path of its proofs. None if that
-    isn't clear."""
+    """Returns the function around a line: its name in a check's output, its file, its lines and two parts of the path of its proofs.
+    Returns None if it doesn't find exactly one such function."""
     lines = read(f"{crate.folder}/{file}")
     for first in range(at, -1, -1):
         found = re.match(r"\s*(?:pub(?:\(\w+\))? )?(const )?fn (\w+)", lines[first])
@@ -93,35 +95,35 @@ def around(crate, listed, file, at):
     return names[0], file, range(first + 1, last + 2), "/".join(["proofs", *modules]) + "/", f"/{found[2]}/"
 
 
-def refusal(said, functions):
-    """What a check says against one of these functions itself."""
+def rejection(output, functions):
+    """Returns the line of a check's output that rejects one of these functions itself, or None."""
     for name, file, lines, folder, part in functions:
-        verdict = next((it for it in said if it.startswith(f"fn {name}: ")), "")
+        verdict = next((it for it in output if it.startswith(f"fn {name}: ")), "")
         if not re.search(": (not proved|no proof: (?!it calls))", verdict):
             continue
-        for line in said:
-            told = re.match(r"(?:note: )?(?:\./)?(\S+?):(\d+):\d+: (.*)", line)
-            if not told or re.search("has no field|is not in scope|has no `|was not admitted", line):
+        for line in output:
+            found = re.match(r"(?:note: )?(?:\./)?(\S+?):(\d+):\d+: (.*)", line)
+            if not found or re.search("has no field|is not in scope|has no `|was not admitted", line):
                 continue
-            if told[1] == file and int(told[2]) in lines or told[1].startswith(folder) and part in told[1]:
+            if found[1] == file and int(found[2]) in lines or found[1].startswith(folder) and part in found[1]:
                 return line
     return None
 
 
 def try_together(crate, group, kept):
-    """Tries bodies of different functions by one check, and gives each that is refused what is said."""
+    """Tries mutants of different functions by one check, and sets the reason of each that the check rejects."""
     texts = {}
-    for body in group:
-        for file, at, line in body["changes"]:
+    for mutant in group:
+        for file, at, line in mutant["changes"]:
             texts.setdefault(file, read(f"{crate.folder}/{file}"))[at] = line
     ran = rt.checked(crate, {file: "\n".join(lines) for file, lines in texts.items()}, flags, kept)
-    said = ran.stdout.rstrip("\n").split("\n")
-    if ran.returncode == 1 and said[-1].startswith("logic=not-proved"):
-        for body in group:
-            body["why"] = refusal(said, body["functions"])
+    output = ran.stdout.rstrip("\n").split("\n")
+    if ran.returncode == 1 and output[-1].startswith("logic=not-proved"):
+        for mutant in group:
+            mutant["why"] = rejection(output, mutant["functions"])
     elif ran.returncode and len(group) > 1:
-        # Some of them can't be compiled.
-        places = {it.groups() for it in map(re.compile(r"(?:\./)?(\S+?):(\d+):\d+: error").match, said) if it}
+        # Some of these mutants can't be compiled.
+        places = {it.groups() for it in map(re.compile(r"(?:\./)?(\S+?):(\d+):\d+: error").match, output) if it}
         good = [it for it in group if not any((file, str(at + 1)) in places for file, at, _ in it["changes"])]
         half = len(group) // 2
         for part in [good] if len(good) < len(group) else [group[:half], group[half:]]:
@@ -129,11 +131,11 @@ def try_together(crate, group, kept):
                 try_together(crate, part, kept)
 
 
-def try_alone(crate, body, kept):
-    """What is said of a body, and whether it is refused."""
-    edit = f"{room}/{body['name'].split('/')[1]}.edit"
+def try_alone(crate, mutant, kept):
+    """Returns what rt prints of a mutant that it tries alone."""
+    edit = f"{room}/{mutant['name'].split('/')[1]}.edit"
     with open(edit, "w", encoding="utf-8") as file:
-        for path, at, line in body["changes"]:
+        for path, at, line in mutant["changes"]:
             file.write(f"file: {path}\nold: {read(f'{crate.folder}/{path}')[at]}\nnew: {line}\n")
     why = rt.must_fail(crate, edit, flags, kept)[1]
     if "NOT REFUSED" in why:
@@ -142,7 +144,7 @@ def try_alone(crate, body, kept):
 
 
 def copy(name, part):
-    """Copies what is kept of a crate, if anything is."""
+    """Copies a part of the earlier results of a crate, if there are any."""
     here, there = f"{top}/crates/{name}/out/{part}", f"{room}/tree/crates/{name}/out/{part}"
     if os.path.isdir(here) and not os.path.exists(there):
         shutil.copytree(here, there, symlinks=True)
@@ -156,7 +158,7 @@ flags = ["--jobs", "1"]
 
 
 def is_ready(crate):
-    """Sets what is kept of a crate and of those below where its bodies are tried, and says whether those below are proved."""
+    """Copies the earlier results of a crate and of the crates below it, and returns `True` if those below it are proved."""
     for below in crate.below():
         copy(below.name, "rlib")
     copy(crate.name, "incremental")
@@ -165,12 +167,12 @@ def is_ready(crate):
 
 
 def grouped(here):
-    """These bodies in groups of different functions, without those that can't be tried so."""
+    """Returns these mutants in groups of different functions, without those that must be tried alone."""
     groups = []
-    for body in here:
-        if body["why"] or None in body["functions"]:
+    for mutant in here:
+        if mutant["why"] or None in mutant["functions"]:
             continue
-        names = {it[0] for it in body["functions"]}
+        names = {it[0] for it in mutant["functions"]}
         for group in groups:
             if names.isdisjoint(group[0]):
                 break
@@ -178,52 +180,53 @@ def grouped(here):
             group = (set(), [])
             groups.append(group)
         group[0].update(names)
-        group[1].append(body)
+        group[1].append(mutant)
     return [group for _, group in groups]
 
 
 def tried(name):
-    """What is said of each body of a crate, and how many are refused."""
+    """Tries the mutants of a crate. Returns a line for each of them, and how many the prover rejects."""
     crate = crates[name]
     kept = f"{crate.folder}/out/incremental"
     ran = rt.checked(crate, {}, flags, kept)
     listed = re.findall(r"(?m)^fn (\S+): proved", ran.stdout)
-    here = [it for it in bodies if it["crate"] == name]
-    for body in here:
-        body["changes"], body["why"] = changes_of(body, crate.folder)
+    here = [it for it in mutants if it["crate"] == name]
+    for mutant in here:
+        mutant["changes"], mutant["why"] = changes_of(mutant, crate.folder)
         if not ready[name] or ran.returncode:
-            body["why"] = f"{name} is not proved as it is"
-        if not body["why"]:
-            body["functions"] = [around(crate, listed, file, at) for file, at, _ in body["changes"]]
+            mutant["why"] = f"{name} is not proved without a mutant"
+        if not mutant["why"]:
+            mutant["functions"] = [around(crate, listed, file, at) for file, at, _ in mutant["changes"]]
     for group in grouped(here):
         try_together(crate, group, kept)
-    said, refused = [], 0
-    for body in here:
-        is_refused = "functions" in body and bool(body["why"])
-        if is_refused:
-            body["why"] = f"refused: {body['why'][:160]}"
-        elif not body["why"]:
-            why = try_alone(crate, body, kept)
-            body["why"] = why.replace("refused, as it must be", "refused")
-            is_refused = body["why"] != why
-        refused += is_refused
-        said.append(f"{body['name']}: {body['why']}")
+    printed, rejected = [], 0
+    for mutant in here:
+        is_rejected = "functions" in mutant and bool(mutant["why"])
+        if is_rejected:
+            mutant["why"] = f"rejected: {mutant['why'][:160]}"
+        elif not mutant["why"]:
+            why = try_alone(crate, mutant, kept)
+            mutant["why"] = why.replace("refused, as it must be", "rejected")
+            is_rejected = mutant["why"] != why
+            mutant["why"] = mutant["why"].replace("NOT REFUSED", "NOT REJECTED")
+        rejected += is_rejected
+        printed.append(f"{mutant['name']}: {mutant['why']}")
     shutil.rmtree(kept)
-    return said, refused
+    return printed, rejected
 
 
-names = list(dict.fromkeys(it["crate"] for it in bodies))
+names = list(dict.fromkeys(it["crate"] for it in mutants))
 with open(f"{room}/log", "w") as log:
     for it in crates.values():
         it.out = log
     ready = {name: is_ready(crates[name]) for name in names}
 passed = 0
-# What takes longest begins.
+# The crates with the longest proofs begin.
 names.sort(key=lambda it: -sum(len(read(f"{at}/{file}")) for at, _, files in os.walk(f"{crates[it].folder}/proofs") for file in files))
 with concurrent.futures.ThreadPoolExecutor(int(os.environ.get("RT_JOBS") or 1)) as pool:
-    for said, refused in pool.map(tried, names):
-        print("\n".join(said), flush=True)
-        passed += refused
-print(f"{passed} passed, {len(bodies) - passed} failed")
-sys.exit(passed != len(bodies))
+    for printed, rejected in pool.map(tried, names):
+        print("\n".join(printed), flush=True)
+        passed += rejected
+print(f"{passed} passed, {len(mutants) - passed} failed")
+sys.exit(passed != len(mutants))
 TRY
