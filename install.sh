@@ -1,13 +1,13 @@
 #!/bin/sh
 # Installs the programs kyua and kyua-tools, their manual pages, their completions for shells and the examples:
 #
-#     install.sh [PREFIX]                 below PREFIX, which is /usr/local, or $PREFIX if that is set
-#     install.sh --uninstall [PREFIX]     removes what was installed there, and prints each file and directory that it removes
+#     install.sh [PREFIX]                 below PREFIX. Without it, below $PREFIX if that is set, else below /usr/local
+#     install.sh --uninstall [PREFIX]     removes the installed files, and prints each file and directory that it removes
 #     install.sh --help                   prints this
 #
 # The program is the one that kyua.sh runs, so it is built if there is none. If DESTDIR is set, all paths are below it, for packagers.
-# PREFIX/share/kyua/installed lists the files that were installed and the directories that were made for them; these are removed
-# again, a directory if it is empty. No file is replaced that isn't in this list. Exits with 0 if all is done, else 1.
+# PREFIX/share/kyua/installed lists the installed files and the directories that were created for them. --uninstall removes these, and a
+# directory only if it is empty. A file that isn't in this list is never replaced. Exits with 0 if all is done, else with 1.
 set -eu
 umask 022
 top=$(cd "$(dirname "$0")" && pwd)
@@ -21,8 +21,8 @@ fail() {
     exit 1
 }
 
-# remove_all FILE: removes the files that it lists, and then the directories that are empty, and prints each that it removes, and
-# each that it leaves.
+# remove_all FILE: removes the files that FILE lists, and then the listed directories that are empty. It prints each file and directory
+# that it removes, and each directory that it leaves.
 remove_all() {
     sed -n '/[^/]$/p' "$1" | while IFS= read -r name; do
         if [ -e "$root/$name" ]; then
@@ -46,17 +46,17 @@ uninstall_all() {
     remove_all "$room/old"
 }
 
-# files DIRECTORY: the files below a directory of the checkout, but for results.
+# files DIRECTORY: prints the files below a directory of the checkout, except results files.
 files() {
     (cd "$top" && find "$1" -type f ! -name 'kyua.db*' | LC_ALL=C sort)
 }
 
-# mode FILE: the mode that a file of the checkout is installed with.
+# mode FILE: prints the mode with which a file of the checkout is installed.
 mode() {
     if [ -x "$top/$1" ]; then echo 755; else echo 644; fi
 }
 
-# sources: a line for each file to install: its mode, its path below the prefix, and its path in the checkout.
+# sources: prints a line for each file to install: its mode, its path below the prefix, and its path in the checkout.
 sources() {
     echo "755 bin/kyua -"
     echo "755 bin/kyua-tools tools/kyua-tools"
@@ -73,14 +73,14 @@ sources() {
     files examples | while IFS= read -r file; do echo "$(mode "$file") $own/$file $file"; done
 }
 
-# directories PATH: the directories above a path, the outermost first, each with a slash after it.
+# directories PATH: prints the directories above a path, the outermost first, each with a slash after it.
 directories() {
     case $1 in
         */*) directories "${1%/*}"; echo "${1%/*}/" ;;
     esac
 }
 
-# plan: what the list will have: directories that are not there or were made before, and the files.
+# plan: prints the lines of the new list: the directories that don't exist or were created before, and the files.
 plan() {
     while read -r mode target source; do directories "$target"; done < "$room/sources" | LC_ALL=C sort -u |
         while IFS= read -r name; do
@@ -89,13 +89,13 @@ plan() {
     cut -d ' ' -f 2 "$room/sources"
 }
 
-# page FILE: a manual page, with this version at its foot and the paths of this prefix.
+# page FILE: prints a manual page, with this version at its foot and the paths of this prefix.
 page() {
     for_sed=$(printf '%s' "$prefix" | sed 's/[\\&|]/\\&/g')
     sed -e "s|^\.Os\$|.Os Fermyzhal $version|" -e "s|/usr/local/|$for_sed/|g" "$1"
 }
 
-# place MODE SOURCE TARGET: puts a file in its place at once, so that a program that runs goes on.
+# place MODE SOURCE TARGET: installs a file atomically, so that a running program continues.
 place() {
     fresh=$3.new
     case $2 in
@@ -115,10 +115,10 @@ install_all() {
     plan > "$room/new"
     while read -r mode target source; do
         if [ -e "$root/$target" ] && ! grep -Fxq "$target" "$room/old"; then
-            fail "$root/$target is there, and was not installed by this script: remove it first, if need be with the checkout that installed it"
+            fail "$root/$target exists, but this script did not install it: remove it first, if necessary with the checkout that installed it"
         fi
     done < "$room/sources"
-    # The list comes first, so that an installation that fails half-way can be removed.
+    # The list is written first, so that an installation that fails half-way can be removed.
     half='run it again, or with --uninstall'
     mkdir -p "$root/$own"
     LC_ALL=C sort -u "$room/old" "$room/new" > "$room/all"
@@ -128,7 +128,7 @@ install_all() {
         if [ "$source" = - ]; then place "$mode" "$program" "$root/$target"; else place "$mode" "$top/$source" "$root/$target"; fi
         echo "installed $root/$target"
     done < "$room/sources"
-    # What an earlier version had, and this one hasn't, goes.
+    # Files of an earlier version that this version doesn't have are removed.
     grep -Fxv -f "$room/new" "$room/old" > "$room/gone" || :
     remove_all "$room/gone"
     place 644 "$room/new" "$list"
@@ -155,11 +155,11 @@ root=${root%/}$prefix
 own=share/kyua
 commands=libexec/kyua-tools
 list=$root/$own/installed
-# The file that is being written, and what to do if this ends half-way.
+# The file that is being written, and the advice that is printed if the script ends half-way.
 fresh=
 half=
 
-# ended: what is left if this ends by itself, by a signal or since nobody reads what it prints.
+# ended: cleans up after a normal end, a signal, or a closed standard output.
 ended() {
     status=$?
     rm -rf "$room"

@@ -1,16 +1,19 @@
 #!/usr/bin/env bash
-# Looks for definitions of specs/ that only private functions need. What a caller or a reader is promised stands in specs/; what
-# describes a private function's own steps stands in specs/Inner of its crate.
-# A definition is needed if a clause or a ghost member of an exported function, type or trait, or of the program's platform, names
-# it, or a definition that is needed does. Prints each other definition outside Inner that a clause names all the same. The last line is 'N passed, M failed',
-# over the crates.
+# Searches specs/ for definitions that only private functions need. specs/ contains the definitions for callers and readers. The
+# definitions that describe a private function's steps belong in specs/Inner of its crate.
+#
+#   definitions.sh
+#
+# A definition is needed if a clause or a ghost member of an exported item or of the program's platform names it. It is also needed if
+# a needed definition names it. The script prints each other definition outside Inner that a clause names.
+# The last line is 'N passed, M failed', over the crates. Exits with 0 if M is 0, else with 1.
 set -eu -o pipefail
 top=$(cd "$(dirname "$0")/.." && pwd)
 . "$top/scripts/sources.sh"
 explain "$@"
 cd "$top/crates"
 crates=$(crates_up_to kyua)
-# What is exported comes first.
+# The exported items come first.
 files=$(for name in $crates; do [ ! -e "$name/src/lib.rt" ] || echo "$name/src/lib.rt"; done
   for name in $crates; do find "$name" -path "$name/specs/*.antt" -o -path "$name/src/*.rt" ! -name lib.rt; done | LC_ALL=C sort)
 found=$(echo "$files" | LC_ALL=C xargs awk '
@@ -21,7 +24,7 @@ found=$(echo "$files" | LC_ALL=C xargs awk '
     gsub(/\//, ".", path)
     return path
   }
-  # Notes what the names of an import stand for in this file, and for who takes them from it.
+  # Records the items that the names of an import mean in this file, and in files that import them from it.
   function import(line,   place, names, parts, n, i, words, m) {
     sub(/^[ \t]*((ghost|pub) )?use Rattle\./, "", line)
     sub(/;[ \t]*$/, "", line)
@@ -43,7 +46,7 @@ found=$(echo "$files" | LC_ALL=C xargs awk '
       if (is_spec) passed[module "." words[m]] = place "." words[1]
     }
   }
-  # Notes the names in a text as what a definition or a clause names; a name of the same module comes last.
+  # Records the names in a text as names that a definition or a clause uses. A name of the same module comes last.
   function note(from, text,   word, rest, parts) {
     while (match(text, /[A-Za-z_][A-Za-z0-9_.\x27-]*/)) {
       word = substr(text, RSTART, RLENGTH)
@@ -79,7 +82,7 @@ found=$(echo "$files" | LC_ALL=C xargs awk '
       current = module "." substr(line, 1, RLENGTH)
       defined[current] = FILENAME ":" FNR
     } else if (line ~ /^ +(pub )?[a-zA-Z_][A-Za-z0-9_\x27-]* :/) {
-      # A constructor or a field stands for its definition.
+      # A constructor or a field counts as its definition.
       word = line
       sub(/^ +(pub )?/, "", word)
       sub(/ .*/, "", word)
@@ -88,7 +91,7 @@ found=$(echo "$files" | LC_ALL=C xargs awk '
     note(current, line)
     next
   }
-  # What the crate exports.
+  # The exports of the crate.
   FILENAME ~ /\/lib\.rt$/ && /^pub use / { in_use = 1; text = "" }
   in_use {
     text = text " " $0

@@ -1,32 +1,33 @@
 #!/usr/bin/env bash
-# The program that comes with the repository, so that the first run needs no build:
+# Checks or makes the program of the repository in dist/, with which the first run needs no build:
 #
 #   dist/kyua     the linked program, for Linux on x86-64 with glibc 2.34 or later
-#   dist/built    the hash of the sources that it was built from (sources.sh), the kit, and the hash of the program itself
+#   dist/built    the hash of its sources (sources.sh), the kit, and the hash of the program
 #
-#   dist.sh fits            exits with 0 if that program was built from these sources and runs on this machine; else it says why not
-#   dist.sh check           compares it with the program that ./build.sh built here. Exits with 0 if they have the same bytes, 1 if
-#                           not, and 2, and says why, if nothing was compared: other sources, another kit, or no build here
-#   dist.sh check --gate    compares it with the program that the gate has just proved, and exits with 0 if it is of other sources or
-#                           of another kit; the last line is 'N passed, M failed'
-#   dist.sh make            builds the program, if it isn't built, and makes dist/ of it
+#   dist.sh fits            exits with 0 if that program was built from these sources and runs on this machine. Otherwise it prints the
+#                           reason and exits with 1
+#   dist.sh check           compares it with the program that ./build.sh built here. Exits with 0 if they have the same bytes, with 1 if
+#                           not. Exits with 2 and prints the reason if it compared nothing: other sources, another kit, or no build here
+#   dist.sh check --gate    compares it with the program that the gate has just proved. Exits with 0, too, if it is from other sources
+#                           or another kit. The last line is 'N passed, M failed'
+#   dist.sh make            builds the program, if necessary, and copies it to dist/
 set -eu -o pipefail
 top=$(cd "$(dirname "$0")/.." && pwd)
 . "$top/scripts/sources.sh"
 shipped=$top/dist/kyua
 record=$top/dist/built
 changed='dist/kyua has other bytes than the program that dist/built names.'
-# Has the hash of the sources for which it was said that dist/kyua is run.
+# Contains the hash of the sources for which `fits` printed that it runs dist/kyua.
 said=$top/dist/out/said
 
-# Whether this machine runs the program: kyua exits with 3 after its help.
+# Succeeds if this machine runs the program: kyua exits with 3 after its help.
 runs_here() {
   local status=0
   "$shipped" --help > /dev/null 2>&1 < /dev/null || status=$?
   [ $status = 3 ]
 }
 
-# misfit SOURCES: prints why dist/kyua can't be run for the sources of this hash, or nothing.
+# misfit SOURCES: prints why dist/kyua can't be used for the sources with this hash, or nothing.
 misfit() {
   if [ ! -x "$shipped" ] || [ ! -f "$record" ]; then
     echo 'There is no program in dist/.'
@@ -46,7 +47,7 @@ fits() {
   [ -z "$why" ] || { echo "$why" >&2; return 1; }
   grep -Fxq "$sources" "$said" 2>/dev/null ||
     echo 'Running dist/kyua, which was proved and built from these sources elsewhere. ./build.sh proves and builds it here.' >&2
-  # Where the checkout can't be written, this is said each time.
+  # In a read-only checkout, this message is printed each time.
   { mkdir -p "$top/dist/out" && echo "$sources" > "$said"; } 2>/dev/null || true
 }
 

@@ -1,11 +1,18 @@
 #!/usr/bin/env bash
-# Checks the pages, which are all files *.md. Each link leads to a file that exists, and to a heading that it has. ARCHITECTURE.md names
-# each page of docs/, and no other. Each path, function and definition in backticks, or in a row or an item of ARCHITECTURE.md, exists
-# in the tree. A path ends like a file of this tree or begins with a directory of it. A name has an underscore, or begins with a capital
-# and goes on in small letters. For each rule there are wrong texts that it must find. Then prose.py checks sentences, tables, terms,
-# comments and names.
-# Prints each place that breaks a rule, and each wrong text that is not found. The last line is 'N passed, M failed', over the rules and
-# these texts.
+# Checks the pages, which are all files *.md.
+#
+#   documents.sh
+#
+# The rules are:
+# - Each link leads to an existing file, and to an existing heading of it.
+# - ARCHITECTURE.md names each page of docs/, and no other page.
+# - Each path, function and definition in backquotes, or in a table row or a list item of ARCHITECTURE.md, exists in the tree. A path ends
+#   like a file of this tree or begins with one of its directories. A name has an underscore, or a capital followed by small letters.
+# - prose.py checks sentences, tables, terms, comments and names.
+# For each rule there are wrong texts that the rule must find.
+#
+# Prints each place that breaks a rule, and each wrong text that its rule doesn't find. The last line is 'N passed, M failed', over the
+# rules and these texts. Exits with 0 if M is 0, else with 1.
 set -eu -o pipefail
 top=$(cd "$(dirname "$0")/.." && pwd)
 . "$top/scripts/sources.sh"
@@ -17,8 +24,8 @@ passed=0
 failed=0
 find . \( -name out -o -name .git \) -prune -o -printf '%y %P\n' | LC_ALL=C sort -u > "$room/files"
 
-# Prints what the pages of a directory break, each of them with its path there: a line with the rule, a tab, the place, and what is
-# wrong. It prints names that must be looked for with the rule `word`.
+# Prints each place of some pages that breaks a rule. A line has the rule, a tab, the place and the text. It prints each name that must
+# exist in the tree with the rule `word`. The path of a page is relative to the directory.
 #   read_pages DIRECTORY PAGE..
 read_pages() {
   (cd "$1" && shift && LC_ALL=C awk '
@@ -43,7 +50,7 @@ read_pages() {
       gsub(/ /, "-", line)
       return line
     }
-    # Whether a path stands in the tree: whole, from the page, or as the end of another.
+    # Returns 1 if a path exists in the tree: relative to the root or to the page, or as the end of another path.
     function stands(path) {
       sub(/^\.\//, "", path)
       sub(/\/$/, "", path)
@@ -58,7 +65,7 @@ read_pages() {
         if (!stands(path)) tell("name", "there is no " path)
     }
     function from_top(path) { sub(/^\.\//, "", path); sub(/\/.*/, "", path); return path }
-    # Looks at what stands in backticks.
+    # Checks a text in backquotes.
     function look_for(text,   n, parts, i) {
       n = split(text, parts, " ")
       for (i = 1; i <= n; i++) look_for_path(parts[i])
@@ -74,7 +81,7 @@ read_pages() {
       path = substr($0, 3)
       there[path] = 1
       if (kind == "d") { folder[path] = 1; sub(/.*\//, "", path); folder[path] = 1; path = substr($0, 3) }
-      # The ends of a path stand for it, also without the suffix of a definition.
+      # The ends of a path represent it, also without the suffix of a definition.
       while (sub(/^[^\/]*\//, "", path)) {
         ends[path] = 1
         short = path
@@ -125,14 +132,14 @@ read_pages() {
     }' files="$room/files" "$room/files" "$@")
 }
 
-# Prints what pages break, with the names that stand nowhere in the tree but in pages.
+# Prints each place of some pages that breaks a rule, also each name that only pages contain.
 #   look DIRECTORY PAGE..
 look() {
   read_pages "$@" > "$room/read"
   sed -n 's/^word\t\([^\t]*\)\t.*/\1/p' "$room/read" | LC_ALL=C sort -u > "$room/wanted"
   : > "$room/known"
   if [ -s "$room/wanted" ]; then
-    # This script has the names of wrong pages, and dist/ has words that are no names.
+    # This script contains the names of wrong pages, and dist/ contains strings that are not names.
     sed -n '/\.md$/d; /^f dist\//d; /documents\.sh$/d; s/^f //p' "$room/files" | tr '\n' '\0' |
       LC_ALL=C xargs -0 grep -ahowFf "$room/wanted" > "$room/known" || true
     sed 's/.*\///; s/\.[a-z]*$//' "$room/files" >> "$room/known"
@@ -142,7 +149,7 @@ look() {
     "$room/missing" "$room/read"
 }
 
-# wrong RULE NAME: the text of standard input, in a page docs/NAME, breaks this rule.
+# wrong RULE NAME: adds standard input to a page docs/NAME, where it breaks this rule.
 wrong() {
   mkdir -p "$room/docs"
   { echo; cat; } > "$room/text"
@@ -177,7 +184,7 @@ while IFS= read -r due; do
     passed=$((passed + 1))
   else
     failed=$((failed + 1))
-    echo "documents.sh: a wrong text is not found: $due"
+    echo "documents.sh: the rule does not find a wrong text: $due"
   fi
 done < "$room/due"
 

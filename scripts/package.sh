@@ -1,10 +1,10 @@
 #!/usr/bin/env bash
-# Makes packages of what install.sh installs, for Linux on x86-64 with glibc 2.34 or later:
+# Makes packages of the files that install.sh installs, for Linux on x86-64 with glibc 2.34 or later:
 #
-#   package.sh DIRECTORY     in this directory, with VERSION from scripts/version.sh:
+#   package.sh DIRECTORY     writes into this directory, with VERSION from scripts/version.sh:
 #
-#   fermyzhal_VERSION_amd64.deb               for Debian, below /usr, if dpkg-deb is there. It conflicts with the package kyua. The
-#                                             program in it is stripped.
+#   fermyzhal_VERSION_amd64.deb               for Debian, below /usr, if dpkg-deb is installed. It conflicts with the package kyua. Its
+#                                             program is stripped.
 #   fermyzhal-VERSION-linux-x86_64.tar.gz     to be unpacked below /usr/local: tar -C /usr/local --strip-components=1 -xzf FILE
 #   SHA256SUMS                                their hashes
 #
@@ -36,7 +36,7 @@ export SOURCE_DATE_EPOCH
 room=$(mktemp -d)
 trap 'rm -rf "$room"' EXIT
 
-# stage ROOT PREFIX: installs all below a root, with what a package says of its licence.
+# stage ROOT PREFIX: installs all files below a root, with the copyright file of a package.
 stage() {
   DESTDIR=$1 "$top/install.sh" "$2" > "$room/log"
   mkdir -p "$1$2/share/doc/fermyzhal"
@@ -47,7 +47,7 @@ stage() {
   } > "$1$2/share/doc/fermyzhal/copyright"
 }
 
-# The tree that a file of tar has: always the same bytes for the same files.
+# pack DIRECTORY NAME: prints a compressed tarball of NAME in DIRECTORY, with the same bytes for the same files.
 pack() {
   tar --sort=name --owner=0 --group=0 --numeric-owner --mtime="@$SOURCE_DATE_EPOCH" -C "$1" -cf - "$2" | gzip -9n
 }
@@ -56,14 +56,14 @@ make_tarball() {
   local name=fermyzhal-$version-linux-x86_64
   stage "$room/tree" /usr/local
   mv "$room/tree/usr/local" "$room/$name"
-  # By its list install.sh replaces and removes what was unpacked. Of the directories that is what is this program's alone.
+  # install.sh replaces and removes the unpacked files by this list. It contains only the directories that belong to this program.
   (cd "$room/$name" && find . -type f -printf '%P\n' -o -type d -printf '%P/\n') | LC_ALL=C sort |
     grep -E '[^/]$|^(libexec/kyua-tools|share/kyua|share/doc/fermyzhal)/' > "$room/list"
   mv "$room/list" "$room/$name/share/kyua/installed"
   pack "$room" "$name" > "$into/$name.tar.gz"
 }
 
-# Prints the newest section of CHANGELOG.md, as Debian has it.
+# Prints the newest section of CHANGELOG.md in Debian's format.
 debian_changelog() {
   printf 'fermyzhal (%s) unstable; urgency=medium\n\n' "$version"
   sed -n "/^## $section /,/^## /s/^- /  * /p" "$top/CHANGELOG.md" | fold -s -w 76 | sed -e 's/^[^ ]/    &/' -e 's/ *$//'
@@ -73,9 +73,9 @@ debian_changelog() {
 make_deb() {
   local root=$room/deb size
   stage "$root" /usr
-  # A package has a list of its own.
+  # Debian keeps its own list of installed files.
   rm "$root/usr/share/kyua/installed"
-  # Debian's zsh looks for what packages bring in a place of its own.
+  # Debian's zsh reads the completions of packages from another directory.
   mv "$root/usr/share/zsh/site-functions" "$root/usr/share/zsh/vendor-completions"
   debian_changelog > "$root/usr/share/doc/fermyzhal/changelog"
   gzip -9n "$root"/usr/share/man/man[15]/* "$root/usr/share/doc/fermyzhal/changelog"

@@ -1,7 +1,7 @@
 #!/usr/bin/env bash
-# Prints the path of the program kyua: the one that this checkout built, if it was built from these sources; else the one in dist/, if it
-# was built from these sources and runs here; else the program is built. Standard error says what is done, and why. Exits with 2 if
-# the build fails.
+# Prints the path of the program kyua. That is the program that this checkout built, if it was built from the current sources. Otherwise
+# it is the program in dist/, if that was built from these sources and runs here. Otherwise the script builds the program.
+# Standard error gets what it does, and why. Exits with 0, or with 2 if the build fails or a tool is missing.
 set -eu -o pipefail
 top=$(cd "$(dirname "$0")/.." && pwd)
 . "$top/scripts/sources.sh"

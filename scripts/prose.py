@@ -3,17 +3,17 @@
 
 usage: prose.py
 
-Prints each place that breaks a rule, and each wrong text that a rule doesn't find. The last line is 'N passed, M failed', over the
-rules and these texts. It reads the files that git knows, and changes nothing.
+Prints each place that breaks a rule, and each wrong text that its rule doesn't find. The last line is 'N passed, M failed', over the
+rules and these texts. Exits with 0 if M is 0, else with 1. It reads only files that git tracks, and changes nothing.
 
 Rules:
   sentence  a sentence of a page has at most 30 words
   cell      a cell of a table of a page has at most 20 words
   term      pages and comments use the field's terms, not those of TERMS below
   verb      the comment of a function begins with a verb in the third person
-  type      a type, a trait or an enumeration has a name of its own in the repository
+  type      no two types, traits or enumerations of the repository have the same name
   test      the name of a test is subject_condition_result, without an article
-Text between backquotes or quotation marks is quoted, so the first four rules don't read it.
+The first four rules skip text between backquotes or quotation marks, since it is quoted.
 """
 import collections
 import os
@@ -86,7 +86,7 @@ def type_faults(sources):
     places = collections.defaultdict(list)
     for path, lines in sources.items():
         for number, line in enumerate(lines, 1):
-            # A type inside of an item belongs to a trait.
+            # A type inside an item belongs to a trait.
             found = TYPE.match(line)
             if found:
                 places[found[1]].append(f"{path}:{number}")
@@ -136,7 +136,7 @@ def main():
     broken = {rule for rule, _, _ in faults}
     missed = [rule for rule, text in WRONG if rule not in {found for found, _, _ in text()}]
     for rule in missed:
-        print(f"prose.py: a wrong text is not found: {rule}")
+        print(f"prose.py: the rule does not find a wrong text: {rule}")
     failed = len(broken) + len(missed)
     print(f"{len(rules) + len(WRONG) - failed} passed, {failed} failed")
     return failed != 0

@@ -1,11 +1,12 @@
 #!/usr/bin/env bash
-# Checks the rows of crates/kt_rows/data, with the program kt_rows that is proved and linked first; where none of the crates below
-# it is proved yet, that takes more than an hour.
+# Checks the examples of crates/kt_rows/data with the program kt_rows. First it proves and links kt_rows, which takes more than an hour
+# if none of the crates below it is proved yet.
 #
-#   rows.sh                 all rows, as the gate checks them: with the words of `args`, and compared with `stdout`
-#   rows.sh FILE.rows ..    these files alone
+#   rows.sh                 all examples, as the gate checks them: with the arguments in `args`, and compared with `stdout`
+#   rows.sh FILE.rows ..    only the examples of these files
 #
-# The program runs in a copy of that folder, as nobody where this script is called by root.
+# The program runs in a copy of that directory, and as nobody if root calls the script.
+# Exits with 0 if all examples pass, with 2 if there is no rt, with 3 on wrong arguments, else with another status.
 # rt is taken from PATH, else from the kit that RATTLE_KIT names.
 set -eu
 top=$(cd "$(dirname "$0")/.." && pwd)
@@ -19,9 +20,9 @@ for word; do
 done
 find_rt || exit 2
 [ -x "$crate/out/kt_rows" ] ||
-  echo 'rows.sh: kt_rows was not proved here yet. It is proved now, with the crates below it that were not, which may take an hour' >&2
+  echo 'rows.sh: kt_rows is not proved here yet. Proving it and the crates below it may take an hour' >&2
 mkdir -p "$crate/out"
-# With no words the program checks nothing: this proves and links it.
+# Without arguments the program checks nothing: this proves and links it.
 (cd "$crate" && rt run --jobs 1 >/dev/null 2>"$crate/out/build.log") || { tail -20 "$crate/out/build.log" >&2; exit 1; }
 room="$(mktemp -d)"
 trap 'rm -rf "$room"' EXIT
@@ -45,7 +46,7 @@ found="$(env -i PATH=/usr/local/bin:/usr/bin:/bin HOME="$room/data" TMPDIR="$roo
   timeout 120 "${drop[@]}" "$room/kt_rows" "${words[@]}")" || status=$?
 printf '%s\n' "$found"
 if [ -n "$wanted" ] && [ "$found" != "$wanted" ]; then
-  printf 'the file stdout has:\n%s\n' "$wanted"
+  printf 'expected, from the file stdout:\n%s\n' "$wanted"
   [ "$status" != 0 ] || status=1
 fi
 exit "$status"

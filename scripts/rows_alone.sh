@@ -1,20 +1,22 @@
 #!/usr/bin/env bash
-# Checks rows of crates/kt_rows/data each in a process of its own, with the program kt_rows that was proved and linked:
+# Checks each example of crates/kt_rows/data in a separate process, with the program kt_rows that was proved and linked:
 #
-# - each row that repeats something 4,000 times or more under a limit of one processor second, or of N below a comment `# At most N
-#   processor seconds.`: ten times what it takes. A body whose time grows with the square of what is large in the row needs more;
-# - each row with allocations refused, one in each copy of the process that goes on from there (refuse_each.c). Its answer must be the
-#   one that is due, or differ from it in what memory_answers.py allows there and in nothing else. Each allocation of a row below a
-#   comment `# Each allocation refused.` is tried, and of each other row twelve, or two of one that takes long, others whenever the
-#   sources change.
+# - An example that repeats something 4,000 times or more runs under a limit of one processor second. A comment `# At most N processor
+#   seconds.` before it sets another limit, ten times what the example takes. Quadratic time in the size of the input exceeds the limit.
+# - An example runs again with failed allocations: in each copy of the process one allocation fails (refuse_each.c). The output must be
+#   the expected output, or differ from it only as memory_answers.py permits. All allocations of an example after a comment
+#   `# Each allocation refused.` are tried. Of another example twelve are tried, or two if it takes long; the sources select which.
 #
-# With ROWS_PLACES=all each allocation of each row is tried, up to 4,000 of them. Rows with more are tried by the place in the code that
-# asks, not by number: of the allocations that have one list of return addresses the first four, the last, those whose number is a power
-# of two, and some four in between; if that would take more than ROWS_SECONDS processor seconds a row (600), or 5 without ROWS_PLACES, one in so many of these. ROWS_JOBS
-# is how many rows are tried at once.
+#   rows_alone.sh                 all examples
+#   rows_alone.sh FILE.rows ..    only the examples of these files
 #
-# KT_ROWS names another program. With FILE.rows .. as its words it checks these files alone. The last line is 'N passed, M failed',
-# over the rows.
+# With ROWS_PLACES=all each allocation of each example is tried, up to 4,000 of them. In an example with more, allocations are grouped by
+# their list of return addresses. Of a group it tries the first four, the last, those whose number is a power of two, and about four in
+# between. It tries only one in N of these if they would take more than ROWS_SECONDS processor seconds for an example (600), or 5 without
+# ROWS_PLACES. ROWS_JOBS is how many examples run at once. KT_ROWS names another program.
+#
+# Prints each example that fails. The last line is 'N passed, M failed', over the examples. Exits with 0 if M is 0, with 3 on an unknown
+# argument, else with 1.
 set -eu -o pipefail
 top=$(cd "$(dirname "$0")/.." && pwd)
 . "$top/scripts/sources.sh"
@@ -28,18 +30,18 @@ fail() {
   echo '0 passed, 1 failed'
   exit 1
 }
-[ -x "$program" ] || fail "there is no program $program; rows.sh makes it"
-command -v cc > /dev/null 2>&1 || fail 'there is no C compiler cc, without which no allocation is refused'
-command -v python3 > /dev/null 2>&1 || fail 'there is no python3, which rt needs too'
+[ -x "$program" ] || fail "there is no program $program; rows.sh builds it"
+command -v cc > /dev/null 2>&1 || fail 'there is no C compiler cc, which the failed allocations need'
+command -v python3 > /dev/null 2>&1 || fail 'there is no python3, which rt needs, too'
 room=$(mktemp -d)
 trap 'rm -rf "$room"' EXIT
 places=${ROWS_PLACES:-some}
-# Which allocations are tried: a number that the sources have.
+# Selects the allocations that are tried: a number that depends on the sources.
 first=$((16#$(hash_of_sources | cut -c 1-7)))
 export room program places data first
 
-# Puts each row of a file into a folder of its own, FILE.LINE, as that file, with its limit if it has one, and with a file `each` if
-# each of its allocations is tried.
+# Puts each example of a file into a separate directory FILE.LINE, as that file. The directory gets its limit, if it has one, and a file
+# `each` if all its allocations are tried.
 #   rows_of FILE
 rows_of() {
   awk -v file="$1" -v room="$room/rows" '
@@ -77,26 +79,26 @@ rows_of() {
     }' "$data/$1"
 }
 
-# Says what is wrong with the row of this folder.
+# Prints what is wrong with the example of this directory.
 complain() {
   echo "${PWD##*/}: $1"
   head -n 3 told | cut -c 1-1000
 }
 
-# Whether the answer to a row is due, and within its limit if it has one. Leaves in count how many allocations the row makes, and in
-# spent its processor time in milliseconds.
+# Succeeds if the output of an example is the expected output, within its limit if it has one. Sets count to its number of allocations,
+# and spent to its processor time in milliseconds.
 #   is_due FILE
 is_due() {
   local TIMEFORMAT='%3U %3S' took limit=unlimited chosen
   [ ! -e limit ] || limit=$(<limit)
   took=$( (ulimit -t "$limit" && time LD_PRELOAD=$room/refuse.so COUNTED=$PWD/count "$program" "$1" > /dev/null 2> told) 2>&1) ||
-    { if [ -s told ]; then complain 'another answer'; else complain 'not within its limit'; fi; return 1; }
+    { if [ -s told ]; then complain 'unexpected output'; else complain 'not within its limit'; fi; return 1; }
   took=${took//./}
   spent=$((10#${took% *} + 10#${took#* }))
   read -r count chosen < count
 }
 
-# Lets copies of a row go on, in each of which one of its allocations is refused, and keeps what they answer.
+# Continues copies of an example, in each of which one of its allocations fails, and records their outputs.
 #   without_memory FILE
 without_memory() {
   local step=1 from=1 chosen tried=$places seconds=${ROWS_SECONDS:-600}
@@ -105,19 +107,19 @@ without_memory() {
     LD_PRELOAD=$room/refuse.so COUNTED=$PWD/count BY_PLACE=1 "$program" "$1" > /dev/null 2> told
     read -r count chosen < count
     [ "$places" = all ] || seconds=5
-    # A copy goes half the way on the average.
+    # A copy runs half of the example on average.
     export PLACES=$PWD/count EVERY=$((chosen * (spent + 2) / 2000 / seconds + 1))
   elif [ "$tried" != all ]; then
     if [ "$spent" -gt 100 ]; then step=$((count / 2 + 1)); else step=$((count / 12 + 1)); fi
     from=$(((first + ${PWD##*.}) % step + 1))
   fi
   export ANSWERS=$PWD/answers COPY_SECONDS=$((spent / 100 + 10)) FROM=$from STEP=$step
-  LD_PRELOAD=$room/refuse.so "$program" --whole "$1" > /dev/null 2> told || { complain 'another answer'; return 1; }
-  [ -s answers ] || { complain 'there is no answer without memory'; return 1; }
+  LD_PRELOAD=$room/refuse.so "$program" --whole "$1" > /dev/null 2> told || { complain 'unexpected output'; return 1; }
+  [ -s answers ] || { complain 'there is no output of a failed allocation'; return 1; }
 }
 
-# Checks the row of a folder, and prints what is wrong with it, but for its answers without memory.
-#   check FOLDER
+# Checks the example of a directory, and prints what is wrong with it. Its outputs with failed allocations are checked later.
+#   check DIRECTORY
 check() {
   cd "$1"
   local count spent file=${1##*/}
@@ -128,9 +130,9 @@ check() {
 }
 export -f check is_due without_memory complain
 
-# Each of these answers must be called wrong: an invented reason, one of another interface, another exit, other totals, another case,
-# two faults, a case that is not recorded.
-#   wrong DUE GOT [LINE]: the answer to a row of one case, with this line more
+# memory_answers.py must reject each of these outputs: an invented reason, a reason of another interface, another exit status, other
+# totals, another case, two errors, a case that is not recorded.
+#   wrong EXPECTED FOUND [LINE]: the output of an example of one case, to which this line is added
 wrong() {
   local here=$room/judge/commands.rows.$(($(ls "$room/judge" | wc -l) + 1)) text
   mkdir -p "$here"
@@ -153,7 +155,7 @@ try_judge() {
   wrong "$due" 'a:main  ->  passed  [0.012s]\n\n1/1 passed (0 failed)\nkyua: E: out of memory\nexit 0'
   wrong 'stopped in attach 0 begin put 1 finish, then not' "stopped in attach 0 begin, and then the page is no beginning\nwhole\na:main  ->  $memory  [0.000s]\n\n0/1 passed (1 failed)\nrun 1 at 500, 1 cases\n0 a:main $memory, started 0, took 0\nfinished\ncut\na:main  ->  passed  [0.012s]\nkyua: E: results store failed\nrun 1 at 500, 1 cases\nunfinished" 'disk log'
   ls -d "$room"/judge/* | python3 "$top/scripts/memory_answers.py" | sed -n 's/^\(commands[^:]*\): .*/\1/p' | sort -u > "$room/found"
-  ls "$room/judge" | sort | comm -23 - "$room/found" | sed 's/.*/judge.&: memory_answers.py takes a wrong answer/'
+  ls "$room/judge" | sort | comm -23 - "$room/found" | sed 's/.*/judge.&: memory_answers.py accepts a wrong output/'
 }
 
 cc -O2 -shared -fPIC -o "$room/refuse.so" "$top/scripts/refuse_each.c" -ldl
@@ -171,6 +173,6 @@ find "$room/rows" -name answers -exec tail -qn 1 '{}' + > "$room/tried"
 find "$room/rows" -name count -exec head -qn 1 '{}' + |
   awk -v tried="$room/tried" '{ all += $1 } END {
     while ((getline line < tried) > 0) { split(line, words, " "); refused += words[1]; seconds += words[2] }
-    printf "%d of %d allocations were refused, which took %d processor seconds\n", refused, all, seconds }'
+    printf "%d of %d allocations failed in turn, which took %d processor seconds\n", refused, all, seconds }'
 echo "$passed passed, $failed failed"
 [ "$failed" = 0 ]

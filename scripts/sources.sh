@@ -1,9 +1,9 @@
-# What the scripts share: which files a build of the program kyua reads, what a program was built from, and how a script explains
-# itself. Scripts source this one; they have set $top, the checkout.
+# Functions that the scripts share: the files that a build of the program kyua reads, the sources of a built program, and the help of a
+# script. A script sets $top, the checkout, and sources this file.
 # shellcheck shell=bash disable=SC2046
 
-# explain WORD..: for a script that takes no arguments. With any it prints the comment that the script begins with, and exits: with
-# 0 if that was asked for by -h or --help.
+# explain ARGUMENT..: does nothing without arguments. Otherwise it prints the first comment of the script, and exits: with 0 if the
+# argument is -h or --help, else with 3.
 explain() {
   case $#:${1-} in
     0:*) ;;
@@ -12,7 +12,7 @@ explain() {
   esac
 }
 
-# Whether the commands that compare sources are there; else it says which is not.
+# Checks that the commands that compare sources are installed. Otherwise it prints each missing command and fails.
 find_tools() {
   local tool missing=0
   for tool in awk find xargs grep sha256sum; do
@@ -24,7 +24,7 @@ find_tools() {
   return $missing
 }
 
-# Puts rt on PATH, from the kit that RATTLE_KIT names if it isn't there. Fails, and says what is missing, if there is no rt.
+# Adds rt to PATH, from the kit that RATTLE_KIT names, if PATH doesn't have it. If there is no rt, it prints a message and fails.
 find_rt() {
   if command -v rt >/dev/null 2>&1; then return 0; fi
   if [ ! -x "${RATTLE_KIT-}/bin/rt" ]; then
@@ -35,11 +35,11 @@ find_rt() {
   export PATH
 }
 
-# The program that this checkout built, and the record of what it was built from.
+# The program that this checkout built, and the record of its sources.
 built=$top/crates/kyua/out/kyua
 record_of_built=$top/crates/kyua/out/built
 
-# Prints a crate and all that it stands on, the lowest first.
+# crates_up_to CRATE: prints a crate and the crates below it, the lowest first.
 crates_up_to() {
   awk -F: -v left="$1" '/^[a-z]/ { below[$1] = $2; name[NR] = $1 }
     END {
@@ -53,7 +53,7 @@ crates_up_to() {
     }' "$top/crates.txt"
 }
 
-# Prints the files and folders that a build reads, relative to the checkout. No name has a space.
+# Prints the files and directories that a build reads, relative to the checkout. No name has a space.
 places_of_sources() {
   local name part
   printf '%s\n' HANDLES crates.txt
@@ -78,12 +78,12 @@ make_record() {
   printf '%s\n' "sources $2" "kit $(rt --version)" "program $(hash_of "$1")"
 }
 
-# says RECORD NAME VALUE: whether a record has this line.
+# says RECORD NAME VALUE: succeeds if a record has this line.
 says() {
   grep -Fxq "$2 $3" "$1"
 }
 
-# Whether this checkout built a program from these sources.
+# Succeeds if this checkout built a program from the current sources.
 is_built() {
   [ -x "$built" ] && [ -f "$record_of_built" ] && says "$record_of_built" program "$(hash_of "$built")" &&
     says "$record_of_built" sources "$(hash_of_sources)"
