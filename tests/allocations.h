@@ -1,4 +1,4 @@
-// The allocations of a program, for a preload that has is_refused, which says of each whether it is refused, and its own malloc.
+// Wraps the allocations of a program, for a preload that defines malloc and is_refused. An allocation fails if is_refused returns 1.
 #include <dlfcn.h>
 #include <errno.h>
 #include <stddef.h>
@@ -11,7 +11,7 @@ static int (*real_posix_memalign)(void **, size_t, size_t);
 
 static int is_refused(void);
 
-// What the loader takes by calloc before there is a real one.
+// The memory that the loader allocates by calloc before the real calloc is known.
 static char room[65536];
 static size_t taken;
 

@@ -1,6 +1,6 @@
-# The part of an ATF test program (atf-test-program(1)) that the programs of this suite need, over the words of lib.sh:
+# The part of the ATF interface (atf-test-program(1)) that the programs of this suite need, with the functions of lib.sh:
 #
-#   -l                               prints the cases, each with what it declares
+#   -l                               prints the cases, each with its properties
 #   -rFILE -sDIRECTORY NAME          runs a case, whose result goes into FILE
 #   -sDIRECTORY NAME:cleanup         cleans up after a case
 #   -vNAME=VALUE                     is a variable of the test suite
@@ -19,7 +19,7 @@ for word; do
     esac
 done
 
-# test_case NAME [KEY: VALUE]..: declares a case, which the function NAME runs, and what it says of itself.
+# test_case NAME [KEY: VALUE]..: declares a case with these properties, which the function NAME runs.
 test_case() {
     listing="$listing
 
@@ -31,24 +31,24 @@ $line"
     done
 }
 
-# row NAME WORD..: declares a case, which the function that `atf` names runs with these words.
+# row NAME ARGUMENT..: declares a case, which the function that `atf` names runs with these arguments.
 row() {
     test_case "$1"
     if [ "$1" = "$asked" ]; then
         shift
-        # The words stand where the shell keeps them apart.
+        # Separate variables keep the arguments apart.
         word1=${1-} word2=${2-} word3=${3-} word4=${4-}
     fi
 }
 
-# skip WORD..: ends the case, which is skipped for this reason.
+# skip REASON..: ends the case as skipped, with this reason.
 skip() {
     trap - EXIT
     echo "skipped: $*" > "$result"
     exit 0
 }
 
-# conclude STATUS: writes the result of a case that ended so.
+# conclude STATUS: writes the result of a case that ended with this status, and exits.
 conclude() {
     trap - EXIT
     if [ "$1" = 0 ]; then
@@ -59,7 +59,7 @@ conclude() {
     exit 1
 }
 
-# atf [FUNCTION]: does what the command line asks for. With FUNCTION it runs the rows.
+# atf [FUNCTION]: runs the request of the command line. With FUNCTION, it runs the cases that `row` declared.
 atf() {
     case $asked in
         -l) printf '%s\n' "$listing"; exit 0 ;;

@@ -1,11 +1,12 @@
-# The verdict of a case that the shell saw end, by the tables of docs/formats/verdicts.md; run.sh compares it with kyua's.
+# Computes the verdict of a case from its status in the shell, by the tables of docs/formats/verdicts.md. run.sh sources this file and
+# compares this verdict with kyua's.
 
-# ending STATUS: how a program ended, by the status that the shell tells.
+# ending STATUS: prints how a program ended, by its status in the shell.
 ending() {
     if [ "$1" -gt 128 ] && [ "$1" -le 192 ]; then echo "received signal $(($1 - 128))"; else echo "exited with code $1"; fi
 }
 
-# plain_verdict STATUS
+# plain_verdict STATUS: prints the verdict of a plain program.
 plain_verdict() {
     case $1 in
         limit) echo 'broken: Test case timed out' ;;
@@ -16,7 +17,7 @@ plain_verdict() {
     esac
 }
 
-# tap_verdict STATUS FILE: the stream is in FILE.
+# tap_verdict STATUS FILE: prints the verdict of a TAP program, whose output is FILE.
 tap_verdict() {
     case $1 in
         limit | 126 | 127 | 129 | 1[3-8][0-9] | 19[0-2]) plain_verdict "$1"; return ;;
@@ -50,7 +51,7 @@ tap_verdict() {
         }' "$2"
 }
 
-# claim_fault FILE: what is wrong with a result file, or nothing.
+# claim_fault FILE: prints the error of a result file, or nothing.
 claim_fault() {
     size=$(wc -c < "$1")
     if [ "$size" -gt 65536 ]; then echo 'too long'
@@ -81,7 +82,7 @@ claim_fault() {
     fi
 }
 
-# atf_verdict STATUS FILE: the result file is FILE.
+# atf_verdict STATUS FILE: prints the verdict of the body of an ATF case, whose result file is FILE.
 atf_verdict() {
     claim=
     [ ! -f "$2" ] || claim=$(cat "$2")
@@ -122,7 +123,7 @@ atf_verdict() {
     esac
 }
 
-# after_cleanup VERDICT STATUS: the verdict where a cleanup ended so.
+# after_cleanup VERDICT STATUS: prints the verdict of a case whose cleanup ended with this status.
 after_cleanup() {
     case $1:$2 in
         failed* | broken* | *:0) echo "$1" ;;
@@ -131,7 +132,7 @@ after_cleanup() {
     esac
 }
 
-# missing WORD..: the first of these programs that no directory of PATH has, or nothing.
+# missing PROGRAM..: prints the first of these programs that no directory of PATH contains, or nothing.
 missing() {
     for word; do
         [ -n "$(command -v "$word")" ] || { echo "$word"; return; }

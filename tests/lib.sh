@@ -1,20 +1,20 @@
-# What each program of this suite begins with. KYUA names the runner that is tested; else scripts/program.sh finds it.
-# A check that doesn't hold ends the program, and what was wanted and found is on standard error.
+# Functions for the programs of this suite, which source this file first. KYUA names the runner that is tested; otherwise
+# scripts/program.sh finds it. A failed check ends the program, and prints the expected and the found text on standard error.
 set -eu
 suite=$(cd "$(dirname "$0")" && pwd)
 kyua=${KYUA:-$("$suite/../scripts/program.sh")}
 all=passed,skipped,xfail,broken,failed
 why='a command failed'
 
-# fail WORD..: ends the program, which fails with these words.
+# fail TEXT..: ends the program as failed, with this text.
 fail() {
     why=$*
     echo "$why" >&2
     exit 1
 }
 
-# runs STATUS WORD..: runs kyua with these words, its output in the files out and err. It must exit with STATUS. Its input is a
-# text, which no case may read.
+# runs STATUS ARGUMENT..: runs kyua with these arguments, and writes its output to the files out and err. It must exit with STATUS. Its
+# standard input is a text, which no case may read.
 runs() {
     wanted=$1
     shift
@@ -23,12 +23,12 @@ runs() {
     [ "$status" = "$wanted" ] || { cat out err >&2; fail "exit $status, not $wanted: kyua $*"; }
 }
 
-# same FILE FILE: the two files have the same bytes.
+# same EXPECTED FOUND: checks that the two files have the same bytes.
 same() {
-    cmp "$1" "$2" >&2 || { echo "wanted:"; cat "$1"; echo "found:"; cat "$2"; fail "another text"; } >&2
+    cmp "$1" "$2" >&2 || { echo "expected:"; cat "$1"; echo "found:"; cat "$2"; fail "the text differs"; } >&2
 }
 
-# prints FORMAT: the last run printed this text, a format of printf, and nothing on standard error.
+# prints FORMAT: checks that the last run printed this text, a format of printf, and nothing on standard error.
 prints() {
     # shellcheck disable=SC2059
     printf -- "$1" > wanted
@@ -36,19 +36,19 @@ prints() {
     [ ! -s err ] || { cat err >&2; fail 'something on standard error'; }
 }
 
-# without_times: the time of each case in the last output is left out.
+# without_times: removes the time of each case from the last output.
 without_times() {
     sed -e 's/  \[[0-9]*\.[0-9][0-9][0-9]s\]$//' out > timeless
     mv timeless out
 }
 
-# records FORMAT: the last run printed this text, where the time of each case is left out.
+# records FORMAT: checks that the last run printed this text, without the time of each case.
 records() {
     without_times
     prints "$1"
 }
 
-# complains FORMAT: the last run printed this text on standard error, and nothing on standard output.
+# complains FORMAT: checks that the last run printed this text on standard error, and nothing on standard output.
 complains() {
     # shellcheck disable=SC2059
     printf -- "$1" > wanted
@@ -56,7 +56,7 @@ complains() {
     [ ! -s out ] || { cat out >&2; fail 'something on standard output'; }
 }
 
-# tells STATUS FORMAT WORD..: kyua with these words exits with STATUS and prints this text.
+# tells STATUS FORMAT ARGUMENT..: checks that kyua with these arguments exits with STATUS and prints this text.
 tells() {
     exit_due=$1
     text_due=$2
@@ -65,7 +65,7 @@ tells() {
     prints "$text_due"
 }
 
-# lists FORMAT WORD..: a listing with these words prints this text.
+# lists FORMAT ARGUMENT..: checks that a listing with these arguments prints this text.
 lists() {
     text=$1
     shift
@@ -73,7 +73,8 @@ lists() {
     prints "$text"
 }
 
-# tests STATUS FORMAT WORD..: a run with these words exits with STATUS and prints this text, but for the time of each case.
+# tests STATUS FORMAT ARGUMENT..: checks that a run with these arguments exits with STATUS and prints this text, without the time of each
+# case.
 tests() {
     text=$2
     status=$1
@@ -82,7 +83,7 @@ tests() {
     records "$text"
 }
 
-# ends_as RESULT NAME: a run of the Kyuafile, which has one case, gives it this result.
+# ends_as RESULT NAME: checks that a run of the Kyuafile, which has one case, records this result.
 ends_as() {
     case ${1%%:*} in
         passed | skipped | expected_failure) status=0 totals='1/1 passed (0 failed)' ;;
@@ -94,13 +95,13 @@ ends_as() {
     same wanted out
 }
 
-# program NAME: makes a program of standard input, a script of sh.
+# program NAME: creates a program from standard input, a script of sh.
 program() {
     { echo '#!/bin/sh'; cat; } > "$1"
     chmod +x "$1"
 }
 
-# tap_program NAME STREAM: makes a program that prints this format and goes on with standard input, a script of sh.
+# tap_program NAME STREAM: creates a program that prints this format, and then runs standard input, a script of sh.
 tap_program() {
     # shellcheck disable=SC2059
     printf "$2" > "$1.stream"
@@ -108,11 +109,11 @@ tap_program() {
     { echo 'cat "$0.stream"'; cat; } | program "$1"
 }
 
-# The beginning of a list of ATF cases: its first line and an empty one.
+# The start of a list of ATF cases: its first line and an empty line.
 header='Content-Type: application/X-atf-tp; version="1"\n\n'
 
-# atf_program NAME LIST: makes an ATF program of standard input, a script of sh that finds the name of the case in name, its
-# result file in result, and its own directory in source. It lists what the format LIST prints after the header.
+# atf_program NAME LIST: creates an ATF program from standard input, a script of sh. In it name is the name of the case, result its result
+# file, and source its directory. The program lists the header and the output of the format LIST.
 atf_program() {
     # shellcheck disable=SC2059
     printf "$header$2" > "$1.list"
@@ -132,12 +133,12 @@ P
     } | program "$1"
 }
 
-# tree LINE..: makes a Kyuafile of these lines, after the two that name the suite s.
+# tree LINE..: creates a Kyuafile of these lines, after two lines that name the suite s.
 tree() {
     printf '%s\n' 'syntax(2)' "test_suite('s')" "$@" > Kyuafile
 }
 
-# kyuafile NAME..: makes a Kyuafile of these plain programs.
+# kyuafile NAME..: creates a Kyuafile of these plain programs.
 kyuafile() {
     tree
     for name; do
@@ -145,28 +146,28 @@ kyuafile() {
     done
 }
 
-# one_program: makes a Kyuafile of one program, good, which passes.
+# one_program: creates a Kyuafile of one program, good, which passes.
 one_program() {
     echo 'exit 0' | program good
     kyuafile good
 }
 
-# without_spaces: goes on in a directory whose path has no space, which run.sh has made, since atf-sh can't do with one.
+# without_spaces: changes to a new directory whose path has no space, since atf-sh fails in a path with spaces.
 without_spaces() {
     [ -z "${SUITE_ROOM-}" ] || cd "$(mktemp -d "${SUITE_ROOM%/*}/plain.XXXXXX")" || fail 'no other directory'
 }
 
-# waits_for COMMAND WORD..: goes on when this command succeeds, and fails after 10 seconds.
+# waits_for COMMAND ARGUMENT..: waits until this command succeeds, and fails after 10 seconds.
 waits_for() {
     turns=0
     until "$@"; do
         turns=$((turns + 1))
-        [ $turns -lt 200 ] || fail "it never came: $*"
+        [ $turns -lt 200 ] || fail "it never succeeded: $*"
         sleep 0.05
     done
 }
 
-# has_lines COUNT FILE: the file has so many lines or more.
+# has_lines COUNT FILE: succeeds if the file has at least COUNT lines.
 has_lines() {
     [ "$(wc -l < "$2")" -ge "$1" ]
 }

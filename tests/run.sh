@@ -1,9 +1,13 @@
 #!/bin/sh
-# Runs the programs of endings/ and this suite with kyua, and then each case of each program by hand, and compares what kyua
-# recorded with how the case ended, by the tables of by_hand.sh: a runner that records passes of its own can't pass. The last lines
-# say which cases of the suite were skipped and why, how many passed, with these, and how many failed or were recorded wrongly.
-# KYUA names the program; else scripts/program.sh finds or builds it. WIDTH is how many cases run at once, 4 if it isn't set. Of
-# the allocations that are refused in turn every eighth is tried, or each SUITE_STEPth.
+# Runs the programs of endings/ and this suite with kyua. Then it runs each case without kyua, and compares the recorded result with the
+# ending of the case, by the tables of by_hand.sh. So a runner that records passes without running the cases can't pass.
+#
+#   run.sh
+#
+# Prints the lines of kyua, and which cases of the suite were skipped and why. Each failure is on standard error. The last line is
+# 'N passed, M failed', over the cases; skipped cases count as passed. Exits with 0 if M is 0, else with 1.
+# KYUA names the program; otherwise scripts/program.sh finds or builds it. WIDTH is how many cases run at once, 4 if it isn't set. One in
+# SUITE_STEP allocations, 8 if it isn't set, is made to fail.
 set -eu
 suite=$(cd "$(dirname "$0")" && pwd)
 [ $# = 0 ] || { sed -n '2,/^set/s/^# //p' "$0"; exit; }
@@ -14,7 +18,7 @@ export KYUA
 WIDTH=${WIDTH:-4}
 SUITE_STEP=${SUITE_STEP:-8}
 export SUITE_STEP
-# The results of each case are forced to the disk, which takes most of the time, so all lies in memory where there is enough of it.
+# kyua syncs the results of each case, which takes most of the time. So all files are in memory if there is enough of it.
 top=
 if [ -z "${TMPDIR-}" ]; then top=$(mktemp -d /dev/shm/kyua.XXXXXX 2> /dev/null) || top=; fi
 if [ -n "$top" ]; then
@@ -27,27 +31,27 @@ if [ -n "$top" ]; then
     fi
 fi
 [ -n "$top" ] || top=$(mktemp -d)
-# All paths below have a space in them.
+# All paths below have a space.
 trap 'chmod -R u+rwX "$top" 2> /dev/null; rm -rf "$top"' EXIT
 trap 'exit 1' HUP INT TERM
 room="$top/a room"
 mkdir "$room"
-# The environment of every process of this run has it.
+# The environment of every process of this run contains it.
 SUITE_ROOM=$room
 export SUITE_ROOM
 passed=0
 failed=0
-# No core dump makes a signal another result. (dash and bash have this limit, though POSIX doesn't name it.)
+# Without core dumps, a signal always gives the same result. dash and bash have this limit, although POSIX doesn't name it.
 # shellcheck disable=SC3045
 ulimit -c 0
 
-# wrong WORD..: counts a failure and says what it is.
+# wrong TEXT..: counts a failure and prints it.
 wrong() {
     failed=$((failed + 1))
     echo "tests: $*" >&2
 }
 
-# programs FOLDER: the interface, the name, the limit in seconds and the required programs of each program that is registered.
+# programs DIRECTORY: prints a line for each registered program: its interface, name, timeout in seconds and required programs.
 programs() {
     sed -n "s/^\\([a-z]*\\)_test_program{name='\\([^']*\\)'\\(.*\\)}\$/\\1 \\2 \\3/p" "$1/Kyuafile" | while read -r kind name rest; do
         limit=$(echo "$rest" | sed -n 's/.*timeout=\([0-9]*\).*/\1/p')
@@ -56,14 +60,14 @@ programs() {
     done
 }
 
-# runs_by_hand LIMIT PROGRAM WORD..: runs a program as kyua runs it, in the directory $hand, and leaves in status its status for
-# the shell, or `limit`.
+# runs_by_hand LIMIT PROGRAM ARGUMENT..: runs a program in the directory $hand, as kyua would. Sets status to its exit status in the
+# shell, or to `limit`.
 runs_by_hand() {
     limit=$1
     shift
     status=0
     begun=$(date +%s%N)
-    # What the shell itself says of a child that dies of a signal is dropped.
+    # The shell's message about a child that dies by a signal is dropped.
     {
         (
             cd "$hand/work" || exit 125
@@ -78,14 +82,14 @@ runs_by_hand() {
     if [ $status = 137 ] && [ $(($(date +%s%N) - begun)) -ge "${limit}000000000" ]; then status=limit; fi
 }
 
-# declares PROGRAM CASE KEY: the value that the program's list gives the case for this key.
+# declares PROGRAM CASE KEY: prints the value of this key for a case in the program's list.
 declares() {
     awk -v name="$2" -v key="$3: " '
         /^ident: / { here = substr($0, 8) == name }
         here && index($0, key) == 1 { print substr($0, length(key) + 1) }' "$room/lists/$1"
 }
 
-# by_hand FOLDER INTERFACE PROGRAM CASE LIMIT NEEDS: runs a case, and leaves its result in due.
+# by_hand DIRECTORY INTERFACE PROGRAM CASE LIMIT NEEDS: runs a case, and sets due to the expected result.
 by_hand() {
     chmod -R u+rwX "$hand" 2> /dev/null || true
     rm -rf "$hand"
@@ -98,7 +102,7 @@ by_hand() {
         own=$(declares "$3" "$4" require.progs)
         needs=${own:-$6}
     fi
-    # The words of a property have spaces between them.
+    # Spaces separate the elements of a property.
     # shellcheck disable=SC2086
     needed=$(missing $needs)
     if [ -n "$needed" ]; then
@@ -121,7 +125,7 @@ by_hand() {
     esac
 }
 
-# lists_by_hand FOLDER: a line INTERFACE PROGRAM LIMIT CASE|NEEDS for each case, in order.
+# lists_by_hand DIRECTORY: prints a line INTERFACE PROGRAM LIMIT CASE|NEEDS for each case, in order.
 lists_by_hand() {
     mkdir -p "$room/lists"
     programs "$1" | while read -r kind name limit needs; do
@@ -136,26 +140,26 @@ lists_by_hand() {
     done
 }
 
-# compare FOLDER STATUS: runs a folder's programs with kyua, which must exit with STATUS, and each of its cases by hand.
+# compare DIRECTORY STATUS: runs the programs of a directory with kyua, which must exit with STATUS, and each of its cases without kyua.
 compare() {
     folder=$1
     mkdir -p "$room/work directories"
     lists_by_hand "$folder" > "$room/cases"
     sed 's/^[a-z]* \([^ ]*\) [0-9]* \(.*\)|.*/\1:\2/' "$room/cases" > "$room/due"
     "$KYUA" list -k "$folder/Kyuafile" --work="$room/work directories" > "$room/listed" || wrong "list exits with $?"
-    cmp -s "$room/due" "$room/listed" || wrong "$folder: the listing is another"
+    cmp -s "$room/due" "$room/listed" || wrong "$folder: list prints other cases"
     status=0
     "$KYUA" -v parallelism="$WIDTH" test -k "$folder/Kyuafile" -r "$room/x.db" --work="$room/work directories" > "$room/printed" ||
         status=$?
-    # The lines of a run whose cases must fail would be taken for those of a suite that failed.
+    # If the cases of a run must fail, its lines would look like failures of the suite.
     [ "$2" = 1 ] || cat "$room/printed"
     [ $status = "$2" ] || wrong "$folder: kyua test exits with $status, not $2"
-    [ -z "$(ls -A "$room/work directories")" ] || wrong "$folder: work directories are left"
+    [ -z "$(ls -A "$room/work directories")" ] || wrong "$folder: work directories remain"
     "$KYUA" report -r "$room/x.db" --results-filter=passed,skipped,xfail,broken,failed > "$room/report" ||
         wrong "$folder: report exits with $?"
     sed -n 's/  \[[0-9]*\.[0-9]*s\]$//p' "$room/report" > "$room/recorded"
-    [ "$(wc -l < "$room/recorded")" = "$(wc -l < "$room/cases")" ] || wrong "$folder: another number of entries"
-    # By hand twice as many cases run at once as kyua ran: most of them wait.
+    [ "$(wc -l < "$room/recorded")" = "$(wc -l < "$room/cases")" ] || wrong "$folder: the number of entries is not the number of cases"
+    # Twice as many cases run at once as under kyua, since most of them wait.
     rm -rf "$room/taken" "$room"/compared.*
     mkdir "$room/taken"
     for hand in $(seq $((WIDTH * 2))); do compare_some "$folder" "$2" "$room/hand $hand" > "$room/compared.$hand" & done
@@ -165,14 +169,14 @@ compare() {
     [ "$(cat "$room"/compared.* | wc -l)" = "$(wc -l < "$room/cases")" ] || wrong "$folder: cases were not compared"
 }
 
-# compare_some FOLDER STATUS HAND: takes cases that no other took, until there are none, and prints for each whether it passed, by
-# hand in the directory HAND and by kyua, or failed.
+# compare_some DIRECTORY STATUS HAND: takes cases that no other process took, until there are none, and runs them in the directory HAND.
+# Prints `passed` for each whose result kyua recorded and that passed, else `failed`.
 compare_some() {
     hand=$3
     number=0
     while IFS= read -r line; do
         number=$((number + 1))
-        # Of those that try one makes the file.
+        # Only one process can create the file.
         (set -C; : > "$room/taken/$number") 2> /dev/null || continue
         needs=${line##*|}
         line=${line%|*}
@@ -184,12 +188,12 @@ compare_some() {
     done < "$room/cases"
 }
 
-# compare_case FOLDER INTERFACE PROGRAM CASE LIMIT NEEDS STATUS: runs a case by hand and compares. Where kyua must exit with 0,
-# each case must pass or be skipped.
+# compare_case DIRECTORY INTERFACE PROGRAM CASE LIMIT NEEDS STATUS: runs a case and compares its result. If kyua must exit with 0, each
+# case must pass or be skipped.
 compare_case() {
     by_hand "$1" "$2" "$3" "$4" "$5" "$6"
     if ! grep -Fxq -e "$3:$4  ->  $due" "$room/recorded"; then
-        echo "tests: $3:$4 is by hand '$due', and recorded is: $(grep -F -e "$3:$4  ->  " "$room/recorded" || echo nothing)"
+        echo "tests: $3:$4 ended as '$due', but kyua recorded: $(grep -F -e "$3:$4  ->  " "$room/recorded" || echo nothing)"
     else
         case $7:${due%%:*} in
             0:failed | 0:broken | 0:expected_failure) echo "tests: $3:$4: $due" ;;
@@ -200,7 +204,7 @@ compare_case() {
     return 1
 }
 
-# Each program is registered, and each that is registered is there.
+# Each program is registered, and each registered program exists.
 for folder in "$suite" "$suite/endings"; do
     programs "$folder" | cut -d ' ' -f 2 > "$room/names"
     for file in "$folder"/*; do
@@ -218,7 +222,7 @@ compare "$room/a checkout" 1
 [ $failed != 0 ] || echo "endings/: $passed programs that pass, fail, crash and hang were recorded as they ended"
 compare "$suite" 0
 sed -n 's/^.*  ->  skipped: //p' "$room/recorded" > "$room/skipped"
-# What the cases started is over, too, two seconds later at the latest.
+# All processes that the cases started have ended, at most two seconds later.
 if [ -r /proc/self/environ ]; then
     for _ in 1 2 3 4 5 6 7 8 9 10; do
         sleep 0.2
@@ -228,7 +232,7 @@ if [ -r /proc/self/environ ]; then
     done
     for process in $left; do
         words=$({ tr "\0" " " < "${process%/environ}/cmdline"; } 2> /dev/null || true)
-        [ -z "$words" ] || wrong "a process is left: $words"
+        [ -z "$words" ] || wrong "a process still runs: $words"
     done
 fi
 if [ -s "$room/skipped" ]; then
@@ -238,6 +242,6 @@ fi
 for tool in busybox fish gawk junitparser lintian original-awk tidy zsh; do
     [ -n "$(command -v $tool)" ] || left_out="${left_out-}, $tool"
 done
-[ -z "${left_out-}" ] || echo "Single tests were left out, without: ${left_out#, }"
+[ -z "${left_out-}" ] || echo "Some tests were skipped, since these tools are missing: ${left_out#, }"
 echo "$passed passed, $failed failed"
 [ $failed = 0 ]

@@ -1,10 +1,10 @@
-# What the programs begin with that try the commands of kyua-tools, after lib.sh. The commands call the runner that is tested.
-# RECIPES_SHELL and RECIPES_AWK are a shell and an awk for all commands; without them the commands use the system's.
+# Functions for the programs that test the commands of kyua-tools. They source this file after lib.sh. The commands call the runner that
+# is tested. RECIPES_SHELL and RECIPES_AWK are a shell and an awk for all commands, those of the system if they aren't set.
 originals=$(realpath "$suite/../tools")
 tools=$originals
 here=$PWD
 mkdir bin work
-# What a runner that is killed leaves must lie here.
+# The files that a killed runner leaves must be in this directory.
 program bin/kyua <<P
 for word; do
     shift
@@ -17,14 +17,14 @@ PATH=$here/bin:$PATH
 KYUA=$here/bin/kyua
 export PATH KYUA
 
-# pairs: a line SHELL:AWK for each pair that is tried and installed.
+# pairs: prints a line SHELL:AWK for each installed pair that is tested.
 pairs() {
     for pair in dash:mawk bash:gawk dash:'gawk --posix' 'busybox sh:busybox awk' dash:original-awk mksh:mawk yash:mawk ksh:mawk; do
         awk=${pair#*:}
         [ -z "$(command -v "${pair%%[ :]*}")" ] || [ -z "$(command -v "${awk%% *}")" ] || printf '%s\n' "$pair"
     done
 }
-# with_shell SHELL AWK: tools names a copy of the commands, which this shell runs, as it runs what they write, with this awk.
+# with_shell SHELL AWK: sets tools to a copy of the commands. This shell runs the commands and the scripts that they write, with this awk.
 with_shell() {
     rm -rf "$here/shell"
     mkdir "$here/shell"
@@ -38,11 +38,12 @@ with_shell() {
 }
 [ -z "${RECIPES_SHELL-}" ] || with_shell "$RECIPES_SHELL" "${RECIPES_AWK:-mawk}"
 
-# afresh: goes on in an empty directory.
+# afresh: changes to an empty directory.
 afresh() {
     cd "$(mktemp -d "$here/a tree.XXXXXX")"
 }
-# comes_to STATUS COMMAND ARGUMENT..: a command with these arguments exits with STATUS, its output in the files told and err.
+# comes_to STATUS COMMAND ARGUMENT..: checks that a command with these arguments exits with STATUS. Its output is in the files told and
+# err.
 comes_to() {
     due=$1
     script=$2
@@ -51,21 +52,21 @@ comes_to() {
     "$tools/$script" "$@" > told 2> err < /dev/null || status=$?
     [ $status = "$due" ] || { cat told err >&2; fail "exit $status, not $due: $script $*"; }
 }
-# says FORMAT: the last command printed this text, in which each moment is MOMENT and each number of seconds TIME.
+# says FORMAT: checks that the last command printed this text, in which each timestamp is MOMENT and each number of seconds TIME.
 says() {
     # shellcheck disable=SC2059
     printf -- "$1" > wanted
     sed -e 's/20[0-9]*-[0-9]*-[0-9T:.]*Z/MOMENT/g' -e 's/[0-9]*\.[0-9][0-9][0-9]/TIME/g' told > found
     same wanted found
 }
-# has TEXT FILE..: one of these files has this text.
+# has TEXT FILE..: checks that one of these files contains this text.
 has() {
     text=$1
     shift
-    cat "$@" | grep -Fq -e "$text" || { cat "$@" >&2; fail "it does not say: $text"; }
+    cat "$@" | grep -Fq -e "$text" || { cat "$@" >&2; fail "it does not print: $text"; }
 }
-# plays NAME STRIP: makes a TAP program whose result is the first letter of the strip when it is first called, and so on: . passed,
-# s skipped, F failed, B broken, z passed after more than a second; k kills the runner, and w waits for the file go.
+# plays NAME STRIP: creates a TAP program. Its first call has the result of the first letter of the strip, and so on: . passed, s skipped,
+# F failed, B broken, z passed after more than a second. k kills the runner, and w waits for the file go.
 plays() {
     printf '%s\n' "$2" > "$1.strip"
     program "$1" <<'P'
@@ -84,17 +85,17 @@ echo '1..1'
 echo ok
 P
 }
-# registers NAME..: the Kyuafile has these programs.
+# registers NAME..: creates a Kyuafile of these TAP programs.
 registers() {
     tree
     for name; do echo "tap_test_program{name='$name'}" >> Kyuafile; done
 }
-# turns COUNT: so many runs of the tree, one case after the other.
+# turns COUNT: runs the tree COUNT times, one case after the other.
 turns() {
     for turn in $(seq "$1"); do kyua test > "turn.$turn" || :; done
 }
-# plays_many COUNT: two runs of so many cases, which are skipped in the first, and can't be started in the second, since their program
-# removes itself once it has listed them.
+# plays_many COUNT: runs COUNT cases twice. The first run skips them. The second run can't start them, since their program removes itself
+# after it lists them.
 plays_many() {
     { printf "$header"; seq "$1" | sed 's/.*/ident: &\n/'; } > lists.list
     printf 'cat "$0.list"; rm "$0"\n' | program lists
@@ -105,11 +106,11 @@ plays_many() {
     tree "atf_test_program{name='lists'}"
     ! kyua -v parallelism=8 test > log || fail 'no case is bad'
 }
-# each_pair COMMAND [WORD]..: this command goes through with each pair of a shell and an awk.
+# each_pair COMMAND [ARGUMENT]..: checks that this command succeeds with each pair of a shell and an awk.
 each_pair() {
     [ -z "${RECIPES_SHELL-}" ] || { "$@"; return; }
     pairs > "$here/pairs"
     while IFS=: read -r shell awk; do
-        (with_shell "$shell" "$awk"; "$@") < /dev/null || fail "another result by $shell and $awk"
+        (with_shell "$shell" "$awk"; "$@") < /dev/null || fail "it failed with $shell and $awk"
     done < "$here/pairs"
 }

@@ -1,12 +1,12 @@
-# What each TAP program of this suite begins with, over the words of lib.sh: each `holds` and each `beside` is a test, and `plan` ends
-# the program.
+# Functions for the TAP programs of this suite, with the functions of lib.sh. Each `holds` and each `beside` is a test, and `plan` ends the
+# program.
 . "$(dirname "$0")/lib.sh"
 count=0
 bad=0
 apart=0
 
-# holds NAME COMMAND [WORD]..: a test of this name, which is ok if the command goes through. It runs in a shell of its own, so a
-# test that fails ends no other.
+# holds NAME COMMAND [ARGUMENT]..: a test with this name, which is ok if the command succeeds. It runs in a subshell, so a failed test
+# doesn't end the others.
 holds() {
     name=$1
     shift
@@ -19,12 +19,12 @@ holds() {
         echo "ok $count - $name"
     else
         echo "not ok $count - $name"
-        echo "it does not hold: $name" >&2
+        echo "test failed: $name" >&2
         bad=1
     fi
 }
 
-# beside NAME COMMAND [WORD]..: a test that begins now, in an empty directory of its own, and runs beside those that follow.
+# beside NAME COMMAND [ARGUMENT]..: a test that starts now, in a new empty directory, and runs at the same time as the following tests.
 beside() {
     apart=$((apart + 1))
     mkdir "apart $apart"
@@ -38,12 +38,12 @@ beside() {
     ) < /dev/null &
 }
 
-# went_through DIRECTORY: the test that ran there beside the others did.
+# went_through DIRECTORY: checks that the test that `beside` started in this directory succeeded.
 went_through() {
-    [ "$(cat "$1/status")" = 0 ] || { cat "$1/said"; fail 'it did not go through'; }
+    [ "$(cat "$1/status")" = 0 ] || { cat "$1/said"; fail 'the command failed'; }
 }
 
-# plan: waits for the tests beside, tells how many tests there were, and ends the program.
+# plan: waits for the tests of `beside`, prints the number of tests, and ends the program.
 plan() {
     [ $apart = 0 ] || wait
     for place in $(seq $apart); do holds "$(cat "apart $place/name")" went_through "apart $place"; done
