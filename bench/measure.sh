@@ -1,8 +1,8 @@
-# What the scripts that time commands share: the original `kyua`, if it is installed, as $other, and these functions. They work in
-# the scratch folder, and want a C compiler.
+# Functions for the scripts that time commands. $other is the original `kyua`, or empty if it isn't installed. The functions work in the
+# temporary directory, and need a C compiler.
 # shellcheck shell=bash disable=SC2034,SC2154
 
-# Prints the path of the original. This program may be installed by the same name, and has no command `about`.
+# Prints the path of the original. This repository's program may be installed under the same name, but has no command `about`.
 original() {
   type -aP kyua | while read -r found; do
     if HOME=$scratch "$found" about > /dev/null 2>&1; then echo "$found"; break; fi
@@ -11,7 +11,7 @@ original() {
 other=$(original)
 cc -O2 -o "$scratch/measure" "$here/bench/measure.c"
 
-# Prints a Kyuafile with a program so often.
+# Prints a Kyuafile that registers a program COUNT times.
 #   programs NAME COUNT [INTERFACE]
 programs() {
   echo 'syntax(2)'
@@ -19,8 +19,8 @@ programs() {
   for _ in $(seq "$2"); do echo "${3-plain}_test_program{name='$1'}"; done
 }
 
-# Runs a command, whose output is the file out, and adds to NAME.figures what measure.c says of it.
-#   measure NAME COMMAND [WORD..]
+# Runs a command, whose output is the file out, and adds the figures of measure.c to NAME.figures.
+#   measure NAME COMMAND [ARGUMENT..]
 measure() {
   local name=$1
   shift
@@ -28,7 +28,7 @@ measure() {
 }
 
 # Measures a command once, and prints its figures.
-#   tell TITLE COMMAND [WORD..]
+#   tell TITLE COMMAND [ARGUMENT..]
 tell() {
   rm -f "$scratch/told.figures"
   measure told "${@:2}"

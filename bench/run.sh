@@ -1,17 +1,21 @@
 #!/usr/bin/env bash
-# Says what this `kyua` costs beside the original, where that is installed, and beside the floor, which does what no runner can do
-# without (floor.c). The three take turns, and a row has their medians: seconds, processor seconds with those of their children, and
-# MiB of the largest process, which is the runner. The last columns have the ratio of processor seconds to the original's, and to
-# the floor's. A row has three rounds; it has one if that takes 10 seconds, or once the script has run for 120. A second table says
-# how long after the end of a program the runner has heard of it.
-# KYUA names the program to measure; else the one that kyua.sh runs. ROUNDS may say how many rounds. It wants a C compiler. It works
-# in memory if there is enough, or where TMPDIR says, writes nothing else, and ends within three minutes on four processors.
+# Measures the cost of this `kyua`, of the original, if it is installed, and of the floor, the minimum work of any runner (floor.c).
+#
+#   run.sh
+#
+# The three run in turn, and a row of the table has their medians: seconds, processor seconds with those of the children, and MiB of the
+# largest process, which is the runner. The last columns have the ratio of processor seconds to the original's, and to the floor's. A row
+# has three rounds, or one if a round takes 10 seconds or the script has run for 120. A second table has the time between the end of a
+# program and the runner's notice of it.
+# KYUA names the program to measure; otherwise it is the one that kyua.sh runs. ROUNDS is the number of rounds. The script needs a C
+# compiler. It works in memory if there is enough, or in TMPDIR, and writes nothing else. It takes at most three minutes on four
+# processors. Exits with 0 if all is measured, else with another status.
 set -eu
 . "$(dirname "$0")/scratch.sh"
-# What is running ends first, and leaves nothing.
+# Running processes end first, and leave nothing.
 trap 'exit 1' HUP INT TERM
 find_program
-# In memory no disk is measured. All results together take 1 GB.
+# In memory, the disk doesn't affect the times. All results together take 1 GB.
 if [ -z "${TMPDIR-}" ] && memory=$(mktemp -d /dev/shm/kyua.XXXXXX 2> /dev/null); then
   printf '#!/bin/sh\n' > "$memory/try"
   chmod +x "$memory/try"
@@ -23,7 +27,7 @@ if [ -z "${TMPDIR-}" ] && memory=$(mktemp -d /dev/shm/kyua.XXXXXX 2> /dev/null);
   fi
 fi
 export TMPDIR=$scratch HOME=$scratch LC_ALL=C
-# A runner copies each variable of its environment for each child, so all have one as small as cron's, whoever measures.
+# A runner copies each variable of its environment for each child. So each runner gets an environment as small as cron's.
 for name in $(compgen -e); do
   case $name in
     HOME | LC_ALL | LOGNAME | PATH | SHELL | TMPDIR) ;;
@@ -34,7 +38,7 @@ cd "$scratch"
 . "$here/bench/measure.sh"
 rounds=${ROUNDS:-3}
 
-# Measures a runner, which must print as many lines like $line as the row has ($lines).
+# Measures a runner, which must print $lines lines that match $line.
 runs() {
   local found
   measure "$@"
@@ -44,14 +48,14 @@ runs() {
 ours() { runs ours "$program" "$@"; }
 theirs() { [ -z "$other" ] || runs theirs "$other" -c none --logfile="$scratch/log" "$@"; }
 
-# A runner's `test` of a Kyuafile. The floor is told the program and the number of its lists and of its cases in its place.
+# Runs a runner's `test` of a Kyuafile. The floor gets the program and the numbers of its lists and cases instead.
 #   ours_tests KYUAFILE WIDTH RESULTS
 ours_tests() { ours -v parallelism="$2" test -k "$1.kyuafile" -r "$3" --work="$scratch"; }
 theirs_tests() { theirs -v parallelism="$2" test -k "$scratch/$1.kyuafile" -r "$scratch/$3"; }
 #   floor_tests PROGRAM LISTS CASES WIDTH RESULTS
 floor_tests() { runs floor ./floor "$scratch/$1" "${@:2}"; }
 
-# What a round of a row runs.
+# Runs a round of a row.
 #   tests INTERFACE LISTS CASES WIDTH
 tests() {
   rm -f {ours,theirs,floor}.db*
@@ -59,7 +63,7 @@ tests() {
   theirs_tests "$1" "$4" theirs.db
   floor_tests "$@" floor.db
 }
-# The original makes a file for each run, and takes none that has results.
+# The original creates a file for each run, and rejects a file with results.
 #   tests_beside FILE
 tests_beside() {
   rm -f {ours,floor}.db*
@@ -79,8 +83,8 @@ reports() {
   [ ! -e "$2.theirs" ] || theirs "$1" -r "$scratch/$2.theirs"
 }
 
-# Makes the file `older`, with the 10,000 results of the first run so many times, and for each result so many bytes of output and,
-# if these are any, its pairs.
+# Creates the file `older`, which has the 10,000 results of the first run TIMES times. Each result has BYTES bytes of output, and its
+# properties unless BYTES is 0.
 #   older TIMES BYTES
 older() {
   cp many.ours older
@@ -93,7 +97,7 @@ older() {
     PRAGMA wal_checkpoint(truncate)" > log
 }
 
-# Prints the median of a column of a runner's figures, which are divided by a number, or a dash if there are none.
+# Prints the median of a column of a runner's figures, divided by UNIT, or a dash if there are no figures.
 #   median RUNNER COLUMN UNIT
 median() {
   sort -n -k "$2,$2" "$1.figures" 2> /dev/null | awk -v column="$2" -v unit="$3" '
@@ -115,7 +119,7 @@ ratio() {
 }
 
 # Measures a row in its rounds, and prints it.
-#   row TITLE LINES LINE FUNCTION [WORD..]
+#   row TITLE LINES LINE FUNCTION [ARGUMENT..]
 row() {
   local title=$1 round begun
   lines=$2 line=$3
@@ -129,8 +133,8 @@ row() {
     "$(cell 1 1)" "$(cell 2 1)" "$(cell 3 1024)" "$(ratio theirs)" "$(ratio floor)"
 }
 
-# Runs a runner over programs that end late, and prints the mean time in microseconds until it has heard of an end.
-#   notices COMMAND [WORD..]
+# Runs a runner on programs that end late, and prints the mean time in microseconds from an end to the runner's notice of it.
+#   notices COMMAND [ARGUMENT..]
 notices() {
   rm -f notices
   ./measure /dev/null env NOTICES="$scratch/notices" LD_PRELOAD="$scratch/notice.so" "$@" > out
@@ -139,7 +143,7 @@ notices() {
     { ended[$1] = $2 }
     END { printf "%d", late / count / 1000 }' notices
 }
-# Prints a row of so many programs, one at once, that last so many milliseconds in the mean.
+# Prints a row for COUNT programs, which run one at a time and take MILLISECONDS on average.
 #   ends MILLISECONDS COUNT
 ends() {
   ln -f plain "ends.$1"
@@ -150,7 +154,7 @@ ends() {
     "$(notices ./floor "$scratch/ends.$1" 0 "$2" 1 floor.db)"
 }
 
-# A static program costs the least.
+# A static program starts fastest.
 cc -O2 -static -o plain "$here/bench/case.c" 2> log || cc -O2 -o plain "$here/bench/case.c"
 for name in tap atf one loud brief; do ln plain "$name"; done
 cc -O2 -shared -fPIC -o notice.so "$here/bench/notice.c"
@@ -184,8 +188,8 @@ echo '|---|---|---|---|---|---|---|'
 row 'test of a plain program, in a new file' 1 '  ->  passed' tests one 0 1 1
 for width in 1 4 8; do row "test of 1,000 plain programs, $width at once" 1000 '  ->  passed' tests plain 0 1000 $width; done
 
-# The results that are reported. 10,000 cases take the original two minutes, so copies of the last 1,000 results stand for them,
-# where sqlite3 is installed.
+# The reported results. The original takes two minutes for 10,000 cases, so it gets copies of the last 1,000 results, if sqlite3 is
+# installed.
 line='  ->  passed'
 lines=10000
 ours_tests many 8 many.ours

@@ -1,5 +1,5 @@
-# What the scripts begin with: the checkout as $here, and an empty folder as $scratch, which goes away at their end.
-# An argument has a script print the comment that it begins with, and do nothing.
+# Functions for the scripts of bench/, which source this file first. $here is the checkout, and $scratch an empty temporary directory, which
+# is removed at the end. With an argument, a script only prints its first comment.
 here=$(cd "$(dirname "$0")" && pwd)
 here=${here%/bench*}
 top=$here
@@ -8,7 +8,7 @@ explain "$@"
 scratch=$(mktemp -d)
 trap 'rm -rf "$scratch"' EXIT
 
-# Names the program as $program: the one that KYUA names, else the one that kyua.sh runs.
+# Sets $program to the program that KYUA names, or to the one that kyua.sh runs.
 find_program() {
     if [ -n "${KYUA:-}" ]; then
         program=$(realpath "$KYUA")
@@ -17,8 +17,8 @@ find_program() {
     fi
 }
 
-# Makes a checkout in the scratch folder: these crates with what is proved of them, and the crate NAME_bench over the libraries
-# of the second word, whose program is the main.txt of the folder NAME.
+# Creates a checkout in the temporary directory: these crates with their results of proofs, and the crate NAME_bench. That crate depends on
+# LIBRARIES, and its program is the file main.txt of the directory NAME.
 #   make_checkout NAME LIBRARIES CRATE..
 make_checkout() {
     name=$1_bench
@@ -33,11 +33,11 @@ make_checkout() {
     tar -C "$here/crates" --exclude=out/incremental -cf - "$@" | tar -C "$scratch/crates" -xf -
 }
 
-# Proves and links the program NAME_bench, and names it $bench. What isn't proved yet is proved in the scratch folder.
+# Proves and links the program NAME_bench, and sets $bench to its path. Crates that aren't proved yet are proved in the temporary directory.
 #   build_bench NAME
 build_bench() {
     bench=$scratch/crates/$1_bench/out/$1_bench
-    # rt runs what it linked, without words and in an empty folder: the status of that run says nothing here.
+    # rt runs the linked program, without arguments and in an empty directory. The status of that run doesn't matter.
     (cd "$scratch/crates/$1_bench" && rt run --jobs 1 < /dev/null > "$scratch/log" 2>&1) || true
     [ -x "$bench" ] || { tail -n 20 "$scratch/log"; exit 1; }
 }

@@ -1,6 +1,6 @@
 #!/bin/sh
-# Says whether the lists that atf-sh and libatf-c print are those among the rows of kt_rows. It wants Debian's atf-sh and
-# libatf-dev, and a C compiler. Nothing is written but in a scratch folder.
+# Checks that the examples of kt_rows contain the lists that atf-sh and libatf-c print. It needs Debian's atf-sh and libatf-dev, and a C
+# compiler, and writes only in a temporary directory. Exits with 0 if the examples contain all lists, else with 1.
 set -eu
 top=$(cd "$(dirname "$0")/../.." && pwd)
 . "$top/scripts/sources.sh"
@@ -63,6 +63,6 @@ chmod +x three one
 cc -o two two.c -latf-c
 for program in three one two; do
     list=$("./$program" -l | awk '{ printf "%s\\n", $0 }')
-    grep -Fq "list $list" "$rows" || { echo "the list of $program is not among the rows: $list" >&2; exit 1; }
+    grep -Fq "list $list" "$rows" || { echo "no example has the list of $program: $list" >&2; exit 1; }
 done
 echo '3 lists'

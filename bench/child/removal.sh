@@ -1,8 +1,8 @@
 #!/usr/bin/env bash
-# Says how late a limit of two seconds is seen while 6,000 files are removed, each of which takes a millisecond: within three, since
-# a pause counts the time of its removals. A removal that is bounded by its steps alone would hold the run for 5,000 of them. Exits
-# with 1 if that isn't so.
-# KYUA names the program to measure; else the one that kyua.sh runs. It needs a C compiler and wants a quiet machine.
+# Checks that a timeout of two seconds takes at most three while 6,000 files are removed, each in a millisecond. A pause counts the time of
+# its removals. A removal that only counts its steps would block the run for 5,000 of them.
+# Exits with 0 if that holds, else with 1. KYUA names the program to measure; otherwise it is the one that kyua.sh runs. The script needs a C
+# compiler and a quiet machine.
 set -eu
 . "$(dirname "$0")/../scratch.sh"
 find_program
@@ -29,5 +29,5 @@ K
 LD_PRELOAD=$scratch/slow.so "$program" -v parallelism=8 test -r x.db --work="$scratch/work" > out || [ $? = 1 ]
 [ -z "$(ls -A work)" ]
 millis=$(sed -n 's/^sleeper:main  ->  broken: Test case timed out  \[0*\([0-9][0-9]*\)\.\([0-9]*\)s\]$/\1\2/p' out)
-echo "a limit of 2 s beside files that take a millisecond each to be removed is over after ${millis:-no} ms; at most 3000 are allowed"
+echo "a timeout of 2 s takes ${millis:-no} ms while files are removed in a millisecond each; at most 3000 are allowed"
 [ "${millis:-3001}" -le 3000 ]

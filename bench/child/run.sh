@@ -1,31 +1,33 @@
 #!/usr/bin/env bash
-# Says how near to 2 seconds a `sleep 30` with that limit is ended, alone and beside short programs; how long 2,000 short programs
-# take beside one of 20 seconds, over the original `kyua` too, where it is installed; 256 programs that sleep at once, and 10,000
-# short ones at that width; what a wait of 5 seconds costs; how much memory an output of 100 MB takes; and how long the removal of
-# what a case leaves takes.
-# KYUA names the program to measure; else the one that kyua.sh runs. It wants a C compiler, and writes in a scratch folder alone.
+# Measures how the runner starts, waits for and removes children:
+# - the time of a `sleep 30` with a timeout of 2 seconds, alone and next to short programs
+# - 2,000 short programs next to a program of 20 seconds, also by the original `kyua`, if it is installed
+# - 256 programs that sleep at once, and 10,000 short programs, 256 at once
+# - the cost of a wait of 5 seconds, the memory of an output of 100 MB, and the removal of the files that a case leaves
+# KYUA names the program to measure; otherwise it is the one that kyua.sh runs. The script needs a C compiler, and writes only in a temporary
+# directory.
 set -eu
 . "$(dirname "$0")/../scratch.sh"
 . "$here/bench/measure.sh"
 find_program
 
-# Measures a run of a Kyuafile, so many cases at once.
+# Measures a run of a Kyuafile, WIDTH cases at once.
 #   run TITLE KYUAFILE WIDTH
 run() {
   tell "$1" "$program" -v parallelism="$3" test -k "$2" -r ours.db --work="$scratch"
 }
 
-# A case that sleeps for 30 seconds with a limit of 2, beside so many short ones; a limit is told with the time that the case took.
+# limited COUNT: runs a case that sleeps for 30 seconds with a timeout of 2, next to COUNT short cases, and prints its result and time.
 limited() {
   { echo 'syntax(2)'; echo "test_suite('bench')"; echo "plain_test_program{name='thirty', timeout=2}"; } > Limited
   programs case "$1" | sed 1,2d >> Limited
-  "$program" -v parallelism=8 test -k Limited -r limited.db --work="$scratch" | sed -n "s/^thirty:main  ->  /beside $1 short programs: /p"
+  "$program" -v parallelism=8 test -k Limited -r limited.db --work="$scratch" | sed -n "s/^thirty:main  ->  /next to $1 short programs: /p"
 }
 
-# A program of 20 seconds and 2,000 short ones, so many at once.
+# beside_sleeper WIDTH: measures a program of 20 seconds and 2,000 short ones, WIDTH at once.
 beside_sleeper() {
   rm -f ours.db* theirs.db
-  run "2,000 short programs beside one of 20 s, $1 at once" Sleeper "$1"
+  run "2,000 short programs next to one of 20 s, $1 at once" Sleeper "$1"
   [ -z "$other" ] || tell '  the original' "$other" -c none --logfile="$scratch/theirs.log" -v parallelism="$1" \
     test -k "$scratch/Sleeper" -r "$scratch/theirs.db"
 }

@@ -1,9 +1,10 @@
 #!/usr/bin/env bash
-# Says how late the ends of short cases are heard beside long children, at the widths 8, 64 and 256, in the mean: at most 1, 1 and
-# 2 milliseconds are allowed; and what the runner itself takes of the processor there while a case ends each half second: at most
-# 1, 1.5 and 3 per cent. Exits with 1 at the first that isn't so.
-# KYUA names the program to measure; else the one that kyua.sh runs. It takes a minute and a half, and wants a C compiler and a quiet
-# machine; with `chrt -f 10` in front of it it waits for no other process, but a busy machine makes what it takes dearer.
+# Checks how late the runner notices the ends of short cases next to long ones, at the widths 8, 64 and 256. The mean delay must be at most
+# 1, 1 and 2 milliseconds. Then it checks how much of a processor the runner takes while a case ends each half second. That must be at most
+# 1, 1.5 and 3 per cent.
+# Exits with 0 if all hold, with 1 at the first that doesn't. KYUA names the program to measure; otherwise it is the one that kyua.sh runs. The
+# script takes a minute and a half, and needs a C compiler and a quiet machine. With the prefix `chrt -f 10` it doesn't wait for other
+# processes, but on a busy machine it takes more processor time.
 set -eu
 . "$(dirname "$0")/../scratch.sh"
 find_program
@@ -14,11 +15,11 @@ printf '#!/bin/sh\nexec sleep 4\n' > longer
 chmod +x long short longer
 . "$here/bench/child/late.sh"
 for millis in 20 24 28 32 36 40; do ends_of "$millis"; done
-#   spent PID: the hundredths of a second that a process has taken of the processor
+#   spent PID: prints the processor time of a process in hundredths of a second
 spent() {
   cut -d ')' -f 2 "/proc/$1/stat" | awk '{ print $12 + $13 }'
 }
-#   late_beside WIDTH MICROSECONDS: so late may the ends of cases of 20 to 40 ms be heard beside longer ones
+#   late_beside WIDTH MICROSECONDS: checks that the mean delay of cases of 20 to 40 ms next to longer ones is at most MICROSECONDS
 late_beside() {
   {
     printf '%s\n' 'syntax(2)' "test_suite('s')"
@@ -29,7 +30,7 @@ late_beside() {
   } > Kyuafile
   late "$1" "$2"
 }
-#   waiting WIDTH TENTHS: so many tenths of a per cent are allowed
+#   waiting WIDTH TENTHS: checks that the runner takes at most TENTHS tenths of a per cent of a processor
 waiting() {
   {
     printf '%s\n' 'syntax(2)' "test_suite('s')"

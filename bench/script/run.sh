@@ -1,5 +1,5 @@
 #!/bin/sh
-# Says how fast a script of 1 MiB is read, and in how much memory.
+# Measures the time and the memory that reading a script of 1 MiB takes.
 set -eu
 . "$(dirname "$0")/../scratch.sh"
 make_checkout script kt_script kt_base kt_script

@@ -1,6 +1,7 @@
 #!/bin/sh
-# Measures a suite of 60 seconds in 1, 2 and 4 shares: the seconds of the longest share if the programs are dealt in turn and if they
-# are divided by time, and those of `kyua-tools cluster` by GNU parallel and by Slurm. What isn't installed is skipped. It wants sqlite3.
+# Measures a suite of 60 seconds in 1, 2 and 4 shares. Each row has the seconds of the longest share if the programs are dealt in turn and
+# if they are divided by time, and the seconds of `kyua-tools cluster` by GNU parallel and by Slurm. A tool that isn't installed is skipped.
+# The script needs sqlite3.
 set -eu
 . "$(dirname "$0")/../scratch.sh"
 find_program
@@ -34,7 +35,7 @@ longest() {
     wait
     echo $((($(date +%s%N) - from) / 1000000)) > "$1.$2.time"
 }
-# clustered ENGINE SHARES: the same of cluster.
+# clustered ENGINE SHARES: records the milliseconds that cluster takes with this engine.
 clustered() {
     mkdir "$1.$2"
     cp nights/2026-01-01.db "$1.$2"
@@ -42,7 +43,7 @@ clustered() {
     CLUSTER_DIRECTORY=$1.$2 "$tools/cluster" "$2" "$1" > "$1.$2.log" 2>&1
     echo $((($(date +%s%N) - from) / 1000000)) > "$1.$2.time"
 }
-# seconds FILE: the seconds of this measurement, if it was made.
+# seconds FILE: prints the seconds of this measurement, if it exists.
 seconds() {
     [ ! -e "$1" ] || awk '{ printf "%.1f", $1 / 1000 }' "$1"
 }

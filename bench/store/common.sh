@@ -1,9 +1,9 @@
-# What the scripts of this folder share: they work in the scratch folder, and make a Kyuafile of short programs there, or results
-# of schema 1.
+# Functions for the scripts of this directory. They work in the temporary directory, and create a Kyuafile of short programs or results of
+# schema 1.
 . "$(dirname "$0")/../scratch.sh"
 cd "$scratch"
 
-# Makes so many programs that return 0, c0 and up, and the Kyuafile that registers them.
+# make_suite COUNT: creates COUNT programs that exit with 0, c0 and up, and the Kyuafile that registers them.
 make_suite() {
     echo 'syntax(2)' > Kyuafile
     echo "test_suite('s')" >> Kyuafile
@@ -16,7 +16,7 @@ make_suite() {
     done
 }
 
-# Makes the file FILE by the real sqlite3, with the tables of schema 1 and one finished run of so many entries.
+# Creates FILE with sqlite3, with the tables of schema 1 and a finished run of COUNT entries.
 #   make_old_results FILE COUNT
 make_old_results() {
     sqlite3 "$1" <<SQL

@@ -1,7 +1,7 @@
 #!/bin/sh
-# Says whether a run of 200 cases that is killed in the middle has lost no line that it told: each one has its entry in the
-# file, the older run stays as it was, and the killed one is unfinished. The program itself is the first that opens the file
-# again; the real sqlite3 looks at it after that. It wants sqlite3.
+# Checks that a killed run of 200 cases loses no line that it printed. Each line has its entry in the file, the older run is unchanged, and
+# the killed run is unfinished. First the program opens the file again, then sqlite3, which the script needs.
+# Exits with 0 if all hold, else with another status.
 set -eu
 . "$(dirname "$0")/common.sh"
 find_program
@@ -23,11 +23,11 @@ for wanted in 1 20 90 150; do
     done
     kill -9 $pid 2>/dev/null || true
     wait $pid 2>/dev/null || true
-    # whole lines alone: the last one may be cut
+    # Only complete lines: the last line may be cut.
     grep '  ->  .*]$' lines > told || true
     "$program" report -r x.db --results-filter=passed,skipped,xfail,broken,failed > shown
     if grep -Fxvf shown told; then
-        echo 'these lines were told and are not in the file' >&2
+        echo 'these lines were printed, but are not in the file' >&2
         exit 1
     fi
     told=$(grep -c '  ->  ' lines || true)
@@ -35,7 +35,7 @@ for wanted in 1 20 90 150; do
     kept=$(sqlite3 x.db "SELECT count(*) FROM entries WHERE run = $run")
     finished=$(sqlite3 x.db "SELECT finished FROM runs WHERE id = $run")
     test "$(sqlite3 x.db 'PRAGMA integrity_check')" = ok
-    # at most one entry was recorded and not told
+    # At most one entry was recorded but not printed.
     test "$kept" -ge "$told"
     test "$kept" -le $((told + 1))
     if [ "$finished" = 0 ]; then
@@ -48,6 +48,6 @@ for wanted in 1 20 90 150; do
     echo "killed after $told lines: $kept entries, finished $finished"
 done
 if [ $killed = 0 ]; then
-    echo 'each run was over before it was killed' >&2
+    echo 'each run ended before it was killed' >&2
     exit 1
 fi

@@ -1,9 +1,8 @@
 #!/bin/sh
-# Says how long 1,000, 10,000 and 100,000 entries take to be put into a new file, each durable before the next, without pairs
-# and with seven each, and what as many durable inserts take the real sqlite3 on the same disk. Then how long a file of
-# 100,000 entries takes to be opened and taken, from schema 1 and from schema 2.
-# It wants sqlite3, its headers and a C compiler.
-# The files lie in the scratch folder, where TMPDIR says: that is the disk that is measured.
+# Measures how long 1,000, 10,000 and 100,000 puts into a new file take, each durable before the next, without properties and with seven
+# each. It measures as many durable inserts by sqlite3 on the same disk, too. Then it measures how long it takes to open a file of 100,000
+# entries, with schema 1 and with schema 2.
+# The script needs sqlite3, its headers and a C compiler. The files are in the temporary directory: TMPDIR selects the disk that is measured.
 set -eu
 . "$(dirname "$0")/common.sh"
 make_checkout store 'kt_base kt_store sqlite' kt_base kt_store

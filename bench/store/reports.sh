@@ -1,5 +1,5 @@
 #!/usr/bin/env bash
-# Says how long and in how much memory runs of 1,000, 10,000 and 100,000 entries are reported. It wants sqlite3 and a C compiler.
+# Measures the time and the memory of reports of 1,000, 10,000 and 100,000 entries. It needs sqlite3 and a C compiler.
 set -eu
 . "$(dirname "$0")/common.sh"
 . "$here/bench/measure.sh"

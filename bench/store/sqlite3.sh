@@ -1,6 +1,6 @@
 #!/bin/sh
-# Says whether kyua and the real sqlite3 read each other's files: one made by sqlite3 with the same tables is shown by
-# kyua, and is whole afterwards. It wants sqlite3.
+# Checks that kyua and sqlite3 read each other's files. kyua shows a file that sqlite3 created with the same tables, and leaves it intact.
+# The script needs sqlite3. Exits with 0 if all hold, else with another status.
 set -eu
 . "$(dirname "$0")/common.sh"
 find_program
@@ -18,20 +18,20 @@ TEXT
 "$program" report -r made.db > shown
 cmp wanted shown
 test "$(sqlite3 made.db 'PRAGMA integrity_check')" = ok
-# it was made with schema 1, and is one of schema 2 now
+# It was created with schema 1, and has schema 2 now.
 test "$(sqlite3 made.db 'SELECT name, value FROM meta')" = 'schema|2'
 test "$(sqlite3 made.db 'SELECT count(*) FROM props')" = 0
 "$program" report -r made.db > shown
 cmp wanted shown
 
-# a new file, made by kyua
+# A new file, created by kyua.
 "$program" report -r new.db > told && exit 1 || test $? = 2
 test "$(cat told)" = 'kyua: E: no runs'
 test "$(sqlite3 new.db 'PRAGMA integrity_check')" = ok
 test "$(sqlite3 new.db 'SELECT name, value FROM meta')" = 'schema|2'
 test "$(sqlite3 new.db 'SELECT count(*) FROM runs')" = 0
 
-# a file of another schema
+# A file with another schema.
 sqlite3 new.db 'UPDATE meta SET value = 9'
 "$program" report -r new.db > told && exit 1 || test $? = 2
 test "$(cat told)" = 'kyua: E: results store failed'

@@ -1,7 +1,7 @@
 #!/usr/bin/env bash
-# Says how long a tree of 250, 500 and 1,000 Kyuafiles with ten programs each takes to load in memory, and one of 1,000 from files;
-# twice as many files should take about twice the time. Then how long another `kyua list`, where one is installed, takes for the
-# same files. It works in a scratch copy of the checkout.
+# Measures how long trees of 250, 500 and 1,000 Kyuafiles with ten programs each take to load from memory, and a tree of 1,000 from files.
+# Twice as many files should take about twice the time. Then it measures another `kyua list` on the same files, if one is installed. It
+# works in a temporary copy of the checkout.
 set -eu
 . "$(dirname "$0")/../scratch.sh"
 make_checkout suite 'kt_base kt_metadata kt_suite' kt_base kt_script kt_config kt_metadata kt_suite

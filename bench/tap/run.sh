@@ -1,5 +1,5 @@
 #!/bin/sh
-# Says how fast a TAP stream of 16 MiB is read in pieces of 64 KiB, and in how much memory.
+# Measures the time and the memory that reading a TAP stream of 16 MiB in parts of 64 KiB takes.
 set -eu
 . "$(dirname "$0")/../scratch.sh"
 make_checkout tap kt_claim kt_base kt_claim
