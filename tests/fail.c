@@ -1,6 +1,6 @@
 // Fails one call of a program, for a preload. FAIL is the number of the call, counted from 1, and perhaps its name: it fails with EIO.
 // CALLS names a file that gets a line for each call: its name and the file, after the word `failed` for the call that fails.
-// Only calls on files whose names begin with x.db, and on their directory, are counted. The program's children are left alone.
+// Only calls on files whose names begin with x.db, and on their directory, are counted. The program's children are not affected.
 #define _GNU_SOURCE
 #include <dlfcn.h>
 #include <errno.h>

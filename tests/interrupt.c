@@ -1,7 +1,9 @@
-// Disturbs one call of a program, for a preload. INTERRUPT is the number of a write to standard output that is interrupted, counted
-// from 1, or the number of a read and the name of the file that is read; with the number 0 each kill is refused (EPERM), or if
-// there is a name, a pipe is put in the place of a file of that name just before it is opened to be read. With the number -N the
-// program is killed before the Nth of its calls that may change a file.
+// Disturbs one call of a program, for a preload. INTERRUPT is a number, perhaps followed by the name of a file:
+// N          the Nth write to standard output is interrupted, counted from 1
+// N NAME     the Nth read of this file is interrupted
+// 0          each kill fails with EPERM
+// 0 NAME     a pipe replaces this file just before the program opens it for reading
+// -N         the program is killed before the Nth of its calls that may change a file
 #define _GNU_SOURCE
 #include <dlfcn.h>
 #include <errno.h>
@@ -19,7 +21,7 @@ static ssize_t (*real_read)(int, void *, size_t);
 static int (*real_open)(const char *, int, ...);
 static int (*real_kill)(pid_t, int);
 static long count, wanted = -1;
-// Empty if a write is interrupted, or kills are refused.
+// Empty if a write is interrupted or kills fail.
 static char name[256];
 
 __attribute__((constructor)) static void begin(void)
@@ -35,7 +37,7 @@ __attribute__((constructor)) static void begin(void)
     unsetenv("INTERRUPT");
 }
 
-// Whether a call is the one to interrupt.
+// Returns 1 if this call is interrupted.
 static int is_wanted(int here)
 {
     if (wanted < 0 || !here || ++count != wanted)
@@ -44,21 +46,21 @@ static int is_wanted(int here)
     return 1;
 }
 
-// Kills the program if this call is the one before which it is to end.
+// Kills the program if it must end before this call.
 static void may_end(void)
 {
     if (wanted < 0 && ++count == -wanted)
         raise(SIGKILL);
 }
 
-// Whether a path ends in the name.
+// Returns 1 if a path ends in the name.
 static int ends_in_name(const char *path)
 {
     const char *last = strrchr(path, '/');
     return name[0] && last && !strcmp(last + 1, name);
 }
 
-// Whether a file has the name.
+// Returns 1 if an open file has the name.
 static int is_named(int file)
 {
     char link[64], path[4096];

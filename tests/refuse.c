@@ -1,5 +1,5 @@
-// Refuses one allocation of a program, for a preload: the one of the number in REFUSE, counted from 1.
-// Once it has refused one, it makes the file that REFUSED names. The program's children are left alone.
+// Makes one allocation of a program fail, for a preload. REFUSE is its number, counted from 1. When the allocation fails, it creates the
+// file that REFUSED names. COUNTED names a file that gets the number of allocations. The program's children are not affected.
 #define _GNU_SOURCE
 #include <dlfcn.h>
 #include <errno.h>
@@ -14,7 +14,7 @@
 static long count, wanted;
 static char told[4096], counted[4096];
 
-// Of what the loader asks for before it runs this, nothing is refused.
+// The allocations that the loader makes before this function don't fail.
 __attribute__((constructor)) static void begin(void)
 {
     real_malloc = dlsym(RTLD_NEXT, "malloc");
