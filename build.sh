@@ -1,8 +1,11 @@
 #!/usr/bin/env bash
-# Proves and builds the program kyua in crates/kyua/out, unless it is there and was built from these sources. Every crate that it
-# depends on is proved first, each as soon as those that it depends on are proved; standard error gets a line for each crate. This
-# takes about half an hour on four processors.
-# rt is taken from PATH, else from the kit that RATTLE_KIT names. Exits with 2 if the build fails.
+# Proves and builds the program kyua in crates/kyua/out, unless it was already built from these sources. First it proves every crate below
+# kyua, each as soon as the crates below that are proved. Standard error gets a line for each crate. This takes about half an hour on four
+# processors.
+#
+#   build.sh
+#
+# rt is taken from PATH, else from the kit that RATTLE_KIT names. Exits with 0, or with 2 if the build fails or a tool is missing.
 set -eu -o pipefail
 top=$(cd "$(dirname "$0")" && pwd)
 . "$top/scripts/sources.sh"
@@ -10,7 +13,7 @@ explain "$@"
 out=$top/crates/kyua/out
 log=$out/build.log
 rooms=$out/rooms
-# The longest chains of crates that wait for one another: these go before all that run beside them.
+# The longest chain of crates that wait for one another. Its crates have priority over the others.
 chain=' kt_base kt_script kt_config kt_metadata kt_suite kt_sched kt_child kt_plan kt_args kt_cli '
 
 give_up() {
@@ -18,13 +21,13 @@ give_up() {
   exit 2
 }
 
-# Prints the crates that a crate stands on, the lowest first.
+# below CRATE: prints the crates below a crate, the lowest first.
 below() {
   crates_up_to "$1" | grep -v "^$1\$" || true
 }
 
-# Makes a checkout of a crate and those below it alone: two runs of rt in one checkout wait for each other.
-# What rt made of the crates below is linked, and what it kept of this crate moves along: it is large.
+# furnish CRATE: creates a checkout of a crate and the crates below it, since two runs of rt in one checkout wait for each other.
+# It links the results of the crates below, and moves the earlier results of this crate, since they are large.
 furnish() {
   local name=$1 room=$rooms/$1 other part
   mkdir -p "$room/crates"
@@ -44,7 +47,7 @@ furnish() {
   [ ! -d "$top/crates/$name/out" ] || mv "$top/crates/$name/out" "$room/crates/$name"
 }
 
-# Proves one crate when those below it are proved. A file in the rooms says how that ended.
+# prove CRATE: proves a crate after the crates below it. A file in the directory $rooms records the outcome.
 prove() {
   local name=$1 other jobs politeness=10 status=0
   for other in $(below "$name"); do
@@ -71,7 +74,7 @@ prove() {
 find_tools || exit 2
 if is_built; then exit; fi
 find_rt || exit 2
-# If this build fails, no older program stands in for it.
+# If this build fails, no older program may remain.
 rm -rf "$built" "$record_of_built" "$rooms"
 mkdir -p "$rooms"
 : > "$log"
@@ -83,8 +86,8 @@ wait
 [ ! -e "$rooms/failed" ] || give_up
 rm -rf "$rooms"
 echo 'build.sh: proving and linking kyua' >&2
-# rt runs what it linked, without words: the status of that run says nothing here.
+# rt runs the linked program without arguments. The status of that run doesn't matter.
 (cd "$top/crates/kyua" && rt run --jobs "$(nproc)") </dev/null >>"$log" 2>&1 || true
 [ -x "$built" ] || give_up
-# If a source was edited while this worked, the sources have another hash now.
+# If a source was edited during the build, the sources have another hash now.
 make_record "$built" "$sources" > "$record_of_built"
