@@ -1,18 +1,20 @@
 #!/usr/bin/env python3
-"""Judges what kt_rows answers to a row while one allocation is refused: a line for each answer that may not stand there.
+"""Checks the outputs of kt_rows for an example in which one allocation failed.
 
-Standard input names folders, a line each, as rows_alone.sh makes them: FILE.LINE with the row as FILE, and `answers`, which
-refuse_each.c wrote. An answer must be the due one, or one of these, in the place where it can stand:
+Standard input names directories, a line each, as rows_alone.sh creates them. A directory FILE.LINE contains the example as FILE, and
+`answers`, which refuse_each.c wrote. An output must be the expected output, or one of these, where it can occur:
 
-- the refusal itself, for the whole row or for the answer to one of its lines: `out of memory`, as the subject has it. Of a
-  command it is `kyua: E: out of memory`, behind a front of what is due, and exit 2;
-- a case with the one reason that its interface has for it (docs/formats/verdicts.md): a start, a result file, a stream, a
-  cleanup; or the list of a program that could not be read or started;
-- an output that is empty.
+- the error of the failed allocation, for the whole example or for one of its lines: `out of memory`, in the words of the subject. For a
+  command it is `kyua: E: out of memory`, after a prefix of the expected output, and exit status 2
+- a case with the one reason that its interface gives (docs/formats/verdicts.md): a start, a result file, a stream, a cleanup, or the
+  list of a program that could not be read or started
+- an output of a case that is empty
 
-All else is compared with the due answer field by field: another case, its verdict, the other lines. What follows from such a
-case must follow: the totals, the exit, what a later report shows, what is recorded. Its clock and the lives of the children that
-are started behind it are those of the script, which has them in the order of the starts.
+All else is compared with the expected output field by field: another case, its verdict, the other lines. The consequences of such a case
+must agree: the totals, the exit status, a later report, the recorded entries. Times, and the outcomes of later children, are those of the
+script, in the order of the starts.
+
+Prints a line for each output that is not permitted. Exits with 0 unless it fails itself.
 """
 import os
 import re
@@ -23,13 +25,13 @@ LIST = "broken: Test case list could not be read"
 RESULT = "broken: Results file could not be read"
 STREAM = "broken: TAP test program yielded invalid data: output could not be read"
 CLEANUP = "broken: Test case cleanup could not be started"
-# Of a body that timed out no claim is read that may say that this was to be expected.
+# The verdict of a body that timed out, if its result file, which may expect the timeout, could not be read.
 TIMED_OUT = "broken: Test case body timed out"
 MEMORY = "kyua: E: out of memory"
 STORE = "kyua: E: results store failed"
 KINDS = "passed|skipped|expected_failure|failed|broken"
 
-# What kt_rows says where something of the row itself could not be made.
+# The messages of kt_rows for a part of the example itself that could not be made.
 SETUPS = {
     "commands": ["no statement failed", "there is no store", "its tables are not taken",
                  "its runs can not be told", "its entries can not be told", "it does not open again", "it can not be attached again",
@@ -43,7 +45,7 @@ SETUPS = {
 
 
 def unescaped(raw):
-    """The text of a text with the escapes of rows."""
+    """Returns a text without the escapes of examples."""
     out, opened, at = [], None, 0
     while at < len(raw):
         sign = raw[at]
@@ -74,7 +76,7 @@ ESCAPE = re.compile(r"\\(u\{[0-9a-f]+\}|.)", re.S)
 
 
 def shown(text):
-    """The text that is displayed with the escapes of a debugger."""
+    """Returns a text without the escapes of Rust's `Debug`."""
     def one(match):
         sign = match.group(1)
         if sign[0] == "u" and len(sign) > 1:
@@ -84,7 +86,7 @@ def shown(text):
 
 
 class Row:
-    """A row: its lines, and the answer that is due."""
+    """An example: its lines and its expected output."""
 
     def __init__(self, folder):
         name = os.path.basename(folder)
@@ -117,7 +119,7 @@ class Row:
 
 
 def is_block(due, got, refusals):
-    """Whether one answer of several is a refusal: a front of the due lines, the refusal, and an end of them."""
+    """Returns `True` if the lines are a prefix of the expected lines, then one of the errors, then a suffix of the expected lines."""
     front = 0
     while front < min(len(due), len(got)) and due[front] == got[front]:
         front += 1
@@ -133,13 +135,13 @@ def is_block(due, got, refusals):
 
 
 def case_of(line):
-    """A line of a case: its name, its verdict and its time."""
+    """Returns the name, the verdict and the time in the line of a case, or None."""
     match = re.fullmatch(r"(.*?)  ->  (.*)  \[(\d+\.\d{3}s)\]", line, re.S)
     return match.groups() if match else None
 
 
 class Program:
-    """Which reasons memory has for the cases of a row."""
+    """The reasons that a failed allocation can give to the cases of an example."""
 
     def __init__(self, row):
         text = "\n".join(text for _, text in row.lines)
@@ -164,7 +166,7 @@ class Program:
 
 
 def command_of(line):
-    """The name of the command in a command line, and its other words."""
+    """Returns the name of the command in a command line, and all its arguments."""
     words, at = line.split(), 0
     while at < len(words) and words[at].startswith("-"):
         at += 1 if "=" in words[at] or len(words[at]) > 2 else 2
@@ -172,7 +174,7 @@ def command_of(line):
 
 
 class Part:
-    """What one command wrote: its lines, and of `test` the cases and how it ended."""
+    """The output of one command: its lines, its exit status, and the cases of `test` and `debug`."""
 
     def __init__(self, kind, words, lines, status):
         self.kind, self.words, self.lines, self.status = kind, words, lines, status
@@ -189,7 +191,7 @@ class Part:
 
 
 def length_of(kind, lines, at, status):
-    """How many lines a command wrote from a place on; a fault is one line. The results are closed behind the whole page."""
+    """Returns how many lines a command wrote from a position on. An error is one line. The results are closed after the whole output."""
     start = at
     while at < len(lines):
         line = lines[at]
@@ -214,10 +216,10 @@ def length_of(kind, lines, at, status):
 
 
 def parts_of(commands, lines, exits):
-    """What each command wrote, or nothing if it can't be told. Lists one after the other count as the first of them."""
+    """Returns the output of each command, or None if that isn't clear. The output of several lists in sequence counts as the first one's."""
     parts, at = [], 0
     if len(commands) == 1:
-        # A line of a close that failed may follow.
+        # A line about a failed close may follow.
         return [Part(*commands[0], lines, exits[0])]
     for place, (kind, words) in enumerate(commands):
         if kind == "list" and place and commands[place - 1][0] == "list":
@@ -234,20 +236,20 @@ KIND_TITLES = [("skipped", "Skipped tests"), ("expected_failure", "Expected fail
 
 
 class Commands:
-    """The commands of a row, and what may follow in them from one refused allocation."""
+    """The commands of an example, and the effects that one failed allocation may have on them."""
 
     def __init__(self, row):
         self.row = row
         self.programs = Program(row)
         self.commands = [command_of(text) for word, text in row.lines if word in ("do", "line")]
         self.after = False
-        # Of what is written where the writer fails, little is seen.
+        # If the writer fails, little of the output is visible.
         self.is_silent = row.has("^(writes? [0-9]|flush fails|error [0-9])")
-        # What the last `test` printed, if memory changed that.
+        # The cases that the last `test` printed, if the failed allocation changed them.
         self.printed = None
 
     def read(self, lines):
-        """The parts of an answer, and what it shows after them."""
+        """Returns the parts of an output, and the lines after them, or None."""
         for place in range(len(lines) - 1, -1, -1):
             if re.fullmatch(r"exit( [0-3])+", lines[place]):
                 exits = [int(n) for n in lines[place].split()[1:]]
@@ -258,14 +260,14 @@ class Commands:
         return None
 
     def fault(self, due_lines, got_lines):
-        """What is wrong with an answer, or nothing."""
+        """Returns what is wrong with an output, or None."""
         if len(self.commands) > 1 and all(kind == "list" for kind, _ in self.commands):
             return self.lists(due_lines, got_lines)
         due, got = self.read(due_lines), self.read(got_lines)
         if not due:
-            return "the due answer isn't understood"
+            return "the expected output isn't understood"
         if not got:
-            return "the commands aren't told apart"
+            return "the outputs of the commands can't be separated"
         for one, other in zip(due[0], got[0]):
             what = self.follows(one, other) if self.after else self.begins(one, other)
             if what:
@@ -273,8 +275,8 @@ class Commands:
         return self.shown(due, got)
 
     def lists(self, due_lines, got_lines):
-        """Of several lists one says that memory ran out, and its exit is 2, or one and all behind it, since the scripted platform keeps a
-        refusal, or one is of a program whose list could not be had."""
+        """Checks several lists. One reports that memory ran out and exits with 2, or one and all after it do, since the scripted platform
+        keeps the error. Or one is of a program whose list could not be read."""
         exits, due_exits = got_lines[-1].split(), due_lines[-1].split()
         changed = [place for place, pair in enumerate(zip(due_exits, exits)) if pair[0] != pair[1]]
         if changed and is_block(due_lines[:-1], got_lines[:-1], [[MEMORY] * len(changed)]):
@@ -285,12 +287,12 @@ class Commands:
         return self.listed(Part("list", [], due_lines, 0), Part("list", [], got_lines, 0))
 
     def are_unmatched(self, due, got):
-        """Whether the filters of some cases match none, since the lists of their programs could not be had."""
+        """Returns `True` if the filters of some cases match no case, since the lists of their programs could not be read."""
         warning = r"kyua: W: No test cases matched by the filter '(.*)'\."
         return self.row.has("^lists ") and [re.sub(warning, r"\1", line) for line in got] == due
 
     def begins(self, due, got):
-        """What is wrong with the first part that differs, if it does."""
+        """Returns what is wrong with a part, up to the first part that differs, or None."""
         if due == got:
             return None
         self.after = True
@@ -300,21 +302,21 @@ class Commands:
             return None
         if got.is_cut() and due.is_cut() and got.kind == "test" and got.cases:
             return self.tested(due, got, False)
-        # A disk in memory fails where it is refused memory.
+        # A disk in memory fails if its allocation fails.
         if self.row.has("^disk ") and got.status == 2 and written.endswith(STORE):
             self.printed = (got.cases, False)
-            return None if whole.startswith(written[:-len(STORE)]) else "what stands before the fault is not a front of what is due"
+            return None if whole.startswith(written[:-len(STORE)]) else "the lines before the error are not a prefix of the expected output"
         if got.is_cut():
             if got.status != 2:
-                return "memory ran out, and the exit is not 2"
+                return "memory ran out, but the exit status is not 2"
             if due.kind == "list":
                 front = 0
-                return None if is_block(due.lines, got.lines, [[MEMORY]]) else "the list is another one"
+                return None if is_block(due.lines, got.lines, [[MEMORY]]) else "another list"
             if got.kind == "test":
                 self.printed = (got.cases, False)
-            # The results are closed behind the whole page.
+            # The results are closed after the whole output.
             front = "\n".join(got.lines)[:-len(MEMORY)]
-            return None if f"{whole}\n".startswith(front) else "what stands before the fault is not a front of what is due"
+            return None if f"{whole}\n".startswith(front) else "the lines before the error are not a prefix of the expected output"
         if got.kind == "list":
             return self.listed(due, got)
         if got.kind == "test":
@@ -323,10 +325,10 @@ class Commands:
             return self.debugged(due, got)
         if got.kind == "report-junit":
             return self.without_output(due, got)
-        return "another answer"
+        return "unexpected output"
 
     def listed(self, due, got):
-        """A program whose list could not be had is one case."""
+        """Checks that a program whose list could not be read is one case."""
         if got.status != due.status and not any("kyua: W: " in line for line in got.lines):
             return "another exit"
         for place, line in enumerate(got.lines):
@@ -342,7 +344,7 @@ class Commands:
         return {case[1] for line in self.row.due.split("\n") for case in [case_of(line)] if case}
 
     def tested(self, due, got, is_after):
-        """One case has the reason that memory gives it; the totals and the exit follow."""
+        """Checks that one case has the reason of a failed allocation, and that the totals and the exit status agree."""
         changed, place = 0, 0
         for name, verdict, _ in got.cases:
             while place < len(due.cases) and due.cases[place][0] != name and name.endswith(":__test_cases_list__") and \
@@ -358,17 +360,17 @@ class Commands:
                     place += 1
                     continue
                 path = name.rpartition(":")[0]
-                # A run that its store ends has cases that are not due.
+                # A run that ends by its store may have cases that are not expected.
                 if due.ending()[:1] == ["kyua: E: results store failed"] and path.rpartition("/")[2] in self.programs.kinds:
                     continue
-                # The one case of a program whose list could not be had.
+                # The one case of a program whose list could not be read.
                 if not name.endswith(":__test_cases_list__") or place >= len(due.cases) or due.cases[place][0].rpartition(":")[0] != path:
-                    return f"a case that is not due: {name}"
+                    return f"an unexpected case: {name}"
                 for _ in range(len(due.cases) - len(got.cases) + 1):
                     if place < len(due.cases) and due.cases[place][0].rpartition(":")[0] == path:
                         place += 1
                 continue
-            # A child behind a start that was refused lives as the one before it was to live.
+            # A child after a rejected start has the outcome of the child before it.
             if same and (changed or is_after) and verdict in self.verdicts():
                 place += 1
                 continue
@@ -390,12 +392,12 @@ class Commands:
         return None
 
     def debugged(self, due, got):
-        """One case, of which an output may be left out."""
+        """Checks one case, an output of which may be missing."""
         if not got.cases:
             unmatched = got.lines and got.lines[-1].startswith("kyua: W: ") and len(got.lines) == 1 and got.status == 1
             return None if unmatched and self.row.has("^lists ") else "no case"
         if not due.cases:
-            return "a case that is not due"
+            return "an unexpected case"
         name, verdict, _ = got.cases[0]
         due_name, due_verdict, _ = due.cases[0]
         whole, front = "\n".join(due.lines), "\n".join(got.lines)
@@ -409,7 +411,7 @@ class Commands:
         return None if got.status == (0 if good else 1) else f"exit {got.status}"
 
     def without_output(self, due, got):
-        """A report of a case whose output was read without memory lacks it."""
+        """Checks a report in which the output of a case is missing, since its allocation failed."""
         rest = list(due.lines)
         for line in got.lines:
             while rest and rest[0] != line:
@@ -422,7 +424,7 @@ class Commands:
         return None if not rest and got.status == due.status else "another report"
 
     def follows(self, due, got):
-        """What is wrong with a part behind the first one that differed."""
+        """Returns what is wrong with a part after the first one that differed, or None."""
         if due == got:
             return None
         if due.status == 2 and got.status == 2 and due.lines[-1] == got.lines[-1] and due.kind.startswith("report"):
@@ -433,7 +435,7 @@ class Commands:
             return self.tested(due, got, True)
         if got.kind in ("list", "debug"):
             return None if [line.partition("  [")[0] for line in got.lines] == [line.partition("  [")[0] for line in due.lines] and \
-                got.status == due.status else "another answer"
+                got.status == due.status else "unexpected output"
         if len(got.lines) == 1 and re.fullmatch(r"kyua: E: no run(s| \d+)", got.lines[0]):
             return None if got.status == 2 and not (self.printed and self.printed[0] and not any("--run" in w for w in got.words)) else \
                 "there is such a run"
@@ -444,14 +446,14 @@ class Commands:
         return self.junit(got) if got.kind == "report-junit" else self.report(got)
 
     def recorded(self, words):
-        """The cases that a report must have, if that is known: of the last run."""
+        """Returns the cases of the last run, which a report must have, or None if they aren't known."""
         if self.printed is None or any(word.startswith("--run") for word in words) or \
                 sum(kind == "test" for kind, _ in self.commands) > 1:
             return None
         return [(name, verdict) for name, verdict, _ in self.printed[0]]
 
     def report(self, got):
-        """A report agrees with itself, and with what was printed as it was recorded."""
+        """Checks that a report agrees with itself and with the lines that `test` printed."""
         kinds, section, counts, shown_cases = {}, None, {}, []
         for line in got.lines:
             case = case_of(line)
@@ -460,7 +462,7 @@ class Commands:
             elif case and section != "Summary":
                 kind = re.match(KINDS, case[1]).group(0)
                 if section != dict(KIND_TITLES)[kind]:
-                    return f"{case[0]} stands under {section}"
+                    return f"{case[0]} is in the section {section}"
                 kinds[kind] = kinds.get(kind, 0) + 1
                 shown_cases.append(case[:2])
         match = [re.fullmatch(r"Test cases: (\d+) total, (\d+) skipped, (\d+) expected failures, (\d+) broken, (\d+) failed", line)
@@ -478,7 +480,7 @@ class Commands:
         if total != len(recorded) or any(counts[kind] != sum(verdict.startswith(kind) for _, verdict in recorded) for kind in counts):
             return "a summary of other cases than were printed"
         if any(case not in recorded for case in shown_cases):
-            return "a case that was not printed so"
+            return "a case that was printed with another verdict"
         is_open = any(line.startswith("Run ") and line.endswith(", unfinished") for line in got.lines)
         return "the run is finished" if is_open == self.printed[1] else None
 
@@ -497,7 +499,7 @@ class Commands:
         return None
 
     def shown(self, due, got):
-        """What is wrong with what is shown behind the exits."""
+        """Returns what is wrong with the lines after the exit statuses, or None."""
         due_lines, got_lines = list(due[1]), list(got[1])
         if due_lines == got_lines:
             return None
@@ -508,7 +510,7 @@ class Commands:
                 return "other calls of the system"
         if due[0] == got[0] and is_block(due_lines, got_lines, [["NoMemory"]]):
             return None
-        # Nothing is seen of what was refused.
+        # The failed allocation has no visible effect.
         if not self.after and not self.is_silent and not any(part.is_cut() and not part.cases for part in due[0]):
             return "other runs are shown"
         if self.row.has("^disk sound"):
@@ -530,10 +532,10 @@ class Commands:
 
 
     def stored(self, due, got):
-        """All that the tables hold: the cases that were printed, as they were, and an end if the run had one."""
+        """Checks that the tables contain the printed cases, and the end of the run if it had an end."""
         cases, is_done = self.printed or ([], False)
         if got in ([], [""]):
-            return "the run is not there" if cases else None
+            return "the run is missing" if cases else None
         found = [match for match in map(STORED.fullmatch, got) if match]
         if [match.group(1, 2) for match in found] != [case[:2] for case in cases]:
             return "other entries are stored than printed"
@@ -548,7 +550,7 @@ STORED = re.compile(r"\d+ ([^ ]+:[^ ]+) ((?:" + KINDS + r")(?:: .*?)?), started 
 
 
 def is_left_out(outputs, whole):
-    """Whether outputs are those of another text, of which some pieces, one after the other, are left out."""
+    """Returns `True` if outputs are another text without one part."""
     if outputs == whole:
         return True
     for size in range(len(outputs) + 1):
@@ -558,7 +560,7 @@ def is_left_out(outputs, whole):
 
 
 def unfolded(line):
-    """The calls of a line: `poll 0 x3` and `(poll 0, pause) x99` are so many."""
+    """Returns the calls of a line, in which `poll 0 x3` and `(poll 0, pause) x99` repeat calls."""
     calls = []
     for part in re.findall(r"\([^)]*\)(?: x\d+)?|[^,]+", line):
         part = part.strip()
@@ -570,7 +572,7 @@ def unfolded(line):
 
 
 def is_within(some, all_of):
-    """Whether these are among others, in their order."""
+    """Returns `True` if some items are a subsequence of others."""
     rest = iter(all_of)
     return all(any(one == other for other in rest) for one in some)
 
@@ -579,14 +581,14 @@ ENTRY = re.compile(r"(\d+) (?:([^ ]+:[^ ]+) )?((?:" + KINDS + r")(?:: .*?)?)((?:
 
 
 class System:
-    """A plan over a scripted system: its sections in the order of `show`."""
+    """A plan on a scripted system: its sections in the order of `show`."""
 
     def __init__(self, row):
         self.row = row
         self.letters = unescaped((row.texts("plan") or [""])[0])
         self.words = (row.texts("show") or ["entries"])[0].split()
         self.changed = {}
-        # Whether some case has a reason that memory gives it.
+        # `True` if some case has the reason of a failed allocation.
         self.shortage = False
 
     def reasons(self, position, due=""):
@@ -597,13 +599,13 @@ class System:
         return found
 
     def sections(self, lines):
-        """The lines of each section, and the fault behind them."""
+        """Returns the lines of each section and the error after them, or None."""
         found, at, lines = [], 0, list(lines)
         fault = lines.pop() if lines and lines[-1] in ("out of memory", "failed") else None
         for word in self.words:
             start = at
             if word in ("calls", "words", "watching", "spawned", "totals", "left"):
-                # Nothing was asked, and nothing stands in front of it.
+                # There was no call, so no line comes before the entries.
                 at += not (at == 0 and at < len(lines) and (ENTRY.fullmatch(lines[at]) or
                            word != "totals" and re.fullmatch(r"\d+ of \d+ passed(, .*)?", lines[at])))
             elif word == "spawns":
@@ -621,7 +623,7 @@ class System:
         return (found, fault) if at == len(lines) else None
 
     def fault(self, due, got):
-        """A plan is run for each `fails`, and one run differs from what is due."""
+        """Checks that one run of a plan differs from the expected output. A plan runs once for each `fails`."""
         size = len(due) // max(1, len(self.row.texts("fails")))
         for at in range(0, len(due), size):
             rest = due[at + size:]
@@ -634,7 +636,7 @@ class System:
     def run_fault(self, due_lines, got_lines):
         due, got = self.sections(due_lines), self.sections(got_lines)
         if not due or not got:
-            return "the sections aren't told apart"
+            return "the sections can't be separated"
         if got[1] != due[1] and got[1] != "out of memory":
             return "another end"
         ends = got[1] == "out of memory" != due[1]
@@ -650,7 +652,7 @@ class System:
         if not ends and not self.changed and not self.shortage and due[0] != got[0] and \
                 any(one != other for (word, one), (_, other) in zip(due[0], got[0]) if word not in ("outputs", "marks")) and \
                 any(word in ("entries", "cases") for word in self.words):
-            return "no entry says why"
+            return "no entry has the reason"
         return None
 
     def entries(self, due, got, ends):
@@ -667,21 +669,21 @@ class System:
                 return f"another case: {second[key].group(0)}"
             position = int(key)
             verdict, due_verdict = second[key].group(3), first[key].group(3)
-            # A cleanup that isn't started changes nothing of a case that is bad without it.
+            # A cleanup that isn't started doesn't change a case that is bad without it.
             self.shortage |= verdict in self.reasons(position, due_verdict) or \
                 "c" in self.letters and bool(re.match("failed|broken", due_verdict))
             if verdict != due_verdict:
                 if verdict in self.reasons(position, due_verdict) and not self.changed:
                     self.changed[position] = verdict
                 elif (self.changed or self.shortage and self.row.has("^fails ")) and verdict in self.lives():
-                    # A start that the call of this number was to fail may be refused for memory: then another call has the number.
+                    # If the allocation for a start fails, another call has the number of the call that should fail.
                     continue
                 else:
                     return f"{position} is {verdict}"
         return None
 
     def stopped(self, due, got):
-        """As many entries as are put before the one that fails, one of them with a reason that memory gives."""
+        """Checks the entries before the put that fails. One of them may have the reason of a failed allocation."""
         self.shortage = True
         found = [match for match in map(ENTRY.fullmatch, got) if match]
         if len(found) != len(got) or len(got) != len(due) or len({match.group(1) for match in found}) != len(found):
@@ -692,10 +694,10 @@ class System:
         return None
 
     def lives(self):
-        """What a case of this row may come to: children behind a start that was refused live as the ones before them were to."""
+        """Returns the possible verdicts of a case: children after a rejected start have the outcomes of the children before them."""
         found = {match.group(3) for match in map(ENTRY.fullmatch, self.row.due.split("\n")) if match}
         if self.row.has("^(fails|refuses) "):
-            # Calls are refused by their number, and there are fewer of them.
+            # Calls fail by their number, and there are fewer calls.
             found |= {"broken: Test case timed out", "broken: Work directory could not be made", "broken: Output files could not be made",
                       "broken: Test program could not be started", "broken: Test case could not be waited for", "passed", START}
         return found
@@ -741,14 +743,14 @@ OUTPUT = re.compile(r"(out|err)=(.*?)(?=, err=|, cleanup out=|, cleanup err=|\no
 
 
 def is_left_out_lines(got, due):
-    """Whether some outputs are empty, and all others as they are due."""
+    """Returns `True` if some outputs are empty, and all others are as expected."""
     one, other = OUTPUT.findall(due), OUTPUT.findall(got)
     return len(one) == len(other) and all(field[0] == due_field[0] and field[1] in ("", due_field[1])
                                           for field, due_field in zip(other, one))
 
 
 def schedule_fault(row, due_lines, got_lines):
-    """A run stops at a put that was refused memory: then nothing starts but cleanups that are owed, and what runs ends."""
+    """Checks that a run stops at a put whose allocation failed. Then only pending cleanups start, and all running cases end."""
     if is_block(due_lines, got_lines, [["out of memory"]]):
         return None
     if row.texts("brief") or any(word == "brief" for word, _ in row.lines):
@@ -766,10 +768,10 @@ def schedule_fault(row, due_lines, got_lines):
     while front < min(len(due), len(got)) and due[front] == got[front]:
         front += 1
     if any(call.startswith("start ") and not call.startswith("start cleanup") for call in got[front:]):
-        return "a case starts behind a put that was refused"
+        return "a case starts after a failed put"
     started = [call[6:] for call in got if call.startswith("start ")]
     ended = [call[4:] for call in got if call.startswith("end ")]
-    return None if got == [""] or sorted(set(ended)) == sorted(set(call for call in started if call in ended)) else "what runs doesn't end"
+    return None if got == [""] or sorted(set(ended)) == sorted(set(call for call in started if call in ended)) else "a running case doesn't end"
 
 
 REFUSALS = {
@@ -779,12 +781,12 @@ REFUSALS = {
 
 
 def fault_of(row, status, text):
-    """What is wrong with an answer, or nothing."""
+    """Returns what is wrong with an output, or None."""
     if os.WIFSIGNALED(status):
         return f"ended by signal {os.WTERMSIG(status)}"
     code = os.WEXITSTATUS(status)
     if code in (0, 2):
-        # It is due, or the file could not be read or the count not printed.
+        # The output is as expected, or the file could not be read, or the count could not be printed.
         return None if not text else f"exit {code}"
     if code != 1:
         return f"exit {code}"
@@ -796,7 +798,7 @@ def fault_of(row, status, text):
         return text
     wanted, got = shown(match.group(1)), shown(match.group(2))
     if not row.due.endswith(wanted):
-        return "the due answer is not the row's"
+        return "the expected output is not the example's"
     got_lines = (row.due[:len(row.due) - len(wanted)] + got).split("\n")
     return difference(row, row.due.split("\n"), got_lines)
 
@@ -810,7 +812,7 @@ def difference(row, due, got):
         return system_fault(row, due, got)
     if row.subject == "schedules":
         return schedule_fault(row, due, got)
-    return "another answer"
+    return "unexpected output"
 
 
 def commands_fault(row, due, got):
@@ -822,7 +824,7 @@ def commands_fault(row, due, got):
         due, got = due[1:], got[1:]
     if row.texts("writes") == ["each"] and any(line.startswith("at write ") for line in got):
         at = next(n for n, line in enumerate(got) if line.startswith("at write "))
-        # Memory ran out with a sound writer, and each other run is compared with that one, or where a write failed.
+        # Memory ran out in the run with a working writer, with which each other run is compared, or in the run whose write failed.
         what = got[:at] != due and Commands(row).fault(due, got[:at])
         return what or cut_fault(row, due, got[at + 1:], got[:at] == due)
     return Commands(row).fault(due, got)
@@ -832,21 +834,21 @@ STOPS = r"attach \d+|begin|put \d+|finish|, .*"
 
 
 def are_stops(due, got):
-    """Whether a command was stopped where it is due, up to the one that memory ended, or by one failure of the disk more."""
+    """Returns `True` if a command stopped as expected, up to the stop of the failed allocation or of one more disk failure."""
     if len(got) != 1 or len(due) != 1:
         return False
     match = re.fullmatch(r"(.*), out of memory", got[0])
     if match:
         return due[0].startswith(match.group(1))
     one, other = (re.findall(STOPS, line) for line in (due[0], got[0]))
-    # The command without a failure of the disk ended there itself.
+    # The command without a disk failure ended there, too.
     if other == one[:len(other) - 1] + [", then not"]:
         return True
     return any(other == one[:at] + [other[at]] + one[back:] for at in range(1, min(len(one), len(other))) for back in (at - 1, at))
 
 
 class Tested:
-    """What a `test` printed, and the entries that its store has, both as names and verdicts."""
+    """The cases that a `test` printed and the entries of its store, both as names and verdicts."""
 
     def __init__(self, row, lines):
         behind = next((at for at, line in enumerate(lines) if re.fullmatch(r"run \d+ at \d+, \d+ cases", line)), len(lines))
@@ -858,13 +860,13 @@ class Tested:
         self.outputs = [(name, re.split(r"\n(\d+ |unfinished|finished)", text)[0]) for name, text in OUTPUT.findall("\n".join(lines[behind:]))]
 
     def is_recorded(self):
-        """Whether each case that was printed is recorded, and at the most one more."""
+        """Returns `True` if each printed case is recorded, and at most one more."""
         return self.entries[:len(self.cases)] == self.cases and len(self.entries) - len(self.cases) in (0, 1)
 
 
 def are_told(row, due, got):
-    """Whether of the `test` without a failure of the disk and the one with it one was refused memory once: it ended there, or has a case
-    that says so, or an output that is empty. They differ in that, and in the lives of the children behind it."""
+    """Returns `True` if one allocation failed in a `test` without or with a disk failure. That `test` ended there, or it has a case with this
+    reason or with an empty output. The two differ only in this case, and in the outcomes of later children."""
     if "whole" not in got or "cut" not in got or not set(re.findall(STOPS, got[0].split(", and then ")[0])) <= set(re.findall(STOPS, due[0])):
         return False
     at, behind = got.index("whole"), got.index("cut")
@@ -875,7 +877,7 @@ def are_told(row, due, got):
         lives.add(f"failed: Returned non-success exit status {number}" if word == "exited" else f"broken: Received signal {number}")
     all_entries = whole.entries + cut.entries
     refused = [entry for entry in all_entries if entry[1] in programs.reasons(entry[0])]
-    # A disk in memory fails where it is refused memory, without another failure.
+    # A disk in memory fails if its allocation fails, without another failure.
     has_ended = whole.is_cut or whole.has_failed
     emptied = [pair for pair in zip(whole.outputs, cut.outputs) if pair[0] != pair[1]]
     has_lost = not refused and len(emptied) == 1 and any(text == "" for _, text in emptied[0])
@@ -885,7 +887,7 @@ def are_told(row, due, got):
 
 
 def cut_fault(row, due, got, has_memory):
-    """Where a write failed no more is written than is due, or, if memory ran out there, than a fault behind a front of it."""
+    """Checks the output up to a failed write. It is a prefix of the expected output. If memory ran out, an error may follow the prefix."""
     last = lambda lines: max((n for n, line in enumerate(lines) if re.fullmatch(r"exit( [0-3])+", line)), default=None)
     at, due_at = last(got), last(due)
     if at is None:
@@ -894,27 +896,27 @@ def cut_fault(row, due, got, has_memory):
         return "the last exit is not 2"
     page, whole = "\n".join(got[:at]).removesuffix("(cut)"), "\n".join(due[:due_at])
     if not has_memory:
-        return None if whole.startswith(page) and got[at + 1:] == due[due_at + 1:] else "more than the front of what is due"
+        return None if whole.startswith(page) and got[at + 1:] == due[due_at + 1:] else "more than a prefix of the expected output"
     if whole.startswith(page):
         return None
     front = os.path.commonprefix([page, whole])
     rest = [page[size:] for size in range(len(front) + 1)]
     if any(text.startswith(MEMORY) or MEMORY.startswith(text) for text in rest):
         return None
-    # An output is left out.
+    # An output is missing.
     lines = [at for at in range(len(front) + 1) if at == 0 or whole[at - 1] == "\n"]
     if row.has("^holds [^ ]*(out|err) ") and any(whole[at:].startswith(page[start:]) for start in lines for at in lines_behind(whole, start)):
         return None
-    # A case has a reason that memory gives it, or as much of it as was written, and what follows is another page.
+    # A case has the reason of a failed allocation, or the written part of it, and the rest of the output differs.
     reasons = (START, LIST, RESULT, CLEANUP, STREAM)
     verdict = page.rpartition("\n")[2].partition("  ->  ")[2]
     if any(reason in page for reason in reasons) or verdict and any(reason.startswith(verdict) for reason in reasons):
         return None
-    return None if "__test_cases_list__" in page else "more than the front of what is due"
+    return None if "__test_cases_list__" in page else "more than a prefix of the expected output"
 
 
 def lines_behind(text, start):
-    """Where lines begin behind a place."""
+    """Returns the positions at which lines begin, from a position on."""
     return [at for at in range(start, len(text)) if at == start or text[at - 1] == "\n"]
 
 
@@ -934,7 +936,7 @@ def system_fault(row, due, got):
 
 
 def answers_of(path):
-    """The answers in a file of refuse_each.c: the first allocation, how often, the status and the text of each."""
+    """Yields the outputs in a file of refuse_each.c: the first allocation, the number of allocations, the status and the text."""
     with open(path, "rb") as file:
         text = file.read()
     at = 0
