@@ -1,17 +1,17 @@
-// Refuses the allocations of a program in turn, for a preload: the program goes on as it is, and at each place that is tried a copy of
-// it goes on in which this one allocation is refused. An answer is what a copy writes to standard error, with its status for wait.
+// Makes the allocations of a program fail in turn, for a preload. The program itself continues unchanged. At each allocation that is tried,
+// a copy of the program continues in which this allocation fails. An answer is what a copy writes to standard error, with its wait status.
 //
-// COUNTED       a file that takes how many allocations the program makes; with BY_PLACE, behind it how many of them PLACES would try,
+// COUNTED       a file that gets the number of the program's allocations. With BY_PLACE it also gets how many of them PLACES would try,
 //               and then a line HASH COUNT for each place in the code
-// ANSWERS       a file that takes the answers, each once: a line FIRST TIMES STATUS BYTES, with the number of the first allocation that
-//               has it and how many have it, then these bytes and a newline. The last line is TRIED SECONDS, over all copies
-// FROM, STEP    which are tried: the one of the number FROM, counted from 1, and every one STEP further
-// PLACES        a file that COUNTED made by BY_PLACE. Of the allocations from one place in the code the first four are tried, the
-//               last, those whose number among them is a power of two, and some four in between; of all these one in EVERY
-// COPY_SECONDS  how many processor seconds a copy has; one that takes more is ended by SIGVTALRM
+// ANSWERS       a file that gets the answers, each once: a line FIRST TIMES STATUS BYTES, then these bytes and a newline. FIRST is the
+//               first allocation with this answer, and TIMES how many have it. The last line is TRIED SECONDS, over all copies
+// FROM, STEP    the first allocation that is tried, counted from 1, and the distance to the next ones
+// PLACES        a file that COUNTED wrote with BY_PLACE. Of the allocations from one place in the code it tries the first four, the last,
+//               those whose number among them is a power of two, and about four in between; of all these one in EVERY
+// COPY_SECONDS  the limit of a copy in processor seconds; SIGVTALRM ends a copy that takes more
 //
-// A place in the code is the list of return addresses on the stack. They are found without the sizes of frames: the next word that lies
-// behind a call of the function in which the last one lies, or behind a call of what a register names.
+// A place in the code is the list of return addresses on the stack. They are found without the sizes of frames. The next return address is
+// the next word that points after a call. That call goes to the function that contains the last address, or through a register.
 #define _GNU_SOURCE
 #include <dlfcn.h>
 #include <elf.h>
@@ -37,7 +37,7 @@ enum { LONGEST = 1 << 26, ANSWERS = 1 << 16, KEPT = 1 << 30, PLACES = 1 << 20 };
 
 struct place { uint64_t hash, all, seen; };
 struct answer { uint64_t hash, first, times, from, bytes; int status; };
-// What a copy has written so far.
+// The text that a copy has written so far.
 struct page { uint64_t bytes; char text[LONGEST]; };
 
 extern void *__libc_stack_end;
@@ -53,7 +53,7 @@ static char *texts;
 static struct page *page;
 static int is_copy;
 static const unsigned char *code, *behind_code, *loaded;
-// Where functions begin, in their order.
+// The addresses of functions, in their order.
 static const unsigned char **functions;
 static size_t function_count;
 
@@ -62,7 +62,7 @@ static void *room_for(size_t bytes)
     void *room = mmap(NULL, bytes, PROT_READ | PROT_WRITE, MAP_PRIVATE | MAP_ANONYMOUS | MAP_NORESERVE, -1, 0);
     if (room == MAP_FAILED)
         _exit(99);
-    // No copy looks at it.
+    // No copy reads it.
     madvise(room, bytes, MADV_DONTFORK);
     return room;
 }
@@ -86,7 +86,7 @@ static int compare(const void *one, const void *other)
     return first < second ? -1 : first > second;
 }
 
-// Reads where functions begin, from the table of symbols.
+// Reads the addresses of functions from the symbol table.
 static void read_functions(void)
 {
     int file = open("/proc/self/exe", O_RDONLY);
@@ -112,7 +112,7 @@ static void read_functions(void)
     munmap((void *)bytes, found.st_size);
 }
 
-// Where the function begins that has this place.
+// Returns the address of the function that contains this address.
 static const unsigned char *function_of(const unsigned char *at)
 {
     size_t low = 0, high = function_count;
@@ -153,7 +153,7 @@ static uint64_t number_in(const char *name, uint64_t other)
     return text ? strtoull(text, NULL, 10) : other;
 }
 
-// Of what the loader asks for before it runs this, nothing is refused.
+// The allocations that the loader makes before this function don't fail.
 __attribute__((constructor)) static void begin(void)
 {
     const char *sum = getenv("COUNTED"), *file = getenv("ANSWERS"), *list = getenv("PLACES");
@@ -196,13 +196,13 @@ static uint64_t mixed(uint64_t hash, uint64_t with)
     return hash ^ hash >> 29;
 }
 
-// Whether an allocation is tried that is the one of this number from its place in the code, of so many.
+// Returns 1 if the allocation with this number from its place in the code is tried, of all allocations from this place.
 static int is_chosen(uint64_t number, uint64_t all)
 {
     return number <= 4 || number == all || (number & (number - 1)) == 0 || mixed(number, all) % all < 4;
 }
 
-// How many allocations are tried of all places.
+// Returns how many allocations of all places are tried.
 static uint64_t count_of_chosen(void)
 {
     uint64_t sum = 0;
@@ -217,7 +217,7 @@ __attribute__((destructor)) static void end(void)
     FILE *file;
     if (is_copy)
         return;
-    // What is asked for below counts for nothing.
+    // The allocations below don't count.
     is_copy = 1;
     if (*counted && (file = fopen(counted, "w"))) {
         fprintf(file, "%lu %lu\n", count, places ? count_of_chosen() : count);
@@ -237,7 +237,8 @@ __attribute__((destructor)) static void end(void)
     }
 }
 
-// Whether a place lies behind a call of this function, or of any if it is none, or of what a register or the memory names.
+// Returns 1 if an address comes after a call of this function, or of any function if it is NULL. A call through a register or through
+// memory counts, too.
 static int is_behind_call(const unsigned char *back, const unsigned char *function)
 {
     int32_t far;
@@ -250,7 +251,7 @@ static int is_behind_call(const unsigned char *back, const unsigned char *functi
         (back[-6] == 0xff && back[-5] == 0x15);
 }
 
-// Where in the code the program is.
+// Returns the hash of the program's place in the code.
 static uint64_t here(void)
 {
     uint64_t hash = 1;
@@ -266,7 +267,7 @@ static uint64_t here(void)
     return hash | 1;
 }
 
-// Keeps an answer, once.
+// Records an answer once, and counts it.
 static void keep(int status)
 {
     uint64_t hash = mixed(7, status), n;
@@ -287,14 +288,14 @@ static void keep(int status)
     answers[n].times++;
 }
 
-// Lets a copy go on, and returns whether this is the copy.
+// Starts a copy and waits for it. Returns 1 in the copy, and 0 in the program.
 static int goes_on_as_copy(void)
 {
     off_t at[13];
     struct rusage used;
     int status = -1, file;
     pid_t copy;
-    // The files that both have open have one place between them.
+    // Both share the positions of their open files.
     for (file = 3; file < 16; file++)
         at[file - 3] = lseek(file, 0, SEEK_CUR);
     page->bytes = 0;
@@ -335,7 +336,7 @@ static int is_refused(void)
     return 1;
 }
 
-// What a copy writes is kept, but for what it writes to standard output.
+// Records what a copy writes to standard error. Drops what it writes to standard output.
 ssize_t write(int file, const void *bytes, size_t length)
 {
     if (!is_copy || !page || (file != 1 && file != 2))
