@@ -4,11 +4,11 @@
 #   mutants-rejected.sh                     all mutants
 #   mutants-rejected.sh CRATE..             the mutants of these crates; CRATE/MUTANT is one mutant
 #
-# Prints for each mutant that the prover rejects it, with the first goal that fails, that it is NOT REJECTED, or why it could not be
-# applied. It prints the mutants of a crate once it tried all of them. The last line is 'N passed, M failed', over the mutants. Exits
-# with 0 if M is 0, with 2 if there is no rt, with 3 on an unknown option, else with 1.
+# Prints a line for each mutant: "rejected" with the first goal that fails, "NOT REJECTED", or why it could not be applied. The lines of a
+# crate come once all its mutants were tried. The last line is 'N passed, M failed', over the mutants. Exits with 0 if M is 0, with 2 if
+# there is no rt, with 3 on an unknown option, else with 1.
 #
-# The script works on a copy of the checkout, with the results of the last check of each crate in out/, so prove the crates first.
+# The script works on a copy of the checkout, with the results of the last check of each crate in out/. So prove the crates first.
 # One check tries mutants of different functions, since a function is proved from its own body and the contracts of its callees.
 # If that check reports nothing about a mutant, the script tries the mutant alone, in 20 to 60 processor seconds. A mutant that is
 # accepted then is tried again without earlier results.

@@ -1,6 +1,6 @@
 #!/bin/sh
-# Measures a suite of 60 seconds in 1, 2 and 4 shares. Each row has the seconds of the longest share if the programs are dealt in turn and
-# if they are divided by time, and the seconds of `kyua-tools cluster` by GNU parallel and by Slurm. A tool that isn't installed is skipped.
+# Measures a suite of 60 seconds in 1, 2 and 4 shares. Each row has the seconds of the longest share, if the programs are dealt in turn
+# and if they are divided by time. Then it has the seconds of `kyua-tools cluster` by GNU parallel and by Slurm. A tool that isn't installed is skipped.
 # The script needs sqlite3.
 set -eu
 . "$(dirname "$0")/../scratch.sh"

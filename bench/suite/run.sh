@@ -1,5 +1,6 @@
 #!/usr/bin/env bash
-# Measures how long trees of 250, 500 and 1,000 Kyuafiles with ten programs each take to load from memory, and a tree of 1,000 from files.
+# Measures how long trees of 250, 500 and 1,000 Kyuafiles take to load from memory, and a tree of 1,000 from files. A Kyuafile has ten
+# programs.
 # Twice as many files should take about twice the time. Then it measures another `kyua list` on the same files, if one is installed. It
 # works in a temporary copy of the checkout.
 set -eu
