@@ -4,7 +4,7 @@
 usage: prose.py
 
 Prints each place that breaks a rule, and each wrong text that its rule doesn't find. The last line is 'N passed, M failed', over the
-rules and these texts. Exits with 0 if M is 0, else with 1. It reads only files that git tracks, and changes nothing.
+rules and these texts. Exits with 0 if M is 0, else with 1. It reads the files of the checkout, and changes nothing.
 
 Rules:
   sentence  a sentence of a page has at most 30 words
@@ -18,7 +18,6 @@ The first four rules skip text between backquotes or quotation marks, since it i
 import collections
 import os
 import re
-import subprocess
 import sys
 
 SENTENCE_WORDS = 30
@@ -119,7 +118,10 @@ WRONG = [
 def main():
     top = os.path.dirname(os.path.dirname(os.path.abspath(__file__)))
     os.chdir(top)
-    listed = subprocess.run(["git", "ls-files"], capture_output=True, text=True, check=True).stdout.split("\n")
+    listed = []
+    for folder, folders, names in os.walk("."):
+        folders[:] = [it for it in folders if it not in ("out", ".git")]
+        listed += [os.path.join(folder, name)[2:] for name in names]
     files = {}
     for path in listed:
         if path.endswith((".md", ".rt", ".antt")) and os.path.isfile(path):
