@@ -1,7 +1,8 @@
 #!/usr/bin/env bash
-# Tests this repository from scratch. `rt ci` checks all proofs, the mutants of must-fail, the examples and the program. Then come the
-# searches for effects without a contract, for definitions that no caller needs and for wrong names in pages. Then each example runs
-# in a separate process. Last come the suite, with the program that was proved, and the program in dist/, if there is one.
+# Tests this repository from scratch. `rt ci` checks all proofs, the mutants of must-fail, the examples and the program. Each mutant must
+# be rejected at the goal that mutants-clauses.txt names. Then come the searches for effects without a contract, for definitions that no
+# caller needs and for wrong names in pages. Then each example runs in a separate process. Last come the suite, with the program that
+# was proved, and the program in dist/, if there is one.
 #
 #   test.sh
 #
@@ -74,6 +75,8 @@ part() {
 memory=$(sed -n 's/^MemAvailable: *\([0-9]*\) kB$/\1/p' /proc/meminfo)
 [ "$((memory / $(nproc)))" -lt 5000000 ] || export RT_JOBS="${RT_JOBS:-$(nproc)}"
 part 'proofs, mutants and examples' "'rt check' in the crate's directory, 'rt must-fail NAME', scripts/rows.sh" rt ci
+cp "$room/log" "$room/mutants"
+part 'clauses of the mutants' 'scripts/clauses.py LOG' scripts/clauses.py "$room/mutants"
 part 'effects without a contract' scripts/faults.sh scripts/faults.sh
 part 'definitions' scripts/definitions.sh scripts/definitions.sh
 part 'pages' scripts/documents.sh scripts/documents.sh
