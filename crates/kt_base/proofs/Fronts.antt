@@ -101,7 +101,7 @@ past_fault bytes n valid =
     ap lossy (sym (take-append-drop n bytes)) ∙ (λ i. lossy (sym u.1.1 i ++ after i)) ∙ past_text u.0 _ u.1.0
     ∙ (λ i. chars_from_encodes u.0 (take n bytes) u u.1.1 i ++ past_byte b (drop (suc n) bytes) none i)
 
--- one step of the decoder, over valid bytes or up to an invalid byte, keeps the whole text
+-- decoding the next bytes, valid bytes or up to an invalid byte, preserves the final text
 pub all_text : (old new bytes : List ℕ) → IsUtf8 bytes → new ≡ old ++ chars bytes → new ++ lossy [] ≡ old ++ lossy bytes
 unfolding lossy_after
 all_text old new bytes u pushed =

@@ -18,11 +18,11 @@ pub next_part : (front : List ℕ) (parts : List (Bor (List ℕ))) (i : ℕ) (d 
 next_part front parts i d few =
     ap (λ (k : ℕ). joined_behind (front ++ (get_or parts i d).now) (lent (drop k parts))) (add-one i) ∙ sym (ap (λ (ps : List (Bor (List ℕ))). joined_behind front (lent ps)) (drop-cons parts i d few))
 
--- the front, the next part and the parts after it make the whole
+-- `front`, the next part and the parts after it, concatenated, are `whole`
 pub next_cut : (front : List ℕ) (parts : List (Bor (List ℕ))) (i : ℕ) (d : Bor (List ℕ)) (whole : List ℕ) → i < length parts → joined_behind front (lent (drop i parts)) ≡ whole
     → (front ++ (get_or parts i d).now) ++ joined (lent (drop (i + 1) parts)) ≡ whole
 next_cut front parts i d whole few e = sym (joined_behind_is (front ++ (get_or parts i d).now) (lent (drop (i + 1) parts))) ∙ next_part front parts i d few ∙ e
 
--- the front is the whole if no part remains
+-- `front` is `whole` if no part remains
 pub no_part : (front : List ℕ) (parts : List (Bor (List ℕ))) (i : ℕ) (whole : List ℕ) → length parts ≤ i → joined_behind front (lent (drop i parts)) ≡ whole → front ≡ whole
 no_part front parts i whole all e = sym (ap (λ (ps : List (Bor (List ℕ))). joined_behind front (lent ps)) (drop_of_length-le parts all)) ∙ e

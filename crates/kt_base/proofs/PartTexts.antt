@@ -15,11 +15,11 @@ one_number_text head lead first tail = rw chars-nil refl
 pub two_numbers_text : (head first between second tail : List ℕ) → head ++ (chars [] ++ (first ++ (between ++ (second ++ tail)))) ≡ head ++ (first ++ (between ++ (second ++ tail)))
 two_numbers_text head first between second tail = rw chars-nil refl
 
--- the parts of a phrase without outcome and numbers make its text
+-- a text that is the message of a phrase without outcome and numbers is the phrase's text
 pub phrase_alone : (text head : List ℕ) (phrase : Phrase) → text ≡ chars head → head ≡ phrase_text phrase → text ≡ phrase_text phrase
 phrase_alone text head phrase e h = rw (e, h) (chars-phrase phrase)
 
--- the parts of a phrase with an outcome make its text
+-- the concatenated parts of a phrase with an exit status or a signal are its text
 pub exited_text : (text head : List ℕ) (phrase : Phrase) (ending : Outcome) (code : ℕ) → text ≡ chars head ++ (chars (codes "exited with code ") ++ (decimal code ++ chars []))
     → head ≡ phrase_text phrase → ending ≡ Exited code → text ≡ phrase_text phrase ++ ending_text ending
 unfolding chars
@@ -40,7 +40,7 @@ unended_text text head phrase (Exited code) e h n m = absurd (n code refl)
 unended_text text head phrase (Signaled signal core) e h n m = absurd (m signal core refl)
 unended_text text head phrase ending e h n m = phrase_alone text head phrase e h ∙ sym (append-nil (phrase_text phrase))
 
--- the parts of a phrase with its numbers make its text
+-- the concatenated parts of a phrase with its numbers are its text
 pub exit_codes_text : (text : List ℕ) (phrase : Phrase) (m n : ℕ) → text ≡ chars (codes "Expected exit code ") ++ (decimal m ++ (chars (codes " but got ") ++ (decimal n ++ chars []))) → phrase ≡ OtherExitCode → text ≡ counted_text phrase m n
 unfolding chars
 exit_codes_text text phrase m n e is = rw (e, is) (simp (append_assoc, append-nil))

@@ -7,12 +7,12 @@ use Rattle.std.proofs.lemmas.Str.{encode_ascii, chars_past_char}
 use Rattle.std.proofs.lemmas.Str.Pattern.{NoCharPasses-char}
 use lib.Utf8.{scalar, scalars}
 
--- mapping two functions at once is mapping each in turn
+-- mapping the composition of two functions is mapping each in turn
 pub fused : {A B C : Type 0} (f : A → B) (g : B → C) (xs : List A) → map (λ x. g (f x)) xs ≡ map g (map f xs)
 fused f g [] = refl
 fused {C = C} f g (x ∷ xs) = ap (λ (ys : List C). g (f x) ∷ ys) (fused f g xs)
 
--- there is a first part
+-- a text has at least one part
 some_part : (p : ℕ → Bool) (xs : List ℕ) → (part : List ℕ) × (parts : List (List ℕ)) × (slice_split p xs ≡ part ∷ parts)
 some_part p [] = ([], [], refl)
 some_part p (x ∷ xs) = by (p x) refl (some_part p xs)
@@ -22,7 +22,7 @@ some_part p (x ∷ xs) = by (p x) refl (some_part p xs)
     by true e rest = ([], slice_split p xs, slice_split-cons_yes p x xs e)
     by false e rest = (x ∷ rest.0, rest.1, slice_split-cons_no p x xs e ∙ ap (onto_first x) rest.2)
 
--- bytes without `sign` belong to the first part of what follows
+-- bytes without `sign` that precede a text belong to its first part
 onto_part : (sign : ℕ) (xs ys part : List ℕ) (parts : List (List ℕ)) → ((i : ℕ) → i < length xs → get_or xs i 0 ≢ sign)
     → slice_split (λ b. b == sign) ys ≡ part ∷ parts → slice_split (λ b. b == sign) (xs ++ ys) ≡ (xs ++ part) ∷ parts
 onto_part sign [] ys part parts lacks e = e
@@ -31,7 +31,7 @@ onto_part sign (x ∷ xs) ys part parts lacks e =
     slice_split-cons_no (λ b. b == sign) x (xs ++ ys) (grind (arith, nat_tests))
     ∙ ap (onto_first x) (onto_part sign xs ys part parts (λ i l. lacks (suc i) (omega arith)) e)
 
--- The parts of a text are those of its bytes.
+-- splitting the characters of a text gives the characters of the parts of its bytes
 pub split-chars : (sign : ℕ) (cs : List ℕ) → sign < 128 → scalars cs ≡ true → map chars (slice_split (λ b. b == sign) (encode_utf8_all cs)) ≡ slice_split (λ c. c == sign) cs
 split-chars sign [] small s = ap (λ (part : List ℕ). part ∷ []) chars-nil
 split-chars sign (c ∷ cs) small s = let each = and_parts (scalar c) (scalars cs) s in by (c == sign) refl each.0 (split-chars sign cs small each.1)

@@ -49,7 +49,7 @@ shows_more {a} {b} {xs} ys p = let h = p.holds in record { holds = (h.0, h.1 ++ 
 pub shows_none : {a : Option (List ℕ)} → Shows a a false []
 shows_none {a} = record { holds = appends_none a }
 
--- a failed write can leave a text of at least one byte unwritten
+-- a failed write of a text that is not empty may have written nothing
 pub shows_nothing : {a : Option (List ℕ)} (x : ℕ) (xs : List ℕ) → Shows a a true (x ∷ xs)
 shows_nothing {a} x xs = record { holds = ([], xs, x, refl, appends_none a) }
 
@@ -69,7 +69,7 @@ cut_at k xs (b ∷ rest) e few = (rest, b, sym (take-append-drop k xs) ∙ ap (�
 pub shows_cut : (a b : Option (List ℕ)) (k : ℕ) (xs : List ℕ) → k < length xs → Appends a b (take k xs) → Shows a b true xs
 shows_cut a b k xs few p = let cut = cut_at k xs (drop k xs) refl few in record { holds = (take k xs, cut.0, cut.1, cut.2, p) }
 
--- after `?` of a failed write, `Shows` holds with the error that is returned
+-- `Shows` of a failed write holds with the flag of a result that is an error, as after `?`
 pub shows_error : {T E : Type 0} (r : Result T E) (Q : E → Type 0) {a b : Option (List ℕ)} {xs : List ℕ} → IsErrAnd r Q → Shows a b true xs → Shows a b (is_err r) xs
 shows_error (Ok x) Q h p = absurd h
 shows_error (Err y) Q h p = p

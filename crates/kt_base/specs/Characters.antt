@@ -9,7 +9,7 @@ is_space c = c == 32 || (nat_le 9 c && nat_le c 13)
 abbrev pub is_slash : ℕ → Bool
 is_slash c = c == 47
 
--- `is_absolute path`: `path` begins with a slash.
+-- `is_absolute path`: the characters `path` begin with a slash.
 abbrev pub is_absolute : List ℕ → Bool
 is_absolute [] = false
 is_absolute (c ∷ cs) = is_slash c

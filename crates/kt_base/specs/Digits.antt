@@ -5,7 +5,8 @@ use Rattle.std.specs.Prelude.{ℕ, ◌+◌, ◌*◌, ◌-◌, ◌^◌, Bool, ◌
 abbrev pub is_digit : ℕ → Bool
 is_digit c = nat_le 48 c && nat_le c 57
 
--- `decimal_from v digits`: the number whose digits are those of `v`, followed by `digits`.
+-- `decimal_from v digits`: the number whose decimal digits are those of `v`, then `digits`. The
+-- elements of `digits` are ASCII codes.
 abbrev pub decimal_from : ℕ → List ℕ → ℕ
 decimal_from v [] = v
 decimal_from v (c ∷ cs) = decimal_from (10 * v + (c - 48)) cs

@@ -9,7 +9,8 @@ use Rattle.kt_base.specs.declared.variable.Variable.{Variable}
 abbrev pub is_named : List ℕ → Variable → Bool
 is_named name pair = bytes_eq name pair.name
 
--- `value_of name pairs`: the value of the last pair of `pairs` named `name`, if there is a pair.
+-- `value_of name pairs`: the value of the last pair named `name` in `pairs`, or nothing without
+-- such a pair.
 abbrev pub value_of : List ℕ → List Variable → Option (List ℕ)
 value_of name [] = None
 value_of name (pair ∷ pairs) = option_or (value_of name pairs) (if is_named name pair then Some pair.value else None)
@@ -18,12 +19,14 @@ value_of name (pair ∷ pairs) = option_or (value_of name pairs) (if is_named na
 abbrev pub without : List ℕ → List Variable → List Variable
 without name pairs = filter (λ pair. not (is_named name pair)) pairs
 
--- `last_values pairs`: each name once, in the order of first occurrence, with its last value.
+-- `last_values pairs`: each name of `pairs` once, in the order of first occurrence, with its last
+-- value.
 abbrev pub last_values : List Variable → List Variable
 last_values [] = []
 last_values (pair ∷ pairs) = record { name = pair.name; value = unwrap_or (value_of pair.name pairs) pair.value } ∷ without pair.name (last_values pairs)
 
--- `IsReplaced pair old new`: `new` is `old` with `pair` in place of a pair of the same name.
+-- `IsReplaced pair old new`: the list `new` is `old` with `pair` in place of a pair of the same
+-- name.
 pub record IsReplaced (pair : Variable) (old new : List Variable) : Type 0 where
   pub front : List Variable
   pub back : List Variable

@@ -1,7 +1,7 @@
 -- Limits that several crates share.
 use Rattle.std.specs.Prelude.{ℕ}
 
--- `largest_width`: the maximum number of children that run at the same time.
+-- `largest_width`: the maximum number of test cases that run at the same time.
 abbrev pub largest_width : ℕ
 largest_width = 256
 
@@ -9,7 +9,7 @@ largest_width = 256
 abbrev pub longest_timeout : ℕ
 longest_timeout = 1000000
 
--- `last_run`: the greatest run number.
+-- `last_run`: the greatest number of a run. Runs are numbered from 1.
 abbrev pub last_run : ℕ
 last_run = 1000000
 

@@ -1,11 +1,12 @@
 -- The lines of a text.
 use Rattle.std.specs.Prelude.{ℕ, Bool, ◌==◌, if◌then◌else◌, List, [], ◌∷◌}
 
--- `is_newline b`: the byte `b` ends a line.
+-- `is_newline b`: the byte `b` is a newline.
 abbrev pub is_newline : ℕ → Bool
 is_newline b = b == 10
 
--- `onto b lines`: `lines` with `b` before the first line. Without lines, `b` is the only line.
+-- `onto b lines`: `lines` with the byte `b` at the beginning of the first line. Without lines, `b`
+-- is the only line.
 abbrev pub onto : ℕ → List (List ℕ) → List (List ℕ)
 onto b [] = (b ∷ []) ∷ []
 onto b (line ∷ lines) = (b ∷ line) ∷ lines

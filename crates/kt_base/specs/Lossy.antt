@@ -3,31 +3,34 @@ use Rattle.std.specs.Prelude.{ℕ, zero, suc, ◌-◌, ◌&&◌, nat_le, if◌th
 use Rattle.std.specs.Option.{option_or}
 use Rattle.std.specs.Str.{chars, is_utf8}
 
--- `front bytes n`: the first `n` bytes, if there are `n` bytes and they are UTF-8.
+-- `front bytes n`: the first `n` of `bytes`, or nothing if they are fewer or not UTF-8.
 abbrev pub front : List ℕ → ℕ → Option (List ℕ)
 front bytes n = if nat_le n (length bytes) && is_utf8 (take n bytes) then Some (take n bytes) else None
 
--- `first bytes`: the bytes of the first character: the shortest prefix that is UTF-8.
+-- `first bytes`: the encoding of the character at the beginning of `bytes`: their shortest prefix
+-- of 1 to 4 bytes that is UTF-8. Nothing if no character begins there.
 unfoldable pub first : List ℕ → Option (List ℕ)
 first bytes = option_or (front bytes 1) (option_or (front bytes 2) (option_or (front bytes 3) (front bytes 4)))
 
--- `character found`: the character with the bytes `found`, or U+FFFD if there is none.
+-- `character found`: the character that the bytes `found` encode, or U+FFFD without bytes.
 abbrev pub character : Option (List ℕ) → List ℕ
 character None = 65533 ∷ []
 character (Some bytes) = chars bytes
 
--- `further found`: the number of bytes of the character `found` after its first byte.
+-- `further found`: the number of bytes in the encoding `found` after its first byte, or 0 without
+-- an encoding.
 abbrev pub further : Option (List ℕ) → ℕ
 further None = 0
 further (Some bytes) = length bytes - 1
 
--- `lossy_after n bytes`: the text of `bytes` after the first `n`, which an earlier character uses.
+-- `lossy_after n bytes`: the decoded text of `bytes` after their first `n` bytes. These belong to a
+-- character that began before `bytes`.
 unfoldable pub lossy_after : ℕ → List ℕ → List ℕ
 lossy_after n [] = []
 lossy_after zero (b ∷ bytes) = character (first (b ∷ bytes)) ++ lossy_after (further (first (b ∷ bytes))) bytes
 lossy_after (suc n) (b ∷ bytes) = lossy_after n bytes
 
--- `lossy bytes`: from the left, each well-formed character, and U+FFFD for each byte where no
--- character begins.
+-- `lossy bytes`: the text of `bytes`, decoded from the left: each well-formed character, and U+FFFD
+-- for each byte where no character begins.
 abbrev pub lossy : List ℕ → List ℕ
 lossy bytes = lossy_after 0 bytes

@@ -11,18 +11,21 @@ use Rattle.kt_base.specs.declared.child.Refused.{Refused}
 use Rattle.kt_base.specs.declared.child.Refused.TheVariants.{Directory, Output, Spawn, Memory}
 use Rattle.kt_base.specs.Phrases.{phrase_text}
 
--- `core_text core`: the text after a signal, which mentions a core dump if `core` is true.
+-- `core_text core`: the text that follows the number of a signal: a remark on the core dump if
+-- `core` is true, otherwise nothing.
 abbrev pub core_text : Bool → List ℕ
 core_text false = []
 core_text true = codes " (core dumped)"
 
--- `ending_text outcome`: the text of an exit status or a signal. Another outcome has no text.
+-- `ending_text outcome`: the text for the exit status or the signal of `outcome`. It is empty for
+-- another outcome.
 abbrev pub ending_text : Outcome → List ℕ
 ending_text (Exited code) = codes "exited with code " ++ decimal code
 ending_text (Signaled signal core) = codes "received signal " ++ decimal signal ++ core_text core
 ending_text _ = []
 
--- `counted_text phrase m n`: `phrase` with its numbers. Most phrases use `m` only.
+-- `counted_text phrase m n`: the message of `phrase` with the numbers `m` and `n`. Most phrases end
+-- with `m` and do not use `n`.
 abbrev pub counted_text : Phrase → ℕ → ℕ → List ℕ
 counted_text OtherExitCode due got = codes "Expected exit code " ++ decimal due ++ codes " but got " ++ decimal got
 counted_text OtherSignal due got = codes "Expected signal " ++ decimal due ++ codes " but got " ++ decimal got
@@ -31,7 +34,7 @@ counted_text MemoryNeeded due there = codes "Requires " ++ decimal due ++ codes 
 counted_text DiskNeeded due there = codes "Requires " ++ decimal due ++ codes " bytes of free disk space but only " ++ decimal there ++ codes " available"
 counted_text phrase n _ = phrase_text phrase ++ decimal n
 
--- `reason_text reason`: the text of `reason`.
+-- `reason_text reason`: the text that `reason` represents. It is empty for `Nothing`.
 abbrev pub reason_text : Reason → List ℕ
 reason_text Nothing = []
 reason_text (Fixed phrase) = phrase_text phrase
@@ -39,7 +42,7 @@ reason_text (Ended phrase ending) = phrase_text phrase ++ ending_text ending
 reason_text (Counted phrase m n) = counted_text phrase m n
 reason_text (Owned text) = text
 
--- `refused_reason cause`: the reason of a case whose start failed because of `cause`.
+-- `refused_reason cause`: the reason of the verdict on a case whose start failed with `cause`.
 abbrev pub refused_reason : Refused → Reason
 refused_reason Directory = Fixed NoDirectory
 refused_reason Output = Fixed NoOutput

@@ -6,12 +6,14 @@ abbrev pub is_empty : List ℕ → Bool
 is_empty [] = true
 is_empty (c ∷ cs) = false
 
--- `before sign text`: `text` up to its first `sign`, or the whole text without a `sign`.
+-- `before sign text`: the characters of `text` before its first character `sign`, or the whole text
+-- without a `sign`.
 abbrev pub before : ℕ → List ℕ → List ℕ
 before sign [] = []
 before sign (c ∷ cs) = if c == sign then [] else c ∷ before sign cs
 
--- `after sign text`: the rest of `text` after its first `sign`, or nothing without a `sign`.
+-- `after sign text`: the characters of `text` after its first character `sign`, or nothing without
+-- a `sign`.
 abbrev pub after : ℕ → List ℕ → Option (List ℕ)
 after sign [] = None
 after sign (c ∷ cs) = if c == sign then Some cs else after sign cs

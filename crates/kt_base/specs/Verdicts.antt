@@ -3,7 +3,7 @@ use Rattle.std.specs.Prelude.{ℕ, List, []}
 use Rattle.kt_base.specs.declared.verdict.Kind.{Kind}
 use Rattle.kt_base.specs.declared.verdict.Kind.TheVariants.{Passed, Skipped, ExpectedFailure, Failed, Broken}
 
--- `Judged`: the kind of a verdict with the text of its reason.
+-- `Judged`: the value of a verdict: its kind, and the text of its reason.
 pub record Judged : Type 0 where
   pub kind : Kind
   pub reason : List ℕ

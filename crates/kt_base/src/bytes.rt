@@ -4,7 +4,7 @@ use crate::NoMemory;
 use std::alloc::Global;
 use std::marker::Model;
 
-/// A growable byte string that returns `NoMemory` if an allocation fails.
+/// A growable byte string whose methods return `NoMemory` if an allocation fails.
 ///
 /// In contracts, a `Bytes` is the list of its bytes.
 #[derive(Debug)]

@@ -13,14 +13,14 @@ pub struct OutputFault {
     write: FailedWrite,
 }
 
-/// A private type, so that no other module can create an `OutputFault`.
+/// A private field type, so that no other module can create an `OutputFault`.
 #[derive(Clone, Copy, Debug)]
 struct FailedWrite;
 
 /// Writes `bytes` to `out` until all bytes are written or a write fails.
 ///
 /// Returns the number of bytes written, and `true` if a write failed. A write that is interrupted
-/// or writes no byte is a failed write. This function writes all output of the runner.
+/// or writes no byte is a failed write. The runner writes all output through this function.
 pub fn send<W: Write>(bytes: &[u8], out: &mut W) -> (usize, bool)
     ensures bound { result.0 ≤ length bytes.now }
     ensures all { result.1 ≡ false → result.0 ≡ length bytes.now }
@@ -54,7 +54,7 @@ pub fn emit<W: Write>(bytes: &[u8], out: &mut W) -> Result<(), OutputFault>
     Ok(())
 }
 
-/// Writes `parts` to `out`, one after the other.
+/// Writes the byte strings `parts` to `out`, one after the other.
 ///
 /// # Errors
 ///

@@ -27,8 +27,10 @@ pub struct Entry {
     /// started.
     pub started: u64,
     /// The time from the start of the body to the end of the case, in milliseconds.
+    ///
+    /// The time is 0 if the body was not started or the clock went back.
     pub millis: u64,
-    /// The output of the body.
+    /// The output of the body. Empty if the body was not started.
     pub body: Output,
     /// The output of the cleanup. Empty if no cleanup was started.
     pub cleanup: Output,

@@ -4,7 +4,7 @@ use crate::NoMemory;
 use std::alloc::Global;
 use std::marker::Model;
 
-/// A list that returns `NoMemory` if an allocation fails.
+/// A growable list whose methods return `NoMemory` if an allocation fails.
 ///
 /// In contracts, an `Items` is the list of its elements.
 #[derive(Debug)]

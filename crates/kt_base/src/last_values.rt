@@ -1,9 +1,9 @@
 ghost use Rattle.std.specs.Prelude.{◌≡◌, ℕ, List, [], ◌∷◌, ◌++◌, None, IsSome};
 ghost use Rattle.kt_base.specs.Common.{Variable, value_of, last_values, IsReplaced};
 
-/// Theorem: a list of names with their last values can be updated in place, pair by pair.
+/// Theorem: `last_values`, which keeps the last value of each name, can be updated pair by pair.
 ///
-/// Proofs of code that updates such a list use these facts.
+/// Proofs use these facts for code that replaces a value in place or appends a pair.
 pub fn last_values_laws()
     ensures value { (name : List ℕ) → (pairs : List Variable)
         → value_of name (last_values pairs) ≡ value_of name pairs }

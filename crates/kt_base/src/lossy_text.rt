@@ -14,10 +14,10 @@ fn push_utf8(text: &mut Text, bytes: &[u8]) -> Result<(), NoMemory>
     }
 }
 
-/// Appends the characters before the first invalid byte, then U+FFFD for the invalid byte.
+/// Decodes `bytes` up to and including the first invalid byte, and appends the result to `text`.
 ///
-/// Returns the bytes after the invalid byte. If `bytes` is valid UTF-8, appends all characters and
-/// returns an empty slice.
+/// U+FFFD is appended for the invalid byte. Returns the bytes after the invalid byte, or an empty
+/// slice if `bytes` is valid UTF-8.
 fn push_front<'a>(text: &mut Text, bytes: &'a [u8]) -> Result<&'a [u8], NoMemory>
     ensures text { IfOk result (λ rest. text.new ++ lossy rest.now ≡ text.old ++ lossy bytes.now) }
     ensures shorter { 0 < length bytes.now → IfOk result (λ rest. length rest.now < length bytes.now) }

@@ -16,7 +16,7 @@ pub struct NoMemory {
     refusal: Refusal,
 }
 
-/// A private type, so that no other module can create a `NoMemory`.
+/// A private field type, so that no other module can create a `NoMemory`.
 #[derive(Clone, Copy, Debug)]
 struct Refusal;
 

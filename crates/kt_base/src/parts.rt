@@ -6,7 +6,7 @@ impl Parts<'_> {
     ghost use Rattle.std.specs.Prelude.{◌≡◌, ◌++◌, OnOk, OnErr, is_err};
     ghost use Rattle.kt_base.specs.Common.{chars, parts_text, phrase_text, counted_text, ending_text, Shows, utf8};
 
-    /// Creates the parts of a reason's text that has no numbers.
+    /// Creates the parts of a text without numbers: `head` alone.
     pub fn words(head: &str) -> Parts<'_>
         ensures { parts_text result ≡ chars head.now }
     {
@@ -20,9 +20,9 @@ impl Parts<'_> {
         }
     }
 
-    /// Creates the parts of a reason's text: `phrase`, followed by an exit status or a signal.
+    /// Creates the parts of a reason's text: `phrase`, then the exit status or signal of `ending`.
     ///
-    /// Another outcome adds nothing.
+    /// The text is `phrase` alone if `ending` is another outcome.
     pub fn ended(phrase: Phrase, ending: Outcome) -> Parts<'static>
         ensures { parts_text result ≡ phrase_text phrase ++ ending_text ending }
     {
@@ -45,9 +45,9 @@ impl Parts<'_> {
         }
     }
 
-    /// Creates the parts of a reason's text: `phrase` with one number or two numbers.
+    /// Creates the parts of a reason's text: `phrase` with the numbers `m` and `n`.
     ///
-    /// A phrase with one number uses `m`.
+    /// A phrase with one number uses `m` and ignores `n`.
     pub fn counted(phrase: Phrase, m: u64, n: u64) -> Parts<'static>
         ensures { parts_text result ≡ counted_text phrase m n }
     {
@@ -73,7 +73,11 @@ impl Parts<'_> {
         }
     }
 
-    /// Appends the parts to `text`. If an allocation fails, some parts may have been appended.
+    /// Appends the parts to `text`.
+    ///
+    /// # Errors
+    ///
+    /// - `NoMemory`: an allocation fails. Some parts may have been appended.
     pub fn push_onto(&self, text: &mut Text) -> Result<(), NoMemory>
         ensures { OnOk result (text.new ≡ text.old ++ parts_text self.now) }
     {
@@ -85,7 +89,12 @@ impl Parts<'_> {
         text.push_str(self.tail)
     }
 
-    /// Writes the parts to `out`. If a write fails, a proper prefix of the text was written.
+    /// Writes the parts to `out`. Allocates nothing.
+    ///
+    /// # Errors
+    ///
+    /// - `OutputFault`: a write failed, was interrupted or wrote no byte. A proper prefix of the
+    ///   text was written.
     pub fn print<W: Write>(&self, out: &mut W) -> Result<(), OutputFault>
         ensures { Shows (W.contents out.old) (W.contents out.new) (is_err result)
             (utf8 (parts_text self.now)) }
@@ -157,7 +166,7 @@ fn core_words(core: bool) -> &'static str
     if core { " (core dumped)" } else { "" }
 }
 
-/// Creates the parts of a reason's text that has one number.
+/// Creates the parts of a text with one number: `head`, `lead`, `first` in decimal, and `tail`.
 fn one_number(
     head: &'static str,
     lead: &'static str,
@@ -177,7 +186,7 @@ fn one_number(
     }
 }
 
-/// Creates the parts of a reason's text that has two numbers.
+/// Creates the parts of a text with two numbers: `head`, `first`, `between`, `second`, and `tail`.
 fn two_numbers(
     head: &'static str,
     first: u64,

@@ -11,7 +11,7 @@ use crate::{Items, NoMemory};
 use std::alloc::Global;
 use std::marker::Model;
 
-/// A growable UTF-8 string that returns `NoMemory` if an allocation fails.
+/// A growable UTF-8 string whose methods return `NoMemory` if an allocation fails.
 ///
 /// In contracts, a `Text` is the list of its characters. `utf8` returns their bytes.
 #[derive(Debug)]

@@ -11,7 +11,7 @@ use std::rc::Rc;
 /// Copies of a shared list use the same memory. In contracts, a `Variables` is the list of its
 /// pairs, shared or not.
 pub struct Variables {
-    /// The pairs of a list that is not shared. Empty if `shared` is present.
+    /// The pairs of a list that is not shared. Empty if `shared` is `Some`.
     own: Vec<Variable>,
     /// The pairs of a shared list.
     shared: Option<Rc<Vec<Variable>>>,
@@ -65,9 +65,9 @@ impl Variables {
         self.as_slice().is_empty()
     }
 
-    /// Appends the pair `variable`. Copies that share the list's memory keep their pairs.
+    /// Appends the pair `variable`, after copying the pairs if the list is shared.
     ///
-    /// The list is not shared afterwards.
+    /// The other copies of a shared list are unchanged. This list is not shared afterwards.
     ///
     /// # Errors
     ///

@@ -33,7 +33,7 @@ impl Reason {
     ghost use Rattle.std.specs.Prelude.{◌≡◌};
     ghost use Rattle.kt_base.specs.Common.{parts_text, reason_text};
 
-    /// Returns the text of the reason in parts that can be written without an allocation.
+    /// Splits the text of the reason into parts that can be written without an allocation.
     pub(crate) fn parts(&self) -> Parts<'_>
         ensures { parts_text result ≡ reason_text self.now }
     {
@@ -212,9 +212,9 @@ impl Verdict {
     }
 }
 
-/// The parts of a reason's text, which can be written without an allocation.
+/// A reason's text in parts, which can be written without an allocation.
 ///
-/// The text is the fields in their order. `None` is empty.
+/// The text is the concatenation of the fields in their order. `None` adds nothing.
 #[derive(Clone, Copy)]
 pub struct Parts<'a> {
     pub head: &'a str,

@@ -3,7 +3,9 @@ ghost use Rattle.kt_base.specs.Common.{byte_row_in, named, row_in};
 
 use crate::Text;
 
-/// Returns the value of the first table row whose keyword is `word`, or `None`.
+/// Looks up the text `word` in `table`: returns the value of the first row with this keyword.
+///
+/// Returns `None` if no row has the keyword.
 pub fn named<T: Copy>(word: &Text, table: &[(&str, T)]) -> Option<T>
     ensures { result ≡ named (map row_in table.now) word.now }
 {
@@ -15,7 +17,9 @@ pub fn named<T: Copy>(word: &Text, table: &[(&str, T)]) -> Option<T>
     None
 }
 
-/// Returns the value of the first table row whose keyword has the bytes `word`, or `None`.
+/// Looks up the bytes `word` in `table`: returns the value of the first row with this keyword.
+///
+/// Returns `None` if no row has the keyword.
 pub fn named_bytes<T: Copy>(word: &[u8], table: &[(&str, T)]) -> Option<T>
     ensures { result ≡ named (map byte_row_in table.now) word.now }
 {

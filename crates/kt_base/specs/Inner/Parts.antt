@@ -4,11 +4,12 @@ use Rattle.std.specs.Str.{chars}
 use Rattle.std.specs.Fmt.{decimal}
 use Rattle.kt_base.specs.declared.verdict.Parts.{Parts}
 
--- `number_text number`: `number` in decimal, or nothing without a number.
+-- `number_text number`: `number` in decimal, or an empty text without a number.
 abbrev pub number_text : Option ℕ → List ℕ
 number_text None = []
 number_text (Some n) = decimal n
 
--- `parts_text p`: the concatenation of the parts of `p`.
+-- `parts_text p`: the text of the parts `p`: the concatenation of its fields, with numbers in
+-- decimal.
 abbrev pub parts_text : Parts → List ℕ
 parts_text p = chars p.head.now ++ (chars p.lead.now ++ (number_text p.first ++ (chars p.between.now ++ (number_text p.second ++ chars p.tail.now))))
