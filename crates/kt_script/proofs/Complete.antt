@@ -18,6 +18,7 @@ value_of-token_of v = refl
 
 -- ---- tables
 
+-- `with_pairs t pairs`: the table `t` with its pairs followed by `pairs`
 abbrev with_pairs : Table → List Pair → Table
 with_pairs t pairs = record t { pairs = t.pairs ++ pairs }
 
@@ -81,6 +82,7 @@ statement_walks words a (assign {words = w} {parts = ps} n more v) =
 
 -- ---- tokens
 
+-- `joined front end`: the position and statements `end` with the statements `front` prepended
 abbrev pub joined : List Stmt → ScriptState × List Stmt → ScriptState × List Stmt
 joined front end = (end.0, front ++ end.1)
 

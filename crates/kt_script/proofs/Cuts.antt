@@ -1,4 +1,4 @@
--- Character boundaries: the rest of a text after a piece is UTF-8.
+-- Character boundaries: the rest of a text after a lexeme is UTF-8.
 use Rattle.std.proofs.Common.{◌≡◌, ℕ, zero, suc, ◌+◌, ◌<◌, ◌≤◌, Bool, true, false, List, ◌∷◌, length, drop, get_or, refl, ap, sym, subst, ◌∙◌, arith, inl, inr, IsUtf8}
 use Rattle.kt_script.proofs.Common.{nat_tests, IsCharBoundary, prefix_len, cases_lt, prefix_len-le-length, prefix_len_passes, prefix_len_stops, IsCharBoundary-start, IsCharBoundary-end, IsCharBoundary-before_ascii, IsCharBoundary-after_ascii, is_space, is_word, is_digit}
 

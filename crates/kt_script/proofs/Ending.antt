@@ -120,7 +120,7 @@ path_is path _ a e = absurd cc
 
 -- ---- statements
 
--- a statement with an action is a statement with an equal action
+-- tokens that are a statement with the action `b` are one with an equal action `a`
 ended : (w : List TokenKind) (b a : Action) → Some (Ends b) ≡ Some (Ends a) → Statement w b → Statement w a
 ended w b a e st = let same : b ≡ a = cc in rw (← same) st
 
@@ -138,7 +138,7 @@ in_parens n w a (table_ends are) = call_table n are
 assigned : (n : List ℕ) (w : List TokenKind) (a : Action) → EndsPath (n ∷ []) w a → Statement (Name n ∷ w) a
 assigned n w a (path_ends v more) = assign n more v
 
--- tokens that lead from a name to an end are, with the name, a statement
+-- a name and tokens that lead from the name to an end are a statement
 pub statement_is : (n : List ℕ) (w : List TokenKind) (a : Action) → walk (To (Named n)) w ≡ Some (Ends a) → Statement (Name n ∷ w) a
 statement_is n (Quoted t ∷ []) a e = ended (Name n ∷ Quoted t ∷ []) (Call n (arg.Value (literal.Text t))) a e (call_text n t)
 statement_is n (OpenBrace ∷ w) a e = bare n w a (table_is (record { name = n; in_parens = false; pairs = [] }) w a e)

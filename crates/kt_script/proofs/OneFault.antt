@@ -26,7 +26,7 @@ begins_less front t m b =
     let e : (front ++ t ∷ m) ++ b.0 ≡ (front ++ t ∷ []) ++ (m ++ b.0) = simp append_assoc in
     (m ++ b.0, b.1, subst (λ (xs : List Token). Script xs b.1) e b.2)
 
--- no script begins with the tokens up to and including the misfit
+-- no script begins with the tokens up to and including the token of a `Misfit`
 no_further : (ts : List Token) (f : ScriptFault) (m : Misfit ts f) (more : List Token) → Begins (m.front ++ m.token ∷ more) → ⊥
 no_further ts f m more b = m.unfit (begins_less m.front m.token more b)
 

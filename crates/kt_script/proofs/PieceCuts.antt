@@ -1,4 +1,4 @@
--- A piece is not empty and ends at a character boundary: ASCII precedes or follows its end, or the
+-- A lexeme is not empty and ends at a character boundary: ASCII precedes or follows its end, or the
 -- text ends there.
 use Rattle.std.proofs.Common.{◌≡◌, ℕ, ◌+◌, ◌<◌, Bool, true, false, eqb, ◌||◌, List, [], ◌∷◌, ◌++◌, length, get_or, Option, Some, None, refl, ap, sym, subst, ◌∙◌, arith, append_assoc, length-append, inl, inr, IsUtf8}
 use Rattle.kt_script.proofs.Common.{nat_tests, append-nil, IsCharBoundary, prefix_len, eqb-true, not-false, IsCharBoundary-end, IsCharBoundary-after_ascii, IsCharBoundary-from_rest, TokenKind, Lexeme, is_space, is_word, is_digit, mark_of, piece_at, Each, StopsAt, in_line, Closes, not_yet, Blank, space, line_comment, long_comment, Word, a_name, a_number, a_string, a_mark, no_word}
@@ -73,7 +73,7 @@ long_cut words after closes u =
         → IsCharBoundary (45 ∷ 45 ∷ 91 ∷ 91 ∷ (words ++ after)) (length (45 ∷ 45 ∷ 91 ∷ 91 ∷ words))
     ended xs words after is u = rw is (last_cut (45 ∷ 45 ∷ 91 ∷ 91 ∷ xs) 93 after (omega arith) (rw is at u))
 
--- ---- pieces
+-- ---- lexemes
 
 read_cut : (bytes after : List ℕ) (kind : Option TokenKind) → IsRead bytes after kind → IsCharBoundary (bytes ++ after) (length bytes)
     → IsCut (bytes ++ after) (piece_at (bytes ++ after)).length
@@ -81,7 +81,7 @@ read_cut bytes after kind read boundary =
     let e : length bytes ≡ (piece_at (bytes ++ after)).length = ap (λ (p : Lexeme). p.length) (sym read.piece) in
     record { some = subst (λ (n : ℕ). 0 < n) e read.some; boundary = subst (IsCharBoundary (bytes ++ after)) e boundary }
 
--- the piece at a blank ends at a character boundary: consecutive spaces are one piece
+-- the lexeme at white space or a comment ends at a character boundary
 blank_cut : (bytes after : List ℕ) → Blank bytes after → IsUtf8 (bytes ++ after) → IsCut (bytes ++ after) (piece_at (bytes ++ after)).length
 unfolding piece_at
 blank_cut bytes after (space {c = c} {after = rest} is) u =

@@ -1,8 +1,8 @@
--- The tokens of a text, piece by piece.
+-- The tokens of a text, lexeme by lexeme.
 use Rattle.std.proofs.Common.{◌≡◌, ℕ, zero, suc, ◌-◌, ◌<◌, ◌≤◌, List, [], ◌∷◌, ◌++◌, length, take, drop, refl, ap, sym, ◌∙◌, arith}
 use Rattle.kt_script.proofs.Common.{Lexeme, Token, piece_at, tokens, tokens_in, line_after, line_past}
 
--- the tokens after the remaining `n` bytes of a piece are the tokens of the text after these bytes
+-- `tokens` skips the remaining `n` bytes of a lexeme: the tokens are those of the text after them
 past_piece : (n line : ℕ) (cs : List ℕ) → n ≤ length cs → tokens line n cs ≡ tokens (line_past line (take n cs)) 0 (drop n cs)
 unfolding tokens
 past_piece zero line cs le = refl

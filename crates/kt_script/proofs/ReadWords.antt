@@ -7,7 +7,7 @@ use Rattle.kt_script.proofs.Common.{nat_tests, or_parts, prefix_len, take-append
 pub quote_range : (c : ℕ) → is_quote c ≡ true → (34 ≤ c) × (c ≤ 39)
 quote_range c e = (grind (arith, nat_tests, e), grind (arith, nat_tests, e))
 
--- a property of each punctuation byte holds of a byte that is a punctuation token
+-- a property that holds of each punctuation byte and its token holds of all results of `mark_of`
 module _ (P : ℕ → TokenKind → Type 0) where
   is_mark : (c n : ℕ) (kind : TokenKind) (b : Bool) (o : Option TokenKind) → eqb c n ≡ b → P n kind → IfSome o (P c) → IfSome (cond b (Some kind) o) (P c)
   is_mark c n kind true o e here rest = subst (λ (x : ℕ). P x kind) (sym (eqb-true c n e)) here
@@ -30,7 +30,7 @@ each_run p [] [] h stop = refl
 each_run p [] (c ∷ cs) h stop = ap (λ (b : Bool). cond b (1 + prefix_len p cs) 0) stop
 each_run p (x ∷ xs) after h stop = grind (arith, h.0, each_run p xs after h.1 stop)
 
--- ---- which piece begins with a byte
+-- ---- the lexeme that begins with a byte
 
 pub at_letter : (c : ℕ) (cs : List ℕ) → is_letter c ≡ true → piece_at (c ∷ cs) ≡ name_at (c ∷ cs)
 unfolding piece_at

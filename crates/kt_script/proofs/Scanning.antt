@@ -4,6 +4,7 @@ use Rattle.kt_script.proofs.Common.{closes_at}
 
 -- ---- the end of a comment
 
+-- `CountsOn n rest text`: `rest` is `text` after its first `n` bytes, in which no `]]` begins
 pub record CountsOn (n : ℕ) (rest text : List ℕ) : Type 0 where
   pub so_far : option_map (λ m. n + m) (closes_at rest) ≡ closes_at text
   pub len : n + length rest ≡ length text

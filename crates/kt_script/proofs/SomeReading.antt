@@ -13,6 +13,7 @@ use Rattle.kt_script.proofs.WordsFirst.{BlankFirst, WordFirst, run, flawed, name
 begins_with : (text needle : List ℕ) → starts_with nat_eq text needle ≡ true → text ≡ needle ++ drop (length needle) text
 begins_with text needle e = (starts_is Decides-eqb text needle (starts_with nat_eq text needle) refl).0 e
 
+-- `Closing text`: `text` contains `]]`
 record Closing (text : List ℕ) : Type 0 where
   pub front : List ℕ
   pub rest : List ℕ
@@ -91,6 +92,7 @@ something_first c cs =
 
 -- ---- the tokens
 
+-- `Reading line text`: `text`, which begins on `line`, has tokens by the rules
 record Reading (line : ℕ) (text : List ℕ) : Type 0 where
   pub tokens : List Token
   pub are : IsTokens line text tokens

@@ -41,6 +41,8 @@ pub record WholeAt (done : List Stmt) (ts : List Token) : Type 0 where
   pub begun : Begun (Ends action) earlier ts
   pub stmts : done ≡ earlier ++ placed (begun.first ∷ begun.others) action ∷ []
 
+-- `Stands p done ts`: the tokens `ts` lead to the position `p`, and `done` are the statements that
+-- they complete
 abbrev pub Stands : ScriptState → List Stmt → List Token → Type 0
 Stands Start done ts = Script ts done
 Stands Whole done ts = WholeAt done ts
@@ -137,7 +139,7 @@ from_start ts q ss e = stands_run ts Start q [] ss [] no_stmts e
 
 -- ---- each position has a script that continues from it
 
--- tokens of the kinds `ks` exist
+-- there are tokens with the kinds `ks`
 tokens_with : (ks : List TokenKind) → (ts : List Token) × (kinds ts ≡ ks)
 tokens_with [] = ([], refl)
 tokens_with (k ∷ ks) = let r = tokens_with ks in (record { line = 0; kind = k } ∷ r.0, ap (λ (x : List TokenKind). k ∷ x) r.1)

@@ -2,8 +2,9 @@
 use Rattle.std.proofs.Common.{◌≡◌, ℕ, ◌<◌, ◌^◌, Bool, true, false, eqb, not, ◌||◌, List, [], ◌∷◌, ◌++◌, length, Option, Some, None, refl, ap, sym, subst, ◌∙◌, arith, append_assoc, inl, inr}
 use Rattle.kt_script.proofs.Common.{cases_Bool, cases_lt, eqb-true, append-nil, Flaw, Bad, Endless, TokenKind, Broken, is_letter, is_word, escape_of, is_plain, is_digit, decimal_from, Each, StopsAt, is_quote, in_line, Inside, nothing, itself, escape, NoEscape, Blank, HasFlaw, large_number, lettered_number, endless_string, bad_escape, Word, a_name, a_number, a_string, no_word}
 
--- ---- the first piece of a text
+-- ---- the first lexeme of a text
 
+-- `BlankFirst text`: `text` begins with white space or a comment
 pub record BlankFirst (text : List ℕ) : Type 0 where
   pub front : List ℕ
   pub rest : List ℕ
@@ -11,6 +12,7 @@ pub record BlankFirst (text : List ℕ) : Type 0 where
   pub some : 0 < length front
   pub is : Blank front rest
 
+-- `WordFirst text`: `text` begins with a token
 pub record WordFirst (text : List ℕ) : Type 0 where
   pub front : List ℕ
   pub rest : List ℕ

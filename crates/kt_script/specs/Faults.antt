@@ -24,8 +24,8 @@ own_fault line _ = NotLiteral line
 abbrev pub fault_of : Token → ScriptFault
 fault_of t = own_fault t.line t.kind
 
--- `Misfit ts fault`: `fault` is the fault of the first token of `ts` with which no script
--- continues.
+-- `Misfit ts fault`: the grammar does not allow one of the tokens `ts` after the tokens before it,
+-- and `fault` is the fault of the first such token.
 pub record Misfit (ts : List Token) (fault : ScriptFault) : Type 0 where
   pub front : List Token
   pub token : Token
@@ -35,16 +35,16 @@ pub record Misfit (ts : List Token) (fault : ScriptFault) : Type 0 where
   pub unfit : ¬ Begins (front ++ token ∷ [])
   pub is : fault ≡ fault_of token
 
--- `last lines`: the last of `lines`, or nothing if there are no lines.
+-- `last lines`: the last of the line numbers `lines`, or nothing if the list is empty.
 abbrev pub last : List ℕ → Option ℕ
 last lines = slice_get lines (length lines - 1)
 
--- `without_last lines`: `lines` without the last line.
+-- `without_last lines`: the line numbers `lines` without the last number.
 abbrev pub without_last : List ℕ → List ℕ
 without_last lines = take (length lines - 1) lines
 
 -- `after_bracket lines line kind`: the lines of the open brackets after a token of `kind` on
--- `line`. They were `lines` before.
+-- `line`, if they were `lines` before the token.
 abbrev pub after_bracket : List ℕ → ℕ → TokenKind → List ℕ
 after_bracket lines line OpenParen = lines ++ line ∷ []
 after_bracket lines line OpenBrace = lines ++ line ∷ []
@@ -54,14 +54,14 @@ after_bracket lines line CloseBrace = without_last lines
 after_bracket lines line CloseBracket = without_last lines
 after_bracket lines line _ = lines
 
--- `open_lines lines ts`: the lines of the open brackets after the tokens `ts`. They were `lines`
--- before.
+-- `open_lines lines ts`: the lines of the open brackets after the tokens `ts`, if they were `lines`
+-- before the tokens.
 abbrev pub open_lines : List ℕ → List Token → List ℕ
 open_lines lines [] = lines
 open_lines lines (t ∷ ts) = open_lines (after_bracket lines t.line t.kind) ts
 
--- `end_fault bracket line`: the fault of tokens that end in the statement on `line`. The open
--- `bracket` is not closed, or the statement is not finished.
+-- `end_fault bracket line`: the fault of tokens that end within the statement on `line`. `bracket`
+-- is the line of the innermost open bracket, or nothing.
 abbrev pub end_fault : Option ℕ → ℕ → ScriptFault
 end_fault None line = NotLiteral line
 end_fault (Some bracket) line = Unclosed bracket

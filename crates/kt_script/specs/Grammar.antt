@@ -4,7 +4,7 @@ use Rattle.kt_script.specs.Types.{Action, Assign, Call, CloseBrace, CloseBracket
 use Rattle.kt_script.specs.declared.syntax.Literal.TheVariants as literal
 use Rattle.kt_script.specs.declared.syntax.Arg.TheVariants.{Value, Table}
 
--- `token_of v`: the token of the value `v`.
+-- `token_of v`: the kind of the token that represents the literal `v`.
 -- value = string | number | "true" | "false"
 abbrev pub token_of : Literal → TokenKind
 token_of (literal.Text t) = Quoted t
@@ -21,13 +21,13 @@ pub data Key : List TokenKind → List ℕ → Type 0 where
 abbrev pub pair : List ℕ → Literal → Pair
 pair key v = record { name = key; value = v }
 
--- `Separator kind`: a token of `kind` separates the pairs of a table.
+-- `Separator kind`: a token of `kind` can separate two pairs of a table.
 -- separator = "," | ";"
 pub data Separator : TokenKind → Type 0 where
   comma : Separator Comma
   semicolon : Separator Semicolon
 
--- `Pairs words pairs`: the tokens `words` between the braces of a table are `pairs`.
+-- `Pairs words pairs`: the tokens `words` between the braces of a table represent `pairs`.
 -- pairs = [ pair { ("," | ";") pair } [ "," | ";" ] ], pair = (name | "[" string "]") "=" value
 pub data Pairs : List TokenKind → List Pair → Type 0 where
   no_pairs : Pairs [] []
@@ -35,7 +35,8 @@ pub data Pairs : List TokenKind → List Pair → Type 0 where
   pair_and : {words rest : List TokenKind} {key : List ℕ} {s : TokenKind} {pairs : List Pair} → Key words key → (v : Literal) → Separator s → Pairs rest pairs
       → Pairs (words ++ Equals ∷ token_of v ∷ s ∷ rest) (pair key v ∷ pairs)
 
--- `Parts words parts`: the tokens `words` after the first name of a path are its other `parts`.
+-- `Parts words parts`: the tokens `words` after the first name of a path represent the other parts
+-- of the path, `parts`.
 -- parts = { "." name | "[" string "]" }
 pub data Parts : List TokenKind → List (List ℕ) → Type 0 where
   no_parts : Parts [] []
@@ -63,11 +64,12 @@ abbrev pub first_line : List Token → ℕ
 first_line [] = 0
 first_line (t ∷ ts) = t.line
 
--- `placed phrase a`: the statement with the action `a` and the line of the tokens `phrase`.
+-- `placed phrase a`: the statement with the action `a` on the line of the first of the tokens
+-- `phrase`.
 abbrev pub placed : List Token → Action → Stmt
 placed phrase a = record { line = first_line phrase; action = a }
 
--- `Script ts stmts`: the tokens `ts` are a script of the statements `stmts`.
+-- `Script ts stmts`: the tokens `ts` are a script that consists of the statements `stmts`.
 -- script = { stmt [";"] }
 pub data Script : List Token → List Stmt → Type 0 where
   no_stmts : Script [] []

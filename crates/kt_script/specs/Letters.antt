@@ -10,10 +10,12 @@ is_letter c = (nat_le 97 c && nat_le c 122) || (nat_le 65 c && nat_le c 90) || c
 abbrev pub is_word : ℕ → Bool
 is_word c = is_letter c || is_digit c
 
--- `is_plain quote c`: `c` represents itself in a string: it is not `quote`, newline or backslash.
+-- `is_plain quote c`: the byte `c` represents itself in a string between two bytes `quote`: it is
+-- not `quote`, a newline or a backslash.
 abbrev pub is_plain : ℕ → ℕ → Bool
 is_plain quote c = not (c == quote) && not (c == 10) && not (c == 92)
 
--- `escape_of c`: the byte that a backslash and `c` represent: newline, tab, backslash or a quote.
+-- `escape_of c`: the byte that a backslash and the byte `c` represent in a string: newline, tab,
+-- backslash or a quote. Nothing for another `c`.
 abbrev pub escape_of : ℕ → Option ℕ
 escape_of c = if c == 110 then Some 10 else if c == 116 then Some 9 else if c == 92 || c == 39 || c == 34 then Some c else None

@@ -17,8 +17,8 @@ pub record Spells (text : List ℕ) (stmts : List Stmt) : Type 0 where
   pub read : IsTokens 1 text tokens
   pub script : Script tokens stmts
 
--- `IsDue text fault`: `text` is not a script, and `fault` is its fault. The length is checked
--- first, then UTF-8, then the tokens.
+-- `IsDue text fault`: `text` is not a script, and `fault` is its first fault: the length is checked
+-- before the encoding, and the encoding before the tokens.
 abbrev pub IsDue : List ℕ → ScriptFault → Type 0
 IsDue text fault =
     ((limit < length text) × (fault ≡ TooLong))

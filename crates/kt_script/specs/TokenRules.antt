@@ -16,7 +16,8 @@ mark_of c =
     else if c == 59 then Some Semicolon else if c == 46 then Some Dot
     else None
 
--- `word letters`: the token of `letters`: a truth value or a name.
+-- `word letters`: the kind of the token `letters`: a truth value for `true` and `false`, otherwise
+-- a name.
 abbrev pub word : List ℕ → TokenKind
 word letters = if bytes_eq letters (codes "true") then Truth true else if bytes_eq letters (codes "false") then Truth false else Name (chars letters)
 
@@ -24,11 +25,11 @@ word letters = if bytes_eq letters (codes "true") then Truth true else if bytes_
 abbrev pub is_level : List ℕ → Bool
 is_level text = starts_with nat_eq text (codes "=") && starts_with nat_eq (drop (prefix_len (λ c. c == 61) text) text) (codes "[")
 
--- `line_after line c`: the line after the byte `c`, which is on `line`.
+-- `line_after line c`: the number of the line after the byte `c`, which is on `line`.
 abbrev pub line_after : ℕ → ℕ → ℕ
 line_after line c = if c == 10 then line + 1 else line
 
--- `line_past line bytes`: the line after `bytes`, which begin on `line`.
+-- `line_past line bytes`: the number of the line on which `bytes` end, if they begin on `line`.
 abbrev pub line_past : ℕ → List ℕ → ℕ
 line_past line [] = line
 line_past line (c ∷ cs) = line_past (line_after line c) cs
@@ -51,18 +52,19 @@ is_quote c = c == 34 || c == 39
 abbrev pub in_line : ℕ → Bool
 in_line c = not (c == 10)
 
--- `Inside quote text bytes`: `text`, between two bytes `quote`, represents `bytes`.
+-- `Inside quote text bytes`: between two bytes `quote`, the bytes `text` of a script are a string
+-- with the value `bytes`.
 pub data Inside (quote : ℕ) : List ℕ → List ℕ → Type 0 where
   nothing : Inside quote [] []
   itself : {c : ℕ} {cs bytes : List ℕ} → is_plain quote c ≡ true → Inside quote cs bytes → Inside quote (c ∷ cs) (c ∷ bytes)
   escape : {c d : ℕ} {cs bytes : List ℕ} → escape_of c ≡ Some d → Inside quote cs bytes → Inside quote (92 ∷ c ∷ cs) (d ∷ bytes)
 
--- `NoEscape bytes`: a backslash before `bytes` does not begin an escape.
+-- `NoEscape bytes`: a backslash followed by `bytes` is not an escape of this profile.
 abbrev pub NoEscape : List ℕ → Type 0
 NoEscape [] = Unit {0}
 NoEscape (c ∷ cs) = escape_of c ≡ None
 
--- `Closes bytes after`: `bytes`, which are followed by `after`, end with the first `]]`.
+-- `Closes bytes after`: `bytes` end with the first `]]` of the text `bytes ++ after`.
 pub data Closes : List ℕ → List ℕ → Type 0 where
   closed : {after : List ℕ} → Closes (93 ∷ 93 ∷ []) after
   not_yet : {c : ℕ} {cs after : List ℕ} → starts_with nat_eq ((c ∷ cs) ++ after) (codes "]]") ≡ false → Closes cs after → Closes (c ∷ cs) after
@@ -72,7 +74,7 @@ abbrev pub NeverCloses : List ℕ → Type 0
 NeverCloses [] = Unit {0}
 NeverCloses (c ∷ cs) = (starts_with nat_eq (c ∷ cs) (codes "]]") ≡ false) × NeverCloses cs
 
--- `opens_long text`: `text`, which follows `--`, begins with `[[`.
+-- `opens_long text`: `text`, which follows `--`, begins with `[[`, so a long comment begins.
 abbrev pub opens_long : List ℕ → Bool
 opens_long text = starts_with nat_eq text (codes "[[")
 
@@ -87,7 +89,7 @@ pub data Blank : List ℕ → List ℕ → Type 0 where
   line_comment : {words after : List ℕ} → opens_long (words ++ after) ≡ false → opens_level (words ++ after) ≡ false → Each in_line words → StopsAt in_line after → Blank (45 ∷ 45 ∷ words) after
   long_comment : {words after : List ℕ} → Closes words after → Blank (45 ∷ 45 ∷ 91 ∷ 91 ∷ words) after
 
--- `IsStrange c`: a token, a comment or white space does not begin with the byte `c`.
+-- `IsStrange c`: the byte `c` does not begin a token, a comment or white space.
 pub record IsStrange (c : ℕ) : Type 0 where
   pub no_space : is_space c ≡ false
   pub no_letter : is_letter c ≡ false
@@ -96,7 +98,7 @@ pub record IsStrange (c : ℕ) : Type 0 where
   pub no_dash : c == 45 ≡ false
   pub no_mark : mark_of c ≡ None
 
--- `HasFlaw text flaw`: `text` begins with a broken token that has this `flaw`.
+-- `HasFlaw text flaw`: `text` begins with a broken token, which is broken for the reason `flaw`.
 pub data HasFlaw : List ℕ → Flaw → Type 0 where
   large_number : (c : ℕ) (cs after : List ℕ) → Each is_digit (c ∷ cs) → StopsAt is_digit after → 2 ^ 64 ≤ decimal_from 0 (c ∷ cs) → HasFlaw ((c ∷ cs) ++ after) Bad
   lettered_number : (c d : ℕ) (cs after : List ℕ) → Each is_digit (c ∷ cs) → is_letter d ≡ true → HasFlaw ((c ∷ cs) ++ d ∷ after) Bad
@@ -115,7 +117,8 @@ pub data Word : List ℕ → List ℕ → TokenKind → Type 0 where
   a_mark : {c : ℕ} {kind : TokenKind} {after : List ℕ} → mark_of c ≡ Some kind → Word (c ∷ []) after kind
   no_word : {text : List ℕ} {flaw : Flaw} → HasFlaw text flaw → Word text [] (Broken flaw)
 
--- `IsTokens line text ts`: the text `text`, which begins on `line`, has the tokens `ts`.
+-- `IsTokens line text ts`: `text`, which begins on `line`, consists of the tokens `ts` with white
+-- space and comments between them.
 pub data IsTokens : ℕ → List ℕ → List Token → Type 0 where
   the_end : {line : ℕ} → IsTokens line [] []
   blank_and : {line : ℕ} {blank rest : List ℕ} {ts : List Token} → Blank blank rest → IsTokens (line_past line blank) rest ts → IsTokens line (blank ++ rest) ts

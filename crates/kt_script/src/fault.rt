@@ -6,8 +6,8 @@ use thiserror::Error;
 
 /// Errors returned by [`parse`](crate::parse).
 ///
-/// A number is a line, counted from 1. It is the line of the faulty token, of the bracket that is
-/// not closed, or of the statement that is not finished.
+/// A number is a line, counted from 1: the line of the faulty token, of the unclosed bracket or of
+/// the unfinished statement.
 #[derive(Clone, Copy, Debug, Error)]
 #[error("{}", self.words())]
 pub enum ScriptFault {

@@ -9,7 +9,7 @@ use crate::words::{is_letter, is_space, name};
 use kt_base::{NoMemory, decimal_up_to, digits_length, is_digit, line_length};
 use std::alloc::Global;
 
-/// Returns the length of `text` up to the end of its first `]]`, in bytes, or `None` without `]]`.
+/// Returns the number of bytes in `text` up to the end of its first `]]`, or `None` without `]]`.
 fn closes(text: &[u8]) -> Option<usize>
     ensures value { result ≡ closes_at text.now }
     ensures within { IfSome result (λ end. end ≤ length text.now) }
@@ -42,7 +42,9 @@ fn is_level(text: &[u8]) -> bool
     text.starts_with(b"=") && after.starts_with(b"[")
 }
 
-/// Returns the comment at the beginning of `text`, or a broken token if it is not a comment.
+/// Returns the comment at the beginning of `text`.
+///
+/// The result is a broken token if `text` does not begin with a comment of this profile.
 pub fn comment(text: &[u8]) -> Lexeme
     ensures { result ≡ comment_at text.now }
 {
@@ -88,9 +90,9 @@ fn mark(c: u8) -> Option<TokenKind>
     }
 }
 
-/// Returns the decimal number at the beginning of `text`.
+/// Returns the token of the decimal number at the beginning of `text`.
 ///
-/// A number above 2^64 - 1, or with a letter after it, is a broken token.
+/// A number that is above 2^64 - 1 or followed by a letter is a broken token.
 fn number(text: &[u8]) -> Lexeme
     ensures { result ≡ number_at text.now }
 {
@@ -105,7 +107,13 @@ fn number(text: &[u8]) -> Lexeme
     }
 }
 
-/// Returns the piece at the beginning of `text`: white space, a comment or a token.
+/// Returns the lexeme at the beginning of `text`: white space, a comment or a token.
+///
+/// An empty text has a lexeme of 0 bytes. A flaw in the text gives a broken token.
+///
+/// # Errors
+///
+/// - `NoMemory`: an allocation fails.
 #[tactic(auto, unfolding(crate::specs::Inner::Tokens::piece_at))]
 pub fn next_piece(alloc: Global, text: &str) -> Result<Lexeme, NoMemory>
     ensures { IfOk result (λ piece. piece ≡ piece_at text.now) }

@@ -10,7 +10,9 @@ use crate::{ScriptFault, Stmt};
 use kt_base::{Items, NoMemory};
 use std::alloc::Global;
 
-/// Updates the lines of the open brackets after a token. The innermost bracket is the last.
+/// Updates `brackets`, the lines of the open brackets, for a token of `kind` on `line`.
+///
+/// An opening bracket appends its line. A closing bracket removes the last line.
 fn follow(brackets: &mut Vec<u32>, line: u32, kind: &TokenKind) -> Result<(), NoMemory>
     ensures { OnOk result (brackets.new.items ≡ after_bracket brackets.old.items line kind.now) }
 {
@@ -26,7 +28,9 @@ fn follow(brackets: &mut Vec<u32>, line: u32, kind: &TokenKind) -> Result<(), No
     Ok(())
 }
 
-/// A parser of a script's tokens. Its caller stores the position, a [`ScriptState`].
+/// A parser that collects the statements of a script, token by token.
+///
+/// The caller stores the parser's position in the grammar, a [`ScriptState`].
 #[derive(Drop)]
 pub struct Parser {
     /// The lines of the open brackets, the innermost bracket last.
@@ -48,10 +52,14 @@ impl Parser {
         }
     }
 
-    /// Reads a token at `place` and returns the position after the token.
+    /// Reads a token of `kind` on `line`, at the position `place`. Returns the position after it.
     ///
-    /// `kind` is the kind of the token. `None` changes nothing. Fails if the grammar does not allow
-    /// the token at `place`.
+    /// If `kind` is `None`, the call changes nothing and returns `place`.
+    ///
+    /// # Errors
+    ///
+    /// - `BadToken`, `NotLiteral`, `Unclosed`: the grammar does not allow the token at `place`.
+    /// - `NoMemory`: an allocation fails.
     pub fn feed(
         &mut self,
         alloc: Global,
@@ -75,7 +83,12 @@ impl Parser {
         }
     }
 
-    /// Returns the statements that were read. Fails if `place` is within a statement.
+    /// Returns the statements that were read, at the end of the script.
+    ///
+    /// # Errors
+    ///
+    /// - `Unclosed`: `place` is within a statement, and a bracket is open.
+    /// - `NotLiteral`: `place` is within a statement, and no bracket is open.
     pub fn finish(self, place: &ScriptState) -> Result<Items<Stmt>, ScriptFault>
         ensures ok { IfOk result (λ statements. IsResting place.now
             × (statements ≡ self.statements)) }
@@ -89,9 +102,9 @@ impl Parser {
     }
 }
 
-/// Returns the fault of a script that ends within a statement.
+/// Returns the fault of a script that ends within the statement on `line`.
 ///
-/// `bracket` is the line of the innermost open bracket, and `line` the line of the statement.
+/// `bracket` is the line of the innermost open bracket, or `None` without an open bracket.
 fn end_fault(bracket: Option<u32>, line: u32) -> ScriptFault
     ensures { result ≡ end_fault bracket line }
 {

@@ -19,7 +19,7 @@ fn escape(c: u8) -> Option<char>
     }
 }
 
-/// Returns the number of bytes before the first quote, newline or backslash in `text`.
+/// Returns the number of bytes in `text` before its first `quote`, newline or backslash.
 fn plain_length(quote: u8, text: &[u8]) -> usize
     ensures value { result ≡ prefix_len (is_plain quote) text.now }
     ensures within { result ≤ length text.now }
@@ -29,7 +29,9 @@ fn plain_length(quote: u8, text: &[u8]) -> usize
         .count()
 }
 
-/// Returns the stop at the beginning of `text`, where the plain bytes of a string end.
+/// Returns the kind of end that a string's plain bytes have: the last quote, an escape or a flaw.
+///
+/// `text` is the text after the plain bytes, and `quote` the byte that closes the string.
 fn next_stop(quote: u8, text: &[u8]) -> StringStop
     ensures { result ≡ stop_at quote text.now }
 {
@@ -48,9 +50,10 @@ fn next_stop(quote: u8, text: &[u8]) -> StringStop
     }
 }
 
-/// Decodes a string after its first quote.
+/// Decodes the string literal that `text` continues after the first quote.
 ///
-/// Returns its characters and its length in bytes, with the last quote.
+/// Returns the characters of the string, and its length in `text` in bytes, including the last
+/// quote. Returns the flaw if the string is not closed or has an unknown escape.
 fn string(alloc: Global, quote: u8, text: &str) -> Result<Result<(Text, usize), Flaw>, NoMemory>
     requires { quote < 128 }
     ensures value { IfOk result (λ read. read ≡ decoded (string_at quote false text.now)) }
@@ -72,9 +75,13 @@ fn string(alloc: Global, quote: u8, text: &str) -> Result<Result<(Text, usize), 
     }
 }
 
-/// Returns the string at the beginning of `text`, whose first byte is `quote`.
+/// Returns the token of the string literal at the beginning of `text`, which begins with `quote`.
 ///
-/// A string that is not closed, or has an unknown escape, is a broken token.
+/// A string that is not closed or has an unknown escape is a broken token.
+///
+/// # Errors
+///
+/// - `NoMemory`: an allocation fails.
 pub fn quoted(alloc: Global, quote: u8, text: &str) -> Result<Lexeme, NoMemory>
     requires first { text.now ≡ quote ∷ drop 1 text.now }
     requires small { quote < 128 }

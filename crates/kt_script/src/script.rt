@@ -28,7 +28,7 @@ fn line_past(from: u32, text: &[u8]) -> u32
     line
 }
 
-/// Parses `text`, which has at most `LIMIT` bytes, as a list of statements.
+/// Parses `text`, which has at most 1,048,576 bytes, as a list of statements.
 fn statements(alloc: Global, text: &str) -> Result<Items<Stmt>, ScriptFault>
     requires { length text.now ≤ limit }
     ensures ok { IfOk result (λ stmts. Script (tokens 1 0 text.now) stmts) }
@@ -80,7 +80,7 @@ pub fn parse(alloc: Global, text: &[u8]) -> Result<Items<Stmt>, ScriptFault>
     statements(alloc, text)
 }
 
-/// Theorem: each text has exactly one result: its statements or its fault.
+/// Theorem: the rules give each text exactly one result, its statements or its fault.
 pub fn theorem_of_one_answer(text: &[u8])
     ensures some { (answer : Result (List Stmt) ScriptFault) × IsAnswer text.now answer }
     ensures one { (a b : Result (List Stmt) ScriptFault) → IsAnswer text.now a → IsAnswer text.now b
@@ -89,7 +89,7 @@ pub fn theorem_of_one_answer(text: &[u8])
     let _ = text;
 }
 
-/// Theorem: each text has exactly one list of tokens.
+/// Theorem: the rules for tokens split each text into exactly one list of tokens.
 pub fn theorem_of_tokens(text: &[u8])
     ensures some { (tokens : List Token) × IsTokens 1 text.now tokens }
     ensures one { (a b : List Token) → IsTokens 1 text.now a → IsTokens 1 text.now b → a ≡ b }

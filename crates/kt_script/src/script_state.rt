@@ -9,7 +9,7 @@ use crate::token::{Token, TokenKind};
 use kt_base::{Items, NoMemory};
 use std::alloc::Global;
 
-/// A position of the parser, between two tokens of a script.
+/// A position of the parser in the grammar, between two tokens of a script.
 pub enum ScriptState {
     /// Before a statement.
     Start,
@@ -29,7 +29,9 @@ impl Drop for ScriptState {
     }
 }
 
-/// Returns the position after a statement's first token, or `None` if the token is not a name.
+/// Returns the position after a statement's first token, which is of this `kind` on this `line`.
+///
+/// Returns `None` if the token is not a name.
 fn begin(line: u32, kind: TokenKind) -> Option<ScriptState>
     ensures { result ≡ place_of (begin line kind) }
 {
@@ -42,7 +44,11 @@ fn begin(line: u32, kind: TokenKind) -> Option<ScriptState>
 impl ScriptState {
     /// Returns the position after `token`, or `None` if the grammar does not allow the token here.
     ///
-    /// Appends a statement to `statements` if the token completes it.
+    /// If the token completes a statement, the statement is appended to `statements`.
+    ///
+    /// # Errors
+    ///
+    /// - `NoMemory`: an allocation fails.
     pub fn next(
         self,
         alloc: Global,

@@ -8,7 +8,7 @@ use crate::{Action, Arg, Literal, Pair};
 use kt_base::{Items, NoMemory, Text};
 use std::alloc::Global;
 
-/// A table of a call whose end has not been read.
+/// A table that is the argument of a call, before its `}`.
 #[derive(Drop)]
 pub struct Table {
     /// The name of the function that is called.
@@ -19,50 +19,56 @@ pub struct Table {
     pub pairs: Items<Pair>,
 }
 
-/// A state of the parser within a statement: the tokens read last.
+/// A state of the parser within a statement, with the parts of the statement read so far.
 #[derive(Drop)]
 pub enum State {
-    /// The first name of a statement.
+    /// After the first name of a statement.
     Named(Text),
-    /// A name and `(`.
+    /// After the name of a function and `(`.
     Opened(Text),
-    /// A call, before its `)`.
+    /// After the argument of a call in parentheses, before the `)`.
     Closing(Action),
-    /// The `{` of a table, or a separator in it.
+    /// After the `{` of a table, or after a separator in the table.
     Pairs(Table),
-    /// The `[` of a key.
+    /// After the `[` of a key.
     KeyOpened(Table),
-    /// The `[` of a key, and its string.
+    /// After the `[` and the string of a key.
     KeyQuoted(Table, Text),
-    /// A key.
+    /// After a key of a table.
     Keyed(Table, Text),
-    /// A key and `=`.
+    /// After a key of a table and `=`.
     KeyEquals(Table, Text),
-    /// A pair of a table.
+    /// After a pair of a table.
     Paired(Table),
-    /// A path and `.`.
+    /// After a path and `.`.
     Dotted(Items<Text>),
-    /// A path and `[`.
+    /// After a path and `[`.
     PathOpened(Items<Text>),
-    /// A path, before the `]` of its last part.
+    /// After the string in the last part of a path, before the `]`.
     PathQuoted(Items<Text>),
-    /// A path of at least two parts.
+    /// After a path of at least two parts.
     Path(Items<Text>),
-    /// A path and `=`.
+    /// After a path and `=`.
     PathEquals(Items<Text>),
 }
 
-/// A transition within a statement.
+/// A transition of the parser within a statement: to another state, or to the statement's end.
 #[derive(Drop)]
 pub enum Step {
-    /// The statement continues in this state.
+    /// The statement continues. This is the state after the token.
     To(State),
-    /// The statement is complete.
+    /// The token completes the statement, which has this action.
     Ends(Action),
 }
 
 impl State {
-    /// Returns the transition of a token, or `None` if the grammar does not allow the token here.
+    /// Returns the transition from this state for a token of `kind`.
+    ///
+    /// Returns `None` if the grammar does not allow the token in this state.
+    ///
+    /// # Errors
+    ///
+    /// - `NoMemory`: an allocation fails.
     pub fn step(self, alloc: Global, kind: TokenKind) -> Result<Option<Step>, NoMemory>
         ensures { IfOk result (λ to. to ≡ step self kind) }
     {
@@ -134,7 +140,7 @@ impl State {
     }
 }
 
-/// Returns the literal that a token represents, or `None` if the token is not a literal.
+/// Converts a token of `kind` to a literal value, or returns `None` for another kind of token.
 fn value(kind: TokenKind) -> Option<Literal>
     ensures { result ≡ value_of kind }
 {
@@ -146,7 +152,7 @@ fn value(kind: TokenKind) -> Option<Literal>
     }
 }
 
-/// Creates a path of one part.
+/// Creates a path whose only part is `name`.
 fn single(alloc: Global, name: Text) -> Result<Items<Text>, NoMemory>
     ensures { IfOk result (λ path. path ≡ name ∷ []) }
 {
@@ -156,7 +162,7 @@ fn single(alloc: Global, name: Text) -> Result<Items<Text>, NoMemory>
 }
 
 impl Table {
-    /// Creates a table without pairs.
+    /// Creates a table without pairs, the argument of a call of the function `name`.
     fn new(alloc: Global, name: Text, in_parens: bool) -> Table
         ensures { result ≡ record { name = name; in_parens = in_parens; pairs = [] } }
     {
@@ -167,7 +173,9 @@ impl Table {
         }
     }
 
-    /// Returns the transition of the `}` that closes the table.
+    /// Returns the transition for the `}` that closes the table.
+    ///
+    /// A table in parentheses must be followed by `)`. Another table completes its statement.
     fn close(self) -> Step
         ensures { result ≡ closed self }
     {

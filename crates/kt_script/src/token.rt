@@ -3,7 +3,7 @@ ghost use Rattle.std.specs.Prelude.{◌≡◌, ℕ, length};
 use crate::ScriptFault;
 use kt_base::Text;
 
-/// A flaw of a broken token.
+/// A reason why a token is broken (this profile).
 #[derive(Clone, Copy)]
 pub enum Flaw {
     /// A byte, a number or an escape that is not in this profile.
@@ -51,7 +51,7 @@ pub struct Token {
 impl Token {
     ghost use Rattle.kt_script.specs.Faults.{fault_of};
 
-    /// Returns the fault of a script whose grammar does not allow the token.
+    /// Returns the fault of a script in which the grammar does not allow the token.
     pub fn fault(&self) -> ScriptFault
         ensures { result ≡ fault_of self.now }
     {
@@ -63,7 +63,7 @@ impl Token {
     }
 }
 
-/// A piece of a text: white space, a comment or a token.
+/// A lexeme of a script: white space, a comment or a token.
 #[derive(Drop)]
 pub struct Lexeme {
     /// The length in bytes.
@@ -75,14 +75,14 @@ pub struct Lexeme {
 impl Lexeme {
     ghost use Rattle.kt_script.specs.Inner.Pieces.{blank, token, broken};
 
-    /// Creates a piece of `length` bytes that is not a token.
+    /// Creates a lexeme of `length` bytes that is white space or a comment.
     pub fn blank(length: usize) -> Lexeme
         ensures { result ≡ blank length }
     {
         Lexeme { length, kind: None }
     }
 
-    /// Creates a token of `length` bytes.
+    /// Creates a lexeme of `length` bytes that is a token of `kind`.
     pub fn token(length: usize, kind: TokenKind) -> Lexeme
         ensures { result ≡ token length kind }
     {
@@ -92,7 +92,7 @@ impl Lexeme {
         }
     }
 
-    /// Creates a broken token that extends to the end of `text`.
+    /// Creates a broken token with this `flaw`, which extends to the end of `text`.
     pub fn broken(text: &[u8], flaw: Flaw) -> Lexeme
         ensures { result ≡ broken text.now flaw }
     {
@@ -100,7 +100,7 @@ impl Lexeme {
     }
 }
 
-/// An end of the plain bytes in a string.
+/// A kind of end that a run of plain bytes has in a string literal.
 #[derive(Drop)]
 pub(crate) enum StringStop {
     /// The string's last quote.

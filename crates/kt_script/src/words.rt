@@ -21,7 +21,7 @@ pub fn is_letter(c: u8) -> bool
     matches!(c, b'a'..=b'z' | b'A'..=b'Z' | b'_')
 }
 
-/// Returns `true` if the byte `c` is a letter, an underscore or a digit.
+/// Returns `true` if the byte `c` is an ASCII letter, an underscore or a digit.
 fn is_word(c: u8) -> bool
     ensures { result ≡ is_word c }
 {
@@ -36,7 +36,7 @@ fn word_length(text: &[u8]) -> usize
     text.iter().take_while(|c| is_word(**c)).count()
 }
 
-/// Creates the token of `letters`: a truth value for `true` and `false`, otherwise a name.
+/// Returns the kind of the token `letters`: a truth value for `true` and `false`, else a name.
 fn word(alloc: Global, letters: &str) -> Result<TokenKind, NoMemory>
     ensures { IfOk result (λ kind. kind ≡ word letters.now) }
 {
@@ -49,7 +49,11 @@ fn word(alloc: Global, letters: &str) -> Result<TokenKind, NoMemory>
     Ok(TokenKind::Name(Text::from_str(alloc, letters)?))
 }
 
-/// Returns the name or truth value at the beginning of `text`.
+/// Returns the token of the name or truth value at the beginning of `text`.
+///
+/// # Errors
+///
+/// - `NoMemory`: an allocation fails.
 pub fn name(alloc: Global, text: &str) -> Result<Lexeme, NoMemory>
     ensures { IfOk result (λ piece. piece ≡ name_at text.now) }
 {

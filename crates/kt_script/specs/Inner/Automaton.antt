@@ -11,14 +11,16 @@ use Rattle.kt_script.specs.declared.state.State.TheVariants.{Named, Opened, Clos
 use Rattle.kt_script.specs.declared.state.Step.{Step}
 use Rattle.kt_script.specs.declared.state.Step.TheVariants.{To, Ends}
 
--- `value_of kind`: the literal that a token of `kind` represents, or nothing.
+-- `value_of kind`: the literal that a token of `kind` represents, or nothing if the token is not a
+-- literal.
 abbrev pub value_of : TokenKind → Option Literal
 value_of (Quoted t) = Some (literal.Text t)
 value_of (Number n) = Some (literal.Number n)
 value_of (Truth b) = Some (literal.Truth b)
 value_of _ = None
 
--- `closed t`: the transition of the brace that closes the table `t`.
+-- `closed t`: the transition of the `}` that closes the table `t`. If the table is in parentheses,
+-- a `)` must follow. Otherwise, the statement is complete.
 abbrev pub closed : Table → Step
 closed t = if t.in_parens then To (Closing (Call t.name (arg.Table t.pairs))) else Ends (Call t.name (arg.Table t.pairs))
 
@@ -26,7 +28,8 @@ closed t = if t.in_parens then To (Closing (Call t.name (arg.Table t.pairs))) el
 abbrev pub with_pair : Table → List ℕ → Literal → Table
 with_pair t key v = record t { pairs = t.pairs ++ pair key v ∷ [] }
 
--- `step q kind`: the transition of a token of `kind` in the state `q`, or nothing.
+-- `step q kind`: the transition of a token of `kind` in the state `q`, or nothing if the grammar
+-- does not allow the token there.
 abbrev pub step : State → TokenKind → Option Step
 step (Named n) (Quoted t) = Some (Ends (Call n (arg.Value (literal.Text t))))
 step (Named n) OpenParen = Some (To (Opened n))
@@ -58,7 +61,8 @@ step (Path path) Equals = Some (To (PathEquals path))
 step (PathEquals path) k = option_map (λ v. Ends (Assign path v)) (value_of k)
 step _ _ = None
 
--- `begin line kind`: the transition of a token of `kind` on `line` before a statement.
+-- `begin line kind`: the transition of a token of `kind` on `line` before a statement: the next
+-- position, and no statement. Nothing if the token is not a name.
 abbrev pub begin : ℕ → TokenKind → Option (ScriptState × Option Stmt)
 begin line (Name n) = Some (Within line (Named n), None)
 begin line _ = None
@@ -69,30 +73,30 @@ abbrev pub go_on : ℕ → TokenKind → Option (ScriptState × Option Stmt)
 go_on line Semicolon = Some (Start, None)
 go_on line kind = begin line kind
 
--- `landed line s`: the position after the step `s` in the statement on `line`, and the statement
--- that it completes.
+-- `landed line s`: the position after the step `s` in the statement that begins on `line`, and the
+-- statement if the step completes it.
 abbrev pub landed : ℕ → Step → ScriptState × Option Stmt
 landed line (To q) = (Within line q, None)
 landed line (Ends a) = (Whole, Some (record { line = line; action = a }))
 
--- `next p t`: the position after the token `t` at the position `p`, and the statement that `t`
--- completes.
+-- `next p t`: the transition of the token `t` at the position `p`: the position after `t`, and the
+-- statement that `t` completes. Nothing if the grammar does not allow `t` there.
 abbrev pub next : ScriptState → Token → Option (ScriptState × Option Stmt)
 next Start t = begin t.line t.kind
 next Whole t = go_on t.line t.kind
 next (Within line q) t = option_map (landed line) (step q t.kind)
 
--- `place_of to`: the position after the transition `to`.
+-- `place_of to`: the position after the transition `to`, or nothing without a transition.
 abbrev pub place_of : Option (ScriptState × Option Stmt) → Option ScriptState
 place_of to = option_map (λ x. x.0) to
 
--- `ended_by to`: the statement that the transition `to` completes, or no statement.
+-- `ended_by to`: a list of the statement that the transition `to` completes, or of no statement.
 abbrev pub ended_by : Option (ScriptState × Option Stmt) → List Stmt
 ended_by None = []
 ended_by (Some to) = option_to_list to.1
 
 -- `run p ts`: the position after the tokens `ts` from the position `p`, and the statements that
--- they complete.
+-- they complete. Nothing if the grammar does not allow a token.
 abbrev pub run : ScriptState → List Token → Option (ScriptState × List Stmt)
 run p [] = Some (p, [])
 run p (t ∷ ts) = option_and_then (λ to. option_map (λ end. (end.0, option_to_list to.1 ++ end.1)) (run to.0 ts)) (next p t)

@@ -6,7 +6,8 @@ use Rattle.kt_base.specs.Lines.{is_newline}
 use Rattle.kt_script.specs.TokenRules.{is_level}
 use Rattle.kt_script.specs.Inner.Pieces.{blank, broken}
 
--- `closes_at text`: the number of bytes up to the end of the first `]]`, or nothing.
+-- `closes_at text`: the number of bytes in `text` up to the end of its first `]]`, or nothing
+-- without a `]]`.
 abbrev pub closes_at : List ℕ → Option ℕ
 closes_at [] = None
 closes_at (c ∷ cs) = if starts_with nat_eq (c ∷ cs) (codes "]]") then Some 2 else option_map suc (closes_at cs)
@@ -18,7 +19,7 @@ long_comment text None = broken text Endless
 long_comment text (Some n) = blank (n + 4)
 
 -- `comment_at text`: the comment at the beginning of `text`, in long brackets or to the end of its
--- line.
+-- line. A broken token if `text` does not begin with such a comment.
 abbrev pub comment_at : List ℕ → Lexeme
 comment_at text =
     if starts_with nat_eq text (codes "--[[") then long_comment text (closes_at (drop 4 text))

@@ -1,15 +1,15 @@
--- The pieces of a text: white space, comments and tokens.
+-- The lexemes of a text: white space, comments and tokens.
 use Rattle.std.specs.Prelude.{ℕ, List, length, Some, None}
 use Rattle.kt_script.specs.Types.{Broken, Flaw, TokenKind, Lexeme}
 
--- `blank n`: a piece of `n` bytes that is not a token.
+-- `blank n`: a lexeme of `n` bytes that is white space or a comment.
 abbrev pub blank : ℕ → Lexeme
 blank n = record { length = n; kind = None }
 
--- `token n kind`: a token of `n` bytes and of this `kind`.
+-- `token n kind`: a lexeme of `n` bytes that is a token of this `kind`.
 abbrev pub token : ℕ → TokenKind → Lexeme
 token n kind = record { length = n; kind = Some kind }
 
--- `broken text flaw`: a broken token, which extends to the end of `text`.
+-- `broken text flaw`: a broken token with this `flaw`, which extends to the end of `text`.
 abbrev pub broken : List ℕ → Flaw → Lexeme
 broken text flaw = token (length text) (Broken flaw)

@@ -5,7 +5,8 @@ use Rattle.kt_script.specs.declared.parser.Parser.{Parser}
 use Rattle.kt_script.specs.Inner.Automaton.{run, next}
 use Rattle.kt_script.specs.Faults.{open_lines, own_fault}
 
--- `HasRead place parser tokens`: `parser` has read `tokens` and is at the position `place`.
+-- `HasRead place parser tokens`: `parser` has read `tokens` from the start of a script up to the
+-- position `place`. It has their statements and the lines of their open brackets.
 pub record HasRead (place : ScriptState) (parser : Parser) (tokens : List Token) : Type 0 where
   pub runs : run Start tokens ≡ Some (place, parser.statements)
   pub brackets : parser.brackets.items ≡ open_lines [] tokens

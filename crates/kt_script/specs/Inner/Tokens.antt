@@ -11,12 +11,14 @@ use Rattle.kt_script.specs.Inner.Words.{name_at, number_at}
 use Rattle.kt_script.specs.Inner.Strings.{quoted_at}
 use Rattle.kt_script.specs.Inner.Comments.{comment_at}
 
--- `marked text kind`: a punctuation token of `kind`. Without `kind`, a broken token.
+-- `marked text kind`: a punctuation token of `kind`, which has one byte. Without `kind`, a broken
+-- token that is all of `text`.
 abbrev pub marked : List ℕ → Option TokenKind → Lexeme
 marked text None = broken text Bad
 marked text (Some kind) = token 1 kind
 
--- `piece_at text`: the piece at the beginning of `text`.
+-- `piece_at text`: the lexeme at the beginning of `text`: white space, a comment or a token. An
+-- empty text has a lexeme of 0 bytes.
 unfoldable pub piece_at : List ℕ → Lexeme
 piece_at [] = blank 0
 piece_at (c ∷ cs) =
@@ -27,13 +29,13 @@ piece_at (c ∷ cs) =
     else if c == 45 then comment_at (c ∷ cs)
     else marked (c ∷ cs) (mark_of c)
 
--- `tokens_in line kind`: the token of `kind` on `line`, or no token.
+-- `tokens_in line kind`: a list of the token of `kind` on `line`, or of no token without `kind`.
 abbrev pub tokens_in : ℕ → Option TokenKind → List Token
 tokens_in line None = []
 tokens_in line (Some kind) = record { line = line; kind = kind } ∷ []
 
--- `tokens line n text`: the tokens of `text`, which begins on `line`. Its first `n` bytes belong to
--- the piece before.
+-- `tokens line n text`: the tokens of `text`, which begins on `line`, after its first `n` bytes.
+-- These bytes belong to a lexeme that began before `text`.
 unfoldable pub tokens : ℕ → ℕ → List ℕ → List Token
 tokens line n [] = []
 tokens line zero (c ∷ cs) = let piece = piece_at (c ∷ cs) in tokens_in line piece.kind ++ tokens (line_after line c) (piece.length - 1) cs
