@@ -13,8 +13,7 @@ or-or : {A : Type 0} (a b c : Option A) → option_or (option_or a b) c ≡ opti
 or-or None b c = refl
 or-or (Some x) b c = refl
 
--- an appended definition without a value for the variable keeps the last value; any other replaces
--- it
+-- an appended definition replaces the last value if it sets the variable, otherwise it keeps it
 last_given-push : {A : Type 0} (given : Definition → Option A) (xs : List Definition) (d : Definition) → last_given given (xs ++ d ∷ []) ≡ option_or (given d) (last_given given xs)
 last_given-push given [] d = sym (or-none (given d))
 last_given-push given (x ∷ xs) d = ap (λ o. option_or o (given x)) (last_given-push given xs d) ∙ or-or (given d) (last_given given xs) (given x)

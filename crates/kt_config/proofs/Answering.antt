@@ -91,10 +91,12 @@ refuses_same NotAssignment fault e = e
 same_err : {a b : ConfigFault} → a ≡ b → ◌≡◌ {A = Outcome} (Err a) (Err b)
 same_err e = ap (λ (x : ConfigFault). Err x) e
 
+-- `definitions_or outcome d`: the definitions in `outcome`, or `d` for a fault
 abbrev definitions_or : Outcome → List Definition → List Definition
 definitions_or (Ok ds) d = ds
 definitions_or (Err fault) d = d
 
+-- `fault_or outcome d`: the fault in `outcome`, or `d` for definitions
 abbrev fault_or : Outcome → ConfigFault → ConfigFault
 fault_or (Ok ds) d = d
 fault_or (Err fault) d = fault

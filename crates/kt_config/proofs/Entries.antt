@@ -62,7 +62,7 @@ written : {Z : Type 0} (q : List ℕ) → IsUtf8 q → (x w : List Variable) (es
 written q u x w [] there = absurd (cc)
 written q u x w (e ∷ es) there = written-next q x w e es (λ l. written q u x w es l) (bytes_eq q (string_bytes e.0)) refl (sym (key-chars q u e.0)) there
 
--- the other suites keep their variables
+-- setting the variables of a suite keeps the variables of the other suites
 beside-next : {Z : Type 0} (q other : List ℕ) (w : List Variable) (e : String Z × List Variable) (es : List (String Z × List Variable)) → bytes_eq other (chars q) ≡ false
     → variables_of other (map group_in (set_value (λ k. bytes_eq q (string_bytes k)) es w)) ≡ variables_of other (map group_in es)
     → (b : Bool) → bytes_eq q (string_bytes e.0) ≡ b → bytes_eq (chars q) (chars (string_bytes e.0)) ≡ b
@@ -106,7 +106,7 @@ new_suite : {Z : Type 0} (k : String Z) (w : List Variable) (es : List (String Z
 new_suite k w [] = rw (same-refl (chars (string_bytes k))) refl
 new_suite k w (e ∷ es) = new-next k w e es (new_suite k w es) (string_eq k e.0) refl (sym (key-chars (string_bytes k) (IsUtf8-string_bytes k) e.0))
 
--- the other suites keep their variables
+-- inserting a suite keeps the variables of the other suites
 old-next : {Z : Type 0} (k : String Z) (other : List ℕ) (w : List Variable) (e : String Z × List Variable) (es : List (String Z × List Variable)) → bytes_eq other (chars (string_bytes k)) ≡ false
     → variables_of other (map group_in (insert_entry string_eq es k w)) ≡ variables_of other (map group_in es)
     → (b : Bool) → string_eq k e.0 ≡ b → bytes_eq (chars (string_bytes k)) (chars (string_bytes e.0)) ≡ b

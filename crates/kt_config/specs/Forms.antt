@@ -14,7 +14,8 @@ is_no_digit c = not (is_digit c)
 abbrev pub is_zero : ℕ → Bool
 is_zero c = c == 0
 
--- `is_strange c`: `c` is not an ASCII letter, a digit, `_` or `-`.
+-- `is_strange c`: the byte `c` cannot be in a variable's name: it is not an ASCII letter, a digit,
+-- `_` or `-`.
 abbrev pub is_strange : ℕ → Bool
 is_strange c = not ((nat_le 97 c && nat_le c 122) || (nat_le 65 c && nat_le c 90) || is_digit c || c == 95 || c == 45)
 
@@ -35,6 +36,6 @@ in_range n = if nat_le 1 n && nat_le n largest_width then Some n else None
 abbrev pub width_in : List ℕ → Option ℕ
 width_in bytes = if list_any is_no_digit bytes then None else in_range (decimal_from 0 bytes)
 
--- `width_of value`: the width that the text `value` represents, or nothing.
+-- `width_of value`: the width, 1 to 256, that the text `value` represents in decimal, or nothing.
 abbrev pub width_of : List ℕ → Option ℕ
 width_of value = width_in (utf8 value)

@@ -39,8 +39,8 @@ variable_for suite (Parallelism width) = []
 variable_for suite UnprivilegedUser = []
 variable_for suite (OfSuite owner variable) = if bytes_eq suite owner then variable ∷ [] else []
 
--- `last_given given definitions`: the value of `given` for the last of `definitions` that has a
--- value.
+-- `last_given given definitions`: the last value that `given` returns for one of `definitions`, in
+-- their order. Nothing if `given` returns no value.
 abbrev pub last_given : {A : Type 0} → (Definition → Option A) → List Definition → Option A
 last_given given [] = None
 last_given given (definition ∷ definitions) = option_or (last_given given definitions) (given definition)
@@ -55,8 +55,8 @@ abbrev pub if_any : List Variable → Option (List Variable)
 if_any [] = None
 if_any (variable ∷ variables) = Some (variable ∷ variables)
 
--- `Holds config definitions`: each variable of `config` has its last value in `definitions`. A
--- suite's variables occur once, in the order of their first definitions.
+-- `Holds config definitions`: `config` has the values that `definitions` set: each variable has its
+-- last value. A suite's variables occur once, in the order of their first definitions.
 pub record Holds (config : Values) (definitions : List Definition) : Type 0 where
   pub architecture : config.architecture ≡ last_given architecture_in definitions
   pub platform : config.platform ≡ last_given platform_in definitions

@@ -12,21 +12,22 @@ use Rattle.kt_config.specs.Values.{Group, Values, variables_of}
 use Rattle.kt_config.specs.Holding.{Holds}
 use Rattle.kt_config.specs.Reading.{Outcome}
 
--- `AddsToSuite suite variable old new`: `new` is `old` with `variable` set in `suite`. Other suites
--- are unchanged.
+-- `AddsToSuite suite variable old new`: the list of suites `new` is `old` with `variable` set in
+-- `suite`. The variables of other suites are unchanged.
 pub record AddsToSuite (suite : List ℕ) (variable : Variable) (old new : List Group) : Type 0 where
   pub own : variables_of suite new ≡ Some (last_values (unwrap_or (variables_of suite old) [] ++ variable ∷ []))
   pub others : (other : List ℕ) → bytes_eq other suite ≡ false → variables_of other new ≡ variables_of other old
 
--- `Gives result outcome`: `result` has the values of the definitions in `outcome`, or its fault.
+-- `Gives result outcome`: `result` is what the outcome of a file requires: a configuration with the
+-- values of the definitions in `outcome`, or the fault in `outcome`.
 abbrev pub Gives : Result Values ConfigFault → Outcome → Type 0
 Gives (Ok config) (Ok definitions) = Holds config definitions
 Gives (Ok config) (Err fault) = ⊥
 Gives (Err found) (Ok definitions) = ⊥
 Gives (Err found) (Err fault) = found ≡ fault
 
--- `fault_of_script fault`: the configuration fault of a script's `fault`. A failed allocation is
--- `NoMemory` in both.
+-- `fault_of_script fault`: the fault of a configuration file that, as a script, has the fault
+-- `fault`. A failed allocation stays `NoMemory`.
 abbrev pub fault_of_script : ScriptFault → ConfigFault
 fault_of_script (script.NoMemory refusal) = NoMemory refusal
 fault_of_script script.NotUtf8 = Script script.NotUtf8
@@ -35,6 +36,6 @@ fault_of_script (script.NotLiteral line) = Script (script.NotLiteral line)
 fault_of_script (script.Unclosed line) = Script (script.Unclosed line)
 fault_of_script script.TooLong = Script script.TooLong
 
--- `group_in entry`: the suite of a map's `entry`.
+-- `group_in entry`: the suite with its variables that `entry` of a map represents.
 abbrev pub group_in : {Z : Type 0} → String Z × List Variable → Group
 group_in entry = record { suite = chars (string_bytes entry.0); variables = entry.1 }

@@ -12,18 +12,20 @@ use Rattle.kt_base.specs.Texts.{is_empty}
 abbrev pub Meaning : Type 0
 Meaning = Result Definition ConfigFault
 
--- `unless_empty empty definition`: `definition`, or `BadValue` if `empty` is true.
+-- `unless_empty empty definition`: `definition`, or the fault `BadValue` if `empty` is true.
+-- `empty`: the value of the definition is empty.
 abbrev pub unless_empty : Bool → Definition → Meaning
 unless_empty true definition = Err BadValue
 unless_empty false definition = Ok definition
 
--- `of_width width`: the definition of `parallelism` as `width`, or `BadValue` if `width` is
--- nothing.
+-- `of_width width`: the definition of `parallelism` as `width`, or the fault `BadValue` without a
+-- `width`.
 abbrev pub of_width : Option ℕ → Meaning
 of_width None = Err BadValue
 of_width (Some width) = Ok (Parallelism width)
 
--- `runner_definition name value`: the definition of the runner's variable `name` as `value`.
+-- `runner_definition name value`: the definition that sets the runner's variable `name` to `value`,
+-- or the fault of the name or the value.
 abbrev pub runner_definition : List ℕ → List ℕ → Meaning
 runner_definition name value =
     if bytes_eq name (codes "architecture") then unless_empty (is_empty value) (Architecture value)
@@ -32,19 +34,21 @@ runner_definition name value =
     else if bytes_eq name (codes "parallelism") then of_width (width_of value)
     else Err UnknownVariable
 
--- `is_suite_variable root suite name`: the three parts name a variable of a test suite.
+-- `is_suite_variable root suite name`: `root`, `suite` and `name` are the parts of the name of a
+-- suite's variable: `test_suites.SUITE.NAME`.
 abbrev pub is_suite_variable : List ℕ → List ℕ → List ℕ → Bool
 is_suite_variable root suite name = bytes_eq root (codes "test_suites") && not (is_empty suite) && is_variable name
 
--- `suite_definition root suite name value`: the definition of a suite's variable as `value`, which
--- is any text without a zero byte.
+-- `suite_definition root suite name value`: the definition that sets the variable `name` of `suite`
+-- to `value`, or the fault of the name or the value. A value has no zero byte.
 abbrev pub suite_definition : List ℕ → List ℕ → List ℕ → List ℕ → Meaning
 suite_definition root suite name value =
     if is_suite_variable root suite name
     then if has_zero value then Err BadValue else Ok (OfSuite suite (record { name = name; value = value }))
     else Err UnknownVariable
 
--- `definition_of parts value`: the definition of the variable named by `parts` as `value`.
+-- `definition_of parts value`: the definition that sets the variable with the name `parts` to
+-- `value`, or the fault of the name or the value.
 abbrev pub definition_of : List (List ℕ) → List ℕ → Meaning
 definition_of [] value = Err UnknownVariable
 definition_of (name ∷ []) value = runner_definition name value
@@ -56,6 +60,7 @@ definition_of (root ∷ suite ∷ name ∷ more ∷ rest) value = Err UnknownVar
 abbrev pub dotted : List ℕ → List (List ℕ)
 dotted name = slice_split (λ c. c == 46) name
 
--- `definition_named name value`: the definition of the variable with the dotted `name` as `value`.
+-- `definition_named name value`: the definition that sets the variable with the dotted `name` to
+-- `value`, or the fault of the name or the value.
 abbrev pub definition_named : List ℕ → List ℕ → Meaning
 definition_named name value = definition_of (dotted name) value

@@ -16,7 +16,7 @@ use Rattle.kt_config.specs.Names.{Meaning, definition_of}
 use Rattle.kt_config.specs.Values.{Values}
 use Rattle.kt_config.specs.Holding.{Holds, Adds}
 
--- `is_version arg`: `arg` is the argument of `syntax(2)`.
+-- `is_version arg`: the argument `arg` of a call is the number 2.
 abbrev pub is_version : Arg → Bool
 is_version (Value (Number n)) = n == 2
 is_version (Value (Text t)) = false
@@ -28,7 +28,8 @@ abbrev pub is_opening : Action → Bool
 is_opening (Call name arg) = bytes_eq name (codes "syntax") && is_version arg
 is_opening (Assign parts value) = false
 
--- `meaning_of action`: the definition or the fault of a statement after the first statement.
+-- `meaning_of action`: the definition in a statement with this `action`, or the statement's fault.
+-- The statement is not the first of a file.
 abbrev pub meaning_of : Action → Meaning
 meaning_of (Call name arg) = Err NotAssignment
 meaning_of (Assign parts value) = definition_of parts (text_of value)
@@ -37,29 +38,32 @@ meaning_of (Assign parts value) = definition_of parts (text_of value)
 abbrev pub Outcome : Type 0
 Outcome = Result (List Definition) ConfigFault
 
--- `with_first definition outcome`: `outcome` with `definition` before its definitions.
+-- `with_first definition outcome`: `outcome` with `definition` before its definitions. A fault is
+-- kept.
 abbrev pub with_first : Definition → Outcome → Outcome
 with_first definition (Ok definitions) = Ok (definition ∷ definitions)
 with_first definition (Err fault) = Err fault
 
--- `with_meaning meaning rest`: the outcome of a statement and the `rest` of the statements. A fault
--- of the statement comes first.
+-- `with_meaning meaning rest`: the outcome of a statement, with this `meaning`, and the statements
+-- after it, with the outcome `rest`. A fault of the statement comes first.
 abbrev pub with_meaning : Meaning → Outcome → Outcome
 with_meaning (Ok definition) rest = with_first definition rest
 with_meaning (Err fault) rest = Err fault
 
--- `definitions_in stmts`: the outcome of `stmts`, which follow the first statement.
+-- `definitions_in stmts`: the definitions in the statements `stmts`, which follow the first
+-- statement of a file, or their first fault.
 abbrev pub definitions_in : List Stmt → Outcome
 definitions_in [] = Ok []
 definitions_in (stmt ∷ stmts) = with_meaning (meaning_of stmt.action) (definitions_in stmts)
 
--- `outcome_of stmts`: the outcome of the script `stmts`, whose first statement must be `syntax(2)`.
+-- `outcome_of stmts`: the definitions in a file of the statements `stmts`, or its first fault. The
+-- first statement must be `syntax(2)`.
 abbrev pub outcome_of : List Stmt → Outcome
 outcome_of [] = Err NoSyntax
 outcome_of (stmt ∷ stmts) = if is_opening stmt.action then definitions_in stmts else Err NoSyntax
 
--- `IsDue text fault`: `fault` is the fault of `text`: its fault as a script, or the first fault of
--- its statements.
+-- `IsDue text fault`: `text` is not a configuration file, and `fault` is the reason: its fault as a
+-- script, or else the first fault of its statements.
 abbrev pub IsDue : List ℕ → ConfigFault → Type 0
 IsDue text fault =
     ((cause : ScriptFault) × IsScriptDue text cause × (fault ≡ Script cause))
@@ -91,7 +95,8 @@ Refuses (Ok x) fault = ⊥
 Refuses (Err (NoMemory refusal)) fault = Unit {0}
 Refuses (Err found) fault = found ≡ fault
 
--- `Becomes old new meaning`: `meaning` is a definition, and `new` is `old` with it added.
+-- `Becomes old new meaning`: `meaning` is a definition, not a fault, and the values `new` are `old`
+-- with the definition added.
 abbrev pub Becomes : Values → Values → Meaning → Type 0
 Becomes old new (Ok definition) = Adds definition old new
 Becomes old new (Err fault) = ⊥

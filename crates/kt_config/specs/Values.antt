@@ -5,29 +5,30 @@ use Rattle.std.specs.declared.string.String.{String}
 use Rattle.kt_base.specs.declared.variable.Variable.{Variable}
 use Rattle.kt_base.specs.LastValues.{last_values}
 
--- `Group`: the name of a test suite with its variables.
+-- `Group`: a test suite: its name and its variables.
 pub record Group : Type 0 where
   pub suite : List ℕ
   pub variables : List Variable
 
--- `Values`: the variables of the runner, and the suites that have variables. An architecture or a
--- platform without a definition is nothing.
+-- `Values`: the value of a configuration: the variables of the runner, and the suites that have
+-- variables. An architecture or a platform is nothing without a definition.
 pub record Values : Type 0 where
   pub architecture : Option (List ℕ)
   pub platform : Option (List ℕ)
   pub parallelism : ℕ
   pub suites : List Group
 
--- `variables_of suite groups`: the variables of `suite` in `groups`, or nothing.
+-- `variables_of suite groups`: the variables of `suite` in the list of suites `groups`, or nothing
+-- if the suite is not in the list.
 abbrev pub variables_of : List ℕ → List Group → Option (List Variable)
 variables_of suite [] = None
 variables_of suite (group ∷ groups) = if bytes_eq suite group.suite then Some group.variables else variables_of suite groups
 
--- `variable_in entry`: the variable of a map's `entry`.
+-- `variable_in entry`: the variable that `entry` of a map, a name with a value, represents.
 abbrev pub variable_in : {Z : Type 0} → String Z × List ℕ → Variable
 variable_in entry = record { name = chars (string_bytes entry.0); value = entry.1 }
 
--- `variables_in entries`: the variables of a map's `entries`.
+-- `variables_in entries`: the variables that `entries` of a map represent, in their order.
 abbrev pub variables_in : {Z : Type 0} → List (String Z × List ℕ) → List Variable
 variables_in entries = map variable_in entries
 

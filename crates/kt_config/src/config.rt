@@ -65,9 +65,11 @@ impl Config {
         }
     }
 
-    /// Adds a definition, whose value replaces an earlier value of its variable.
+    /// Adds `definition`. Its value replaces an earlier value of the same variable.
     ///
-    /// If an allocation fails, the configuration is unchanged.
+    /// # Errors
+    ///
+    /// - `NoMemory`: an allocation fails. The configuration is unchanged.
     pub(crate) fn define(&mut self, definition: Definition) -> Result<(), NoMemory>
         ensures ok { OnOk result (Adds definition self.old self.new) }
         ensures err { OnErr result (self.new ≡ self.old) }
@@ -99,7 +101,9 @@ impl Config {
         self.suites.get(suite)
     }
 
-    /// Returns the machine's architecture, or `unknown` if it is not configured. Allocates nothing.
+    /// Returns the last value of the variable `architecture`, or `unknown` if it is not set.
+    ///
+    /// Allocates nothing.
     pub fn architecture(&self) -> &str
         ensures { chars result.now ≡ unwrap_or self.now.architecture (codes "unknown") }
     {
@@ -109,7 +113,9 @@ impl Config {
         }
     }
 
-    /// Returns the machine's platform, or `unknown` if it is not configured. Allocates nothing.
+    /// Returns the last value of the variable `platform`, or `unknown` if it is not set.
+    ///
+    /// Allocates nothing.
     pub fn platform(&self) -> &str
         ensures { chars result.now ≡ unwrap_or self.now.platform (codes "unknown") }
     {

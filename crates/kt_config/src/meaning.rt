@@ -6,7 +6,7 @@ use crate::width::Width;
 use crate::words::{has_zero, is_variable};
 use kt_base::{NoMemory, Text, Variable};
 
-/// A definition: a variable with its new value.
+/// A definition in a configuration: a variable with its new value.
 #[derive(Drop)]
 pub enum Definition {
     /// The architecture of the machine, not empty.
@@ -19,11 +19,11 @@ pub enum Definition {
     ///
     /// The value has no effect, because this profile runs each test as the user of the runner.
     UnprivilegedUser,
-    /// The name of a test suite, and a variable of the suite.
+    /// A variable of the test suite with this name, and its value.
     OfSuite(Text, Variable),
 }
 
-/// Returns `definition`, or `BadValue` if `empty` is `true`.
+/// Returns `definition`, or the fault `BadValue` if its value is empty.
 fn unless_empty(empty: bool, definition: Definition) -> Result<Definition, ConfigFault>
     ensures { result ≡ unless_empty empty definition }
 {
@@ -33,7 +33,7 @@ fn unless_empty(empty: bool, definition: Definition) -> Result<Definition, Confi
     Ok(definition)
 }
 
-/// Returns the definition of `parallelism` as `width`, or `BadValue` if `width` is `None`.
+/// Returns the definition of `parallelism` as `width`, or the fault `BadValue` without a width.
 fn of_width(width: Option<Width>) -> Result<Definition, ConfigFault>
     ensures { result ≡ of_width width }
 {
@@ -43,7 +43,9 @@ fn of_width(width: Option<Width>) -> Result<Definition, ConfigFault>
     }
 }
 
-/// Returns the definition of the runner's variable `name`, or the fault of its name or value.
+/// Returns the definition that sets the runner's variable `name` to `value`.
+///
+/// Returns `UnknownVariable` if the runner has no such variable, or `BadValue` for a bad value.
 #[tactic(auto, unfolding(crate::proofs::Common::chars))]
 fn runner_definition(name: &Text, value: Text) -> Result<Definition, ConfigFault>
     ensures { result ≡ runner_definition name.now value }
@@ -62,7 +64,9 @@ fn runner_definition(name: &Text, value: Text) -> Result<Definition, ConfigFault
     }
 }
 
-/// Returns `true` if three parts name a variable of a test suite: `test_suites.SUITE.NAME`.
+/// Returns `true` if `root`, `suite` and `name` are the three parts of `test_suites.SUITE.NAME`.
+///
+/// `suite` must not be empty, and `name` must be a variable's name.
 #[tactic(auto, unfolding(crate::proofs::Common::chars))]
 fn is_suite_variable(root: &Text, suite: &Text, name: &Text) -> bool
     ensures { result ≡ is_suite_variable root.now suite.now name.now }
@@ -76,7 +80,10 @@ fn is_suite_variable(root: &Text, suite: &Text, name: &Text) -> bool
     is_variable(name)
 }
 
-/// Returns the definition of a test suite's variable, or the fault of its name or value.
+/// Returns the definition that sets the variable `name` of the test suite `suite` to `value`.
+///
+/// Returns `UnknownVariable` if the three parts do not name a variable of a test suite, or
+/// `BadValue` if `value` contains a zero byte.
 fn suite_definition(
     root: &Text,
     suite: &Text,
@@ -97,9 +104,13 @@ fn suite_definition(
     Ok(Ok(Definition::OfSuite(suite, Variable { name, value })))
 }
 
-/// Returns the definition of the variable named by `parts`, or the fault of its name or value.
+/// Returns the definition that sets the variable with the dotted name `parts` to `value`.
 ///
-/// The name is checked before the value.
+/// Returns `UnknownVariable` if no variable has this name, or else `BadValue` for a bad value.
+///
+/// # Errors
+///
+/// - `NoMemory`: an allocation fails.
 pub fn definition_of(
     parts: &[Text],
     value: Text,

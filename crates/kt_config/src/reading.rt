@@ -7,7 +7,7 @@ use kt_base::NoMemory;
 use kt_script::{Action, Arg, Literal, ScriptFault, Stmt};
 use std::alloc::Global;
 
-/// Returns the fault of a configuration file that is not a script, by the script's fault.
+/// Converts the fault of a script to the fault of a configuration file.
 pub fn script_fault(fault: ScriptFault) -> ConfigFault
     ensures { result ≡ fault_of_script fault }
 {
@@ -37,7 +37,9 @@ fn is_opening(action: &Action) -> bool
     }
 }
 
-/// Returns the definition or the fault of a statement after the first statement.
+/// Returns the definition in a statement with this `action`, which is not the first statement.
+///
+/// Returns a fault if the statement is a call, or if the name or the value is not accepted.
 fn meaning_of(alloc: Global, action: &Action) -> Result<Result<Definition, ConfigFault>, NoMemory>
     ensures { IfOk result (λ meaning. meaning ≡ meaning_of action.now) }
 {
@@ -47,7 +49,9 @@ fn meaning_of(alloc: Global, action: &Action) -> Result<Result<Definition, Confi
     }
 }
 
-/// Adds the definition of a statement after the first statement, or returns the statement's fault.
+/// Adds the definition in a statement with this `action` to `config`.
+///
+/// Returns `None`, or the fault of the statement. On a fault, `config` is unchanged.
 fn read_statement(
     alloc: Global,
     config: &mut Config,
@@ -66,7 +70,9 @@ fn read_statement(
     }
 }
 
-/// Creates the configuration of the statements after the first, or returns the first fault.
+/// Creates a configuration with the definitions in `stmts`, or returns their first fault.
+///
+/// `stmts` are the statements after `syntax(2)`.
 fn read_statements(alloc: Global, stmts: &[Stmt]) -> Result<Result<Config, ConfigFault>, NoMemory>
     ensures { IfOk result (λ outcome. Gives outcome (definitions_in stmts.now)) }
 {
@@ -80,7 +86,13 @@ fn read_statements(alloc: Global, stmts: &[Stmt]) -> Result<Result<Config, Confi
     Ok(Ok(config))
 }
 
-/// Creates the configuration of a script that begins with `syntax(2)`, or returns its first fault.
+/// Creates a configuration from the script `stmts`, or returns its first fault.
+///
+/// The first statement must be `syntax(2)`.
+///
+/// # Errors
+///
+/// - `NoMemory`: an allocation fails.
 pub fn read_script(alloc: Global, stmts: &[Stmt]) -> Result<Result<Config, ConfigFault>, NoMemory>
     ensures { IfOk result (λ outcome. Gives outcome (outcome_of stmts.now)) }
 {

@@ -7,11 +7,10 @@ use kt_base::{NoMemory, Text, Variable, Variables};
 use std::alloc::Global;
 use std::marker::Model;
 
-/// The variables of a test suite, each with its last value.
+/// A map from the variables of a test suite to their last values.
 ///
-/// The variables are in the order of their first definitions, so the order of a case's arguments
-/// never depends on hashes. In contracts, a `SuiteVariables` is the list of its pairs, with each
-/// name once.
+/// The order of the variables is that of their first definitions and never depends on hashes. In
+/// contracts, a `SuiteVariables` is the list of its pairs, with each name once.
 #[derive(Drop)]
 pub struct SuiteVariables {
     /// The values by name.
@@ -27,7 +26,7 @@ impl Model for SuiteVariables {
 }
 
 impl SuiteVariables {
-    /// Creates an empty list of variables. Allocates nothing.
+    /// Creates a map without variables. Allocates nothing.
     pub(crate) fn new(alloc: Global) -> SuiteVariables
         ensures { result ≡ [] }
     {
@@ -36,9 +35,11 @@ impl SuiteVariables {
         }
     }
 
-    /// Replaces the value of the variable of the same name, or appends `variable`.
+    /// Sets `variable`: replaces the value of the variable of the same name, or appends `variable`.
     ///
-    /// If an allocation fails, the variables are unchanged.
+    /// # Errors
+    ///
+    /// - `NoMemory`: an allocation fails. The variables are unchanged.
     pub(crate) fn put(&mut self, variable: Variable) -> Result<(), NoMemory>
         ensures ok { OnOk result (self.new ≡ last_values (self.old ++ variable ∷ [])) }
         ensures err { OnErr result (self.new ≡ self.old) }
@@ -64,7 +65,7 @@ impl SuiteVariables {
         self.get(name).is_some()
     }
 
-    /// Copies the variables into a list, in the order of the arguments of a test program.
+    /// Copies the variables into a list, in the order of their first definitions.
     ///
     /// # Errors
     ///
@@ -82,7 +83,7 @@ impl SuiteVariables {
     }
 }
 
-/// Copies a name and a value into a new variable.
+/// Copies the entry of `name` and `value` into a new variable.
 fn copy_of(name: &String, value: &Text) -> Result<Variable, NoMemory>
     ensures { IfOk result (λ variable. variable ≡ variable_in (name.now, value.now)) }
 {

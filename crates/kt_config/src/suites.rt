@@ -8,12 +8,12 @@ use kt_base::{NoMemory, Text, Variable};
 use std::alloc::Global;
 use std::marker::Model;
 
-/// The test suites that have variables, in the order of their first definitions.
+/// A map from test suites to their variables, in the order of the suites' first definitions.
 ///
 /// In contracts, a `Suites` is the list of the suites with their variables.
 #[derive(Drop)]
 pub struct Suites {
-    /// The variables by the name of the suite.
+    /// The variables of each suite, by the suite's name.
     groups: IndexMap<String, SuiteVariables>,
 }
 
@@ -24,7 +24,7 @@ impl Model for Suites {
 }
 
 impl Suites {
-    /// Creates an empty list of suites. Allocates nothing.
+    /// Creates a map without suites. Allocates nothing.
     pub fn new(alloc: Global) -> Suites
         ensures { result ≡ [] }
     {
@@ -40,9 +40,13 @@ impl Suites {
         self.groups.get(suite.as_str())
     }
 
-    /// Sets a variable of `suite` to its value.
+    /// Sets `variable` in the suite `suite`, in place of an earlier value of the same variable.
     ///
-    /// If an allocation fails, the suites are unchanged.
+    /// A suite that is not in the map is appended.
+    ///
+    /// # Errors
+    ///
+    /// - `NoMemory`: an allocation fails. The suites are unchanged.
     pub fn put(&mut self, suite: Text, variable: Variable) -> Result<(), NoMemory>
         ensures ok { OnOk result (AddsToSuite suite variable self.old self.new) }
         ensures err { OnErr result (self.new ≡ self.old) }

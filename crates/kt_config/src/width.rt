@@ -6,7 +6,7 @@ ghost use Rattle.kt_base.specs.Limits.{largest_width};
 use kt_base::{Text, decimal_up_to, is_digit};
 use std::marker::Model;
 
-/// The maximum width, in test cases.
+/// The greatest width that the configuration accepts, in test cases.
 const GREATEST: u64 = 256;
 
 /// A maximum number of cases that run at the same time, 1 to 256.
@@ -33,7 +33,7 @@ fn has_non_digit(bytes: &[u8]) -> bool
     bytes.iter().any(|c| !is_digit(*c))
 }
 
-/// Returns `number`, or `None` if it is not 1 to 256.
+/// Returns `number` as a width, or `None` if `number` is not 1 to 256.
 fn in_range(number: u64) -> Option<u32>
     ensures { result ≡ in_range number }
 {
@@ -43,7 +43,9 @@ fn in_range(number: u64) -> Option<u32>
     None
 }
 
-/// Parses `bytes` as a decimal number, or returns `None` if they are not a number from 1 to 256.
+/// Parses the ASCII digits `bytes` as a number from 1 to 256. Leading zeros are allowed.
+///
+/// Returns `None` for another number, or if a byte is not a digit.
 fn width_in(bytes: &[u8]) -> Option<u32>
     ensures { result ≡ width_in bytes.now }
 {

@@ -10,7 +10,9 @@ pub fn has_zero(text: &Text) -> bool
     text.as_str().as_bytes().iter().any(|c| *c == 0)
 }
 
-/// Returns `true` unless the byte `c` is an ASCII letter, a digit, `_` or `-`.
+/// Returns `true` if the byte `c` cannot be in a variable's name.
+///
+/// The names of variables consist of ASCII letters, digits, `_` and `-`.
 fn is_strange(c: u8) -> bool
     ensures { result ≡ is_strange c }
 {
@@ -24,9 +26,9 @@ fn has_strange(bytes: &[u8]) -> bool
     bytes.iter().any(|c| is_strange(*c))
 }
 
-/// Returns `true` if `name` can be the name of a suite's variable.
+/// Returns `true` if `name` can be the name of a test suite's variable (this profile).
 ///
-/// A name is one or more ASCII letters, digits, `_` and `-`.
+/// Such a name consists of one or more ASCII letters, digits, `_` and `-`.
 pub fn is_variable(name: &Text) -> bool
     ensures { result ≡ is_variable name.now }
 {
