@@ -3,7 +3,7 @@ use Rattle.std.proofs.Common.{◌≡◌, ℕ, Bool, true, false, List, [], ◌�
 use Rattle.kt_metadata.proofs.Common.{chars, IsUtf8, encodes-chars, chars-append, encodes-append, after_front, own_part, filled}
 use Rattle.std.proofs.lemmas.Bool.{eq-eqb, eqb-true}
 
--- The rest after the prefix of a text is found.
+-- `after_front` returns the rest of a text that begins with the prefix.
 pub after_front-append : (front rest : List ℕ) → after_front front (front ++ rest) ≡ Some rest
 after_front-append [] rest = refl
 after_front-append (c ∷ front) rest = rw (eq-eqb c c refl) (after_front-append front rest)
@@ -16,14 +16,14 @@ back-next c d front text rest h true e found =
     ap (λ (x : ℕ). x ∷ text) (sym same) ∙ ap (λ (xs : List ℕ). c ∷ xs) after
 back-next c d front text rest h false e found = absurd (let n : None ≡ Some rest = rw e at found in cc)
 
--- If a rest is found, the text is the prefix followed by the rest.
+-- If `after_front` returns a rest, the text is the prefix followed by the rest.
 pub append-after_front : (front text rest : List ℕ) → after_front front text ≡ Some rest → text ≡ front ++ rest
 append-after_front [] text rest found = let e : text ≡ rest = cc in e
 append-after_front (c ∷ front) [] rest found = absurd (cc)
 append-after_front (c ∷ front) (d ∷ text) rest found =
     back-next c d front text rest (λ e. append-after_front front text rest e) (c == d) refl found
 
--- If bytes begin with the bytes of the prefix, the rest is found.
+-- If bytes begin with the bytes of the prefix, `own_part` returns the rest unless it is empty.
 pub own_part-found : (front text part : List ℕ) → IsUtf8 front → text ≡ front ++ part → own_part (chars front) (chars text) ≡ filled (chars part)
 own_part-found front text part u e =
     ap (λ (t : List ℕ). own_part (chars front) t) (ap chars e ∙ chars-append front part u)
@@ -37,6 +37,6 @@ none-next front text u v lacks (Some rest) e =
     absurd (lacks (encode_utf8_all rest)
     (sym (encodes-chars text v) ∙ ap encode_utf8_all parts ∙ encodes-append (chars front) rest ∙ ap (λ (bs : List ℕ). bs ++ encode_utf8_all rest) (encodes-chars front u)))
 
--- If bytes don't begin with the bytes of the prefix, nothing is found.
+-- If bytes don't begin with the bytes of the prefix, `own_part` returns nothing.
 pub own_part-none : (front text : List ℕ) → IsUtf8 front → IsUtf8 text → ((rest : List ℕ) → text ≡ front ++ rest → ⊥) → own_part (chars front) (chars text) ≡ None
 own_part-none front text u v lacks = none-next front text u v lacks (after_front (chars front) (chars text)) refl

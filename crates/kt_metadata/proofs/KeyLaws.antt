@@ -10,7 +10,7 @@ and-parts true b e = (refl, e)
 and-parts false b e = absurd (cc)
 
 module _ (passes : PropertyRow → Bool) where
-  -- A row that is found has an index and passes the test.
+  -- A row that `find` returns is in the table and passes the test.
   found-next : (q : PropertyRow) (qs : List PropertyRow) (r : PropertyRow) → (find passes qs ≡ Some r → (place : ℕ) × (slice_get qs place ≡ Some r) × (passes r ≡ true))
       → (b : Bool) → passes q ≡ b → find passes (q ∷ qs) ≡ Some r → (place : ℕ) × (slice_get (q ∷ qs) place ≡ Some r) × (passes r ≡ true)
   found-next q qs r h true t e = let here : Some q ≡ Some r = rw t at e in (zero, here, subst (λ (x : PropertyRow). passes x ≡ true) (same_Some q r here) t)
@@ -20,13 +20,13 @@ module _ (passes : PropertyRow → Bool) where
   found-row [] r e = absurd (cc)
   found-row (q ∷ qs) r e = found-next q qs r (found-row qs r) (passes q) refl e
 
-  -- A row passes the test if all rows do.
+  -- If all rows of a table pass a test, the row at each index passes it.
   row-passes : (rows : List PropertyRow) (place : ℕ) (r : PropertyRow) → list_all passes rows ≡ true → slice_get rows place ≡ Some r → passes r ≡ true
   row-passes [] place r all e = absurd (cc)
   row-passes (q ∷ qs) zero r all e = subst (λ (x : PropertyRow). passes x ≡ true) (same_Some q r e) (and-parts (passes q) (list_all passes qs) all).0
   row-passes (q ∷ qs) (suc place) r all e = row-passes qs place r (and-parts (passes q) (list_all passes qs) all).1 e
 
--- `is_it name found`: the name that was found is `name`.
+-- `is_it name found`: `found` is the name `name`, not another name or nothing.
 abbrev is_it : List ℕ → Option (List ℕ) → Bool
 is_it name None = false
 is_it name (Some found) = bytes_eq found name
@@ -35,20 +35,20 @@ it-is : (name : List ℕ) (found : Option (List ℕ)) → is_it name found ≡ t
 it-is name None e = absurd (cc)
 it-is name (Some found) e = ap (λ (n : List ℕ). Some n) (same found name e)
 
--- Each key of the table gives its name.
+-- For each row of the table, `name_of_key` of its key is its name.
 keys-lead : list_all (λ r. is_it r.name (name_of_key r.key)) table ≡ true
 keys-lead = refl
 
--- Each name of the table has a form.
+-- For each row of the table, `form_named` of its name returns a form.
 names-known : list_all (λ r. is_some (form_named r.name)) table ≡ true
 names-known = refl
 
--- The name that a key represents is found.
+-- `name_of_key` returns the name that a key represents.
 pub name-found : (text name : List ℕ) → StandsFor text name → name_of_key text ≡ Some name
 name-found _ _ (key.listed place r at) = it-is r.name (name_of_key r.key) (row-passes (λ r. is_it r.name (name_of_key r.key)) table place r keys-lead at)
 name-found _ _ (key.custom c cs) = refl
 
--- A rest that isn't empty has a first character.
+-- If `filled rest` returns a text, `rest` has a first character.
 filled-parts : (rest part : List ℕ) → filled rest ≡ Some part → (c : ℕ) × (cs : List ℕ) × (rest ≡ c ∷ cs) × (part ≡ c ∷ cs)
 filled-parts [] part e = absurd (cc)
 filled-parts (c ∷ cs) part e = let f : c ∷ cs ≡ part = cc in (c, cs, refl, sym f)
@@ -60,7 +60,7 @@ own-parts front text part (Some rest) e f =
     let parts = filled-parts rest part f in
     (parts.0, parts.1, append-after_front front text rest e ∙ ap (λ (r : List ℕ). front ++ r) parts.2, parts.3)
 
--- The key represents the name that is found.
+-- A key `X-NAME` represents the custom name that the search returns.
 custom-stands : (text name : List ℕ) (part : Option (List ℕ)) → own_part (codes "X-") text ≡ part → option_map (λ p. codes "custom." ++ p) part ≡ Some name → StandsFor text name
 custom-stands text name None e f = absurd (cc)
 custom-stands text name (Some part) e f =
@@ -82,7 +82,7 @@ pub stands : (text : List ℕ) (found : Option (List ℕ)) → found ≡ name_of
 stands text None e = tt
 stands text (Some name) e = stands-next text name (find (has_key text) table) refl (sym e)
 
--- A name that a key represents has a form.
+-- `form_named` returns a form for each name that a key represents.
 known-next : (text name : List ℕ) → StandsFor text name → IsSome (form_named name)
 known-next _ _ (key.listed place r at) = row-passes (λ r. is_some (form_named r.name)) table place r names-known at
 known-next _ _ (key.custom c cs) = refl

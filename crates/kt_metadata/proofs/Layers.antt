@@ -7,7 +7,7 @@ use Rattle.indexmap.specs.IndexMap.{insert_entry}
 use Rattle.kt_base.proofs.Texts.{key-chars}
 
 module _ {Z : Type 0} where
-  -- Inserting an entry puts its pair, and each value is still the value of its text.
+  -- Inserting an entry into the map sets its pair, and each value is still parsed from its text.
   inserted-next : (k : String Z) (v : Given) (e : String Z × Given) (es : List (String Z × Given)) → IsRead (chars (string_bytes k)) v → AreRead (e ∷ es)
       → (pairs_in (insert_entry string_eq es k v) ≡ put (pairs_in es) (pair_in (k, v))) × AreRead (insert_entry string_eq es k v)
       → (b : Bool) → string_eq k e.0 ≡ b → bytes_eq (chars (string_bytes k)) (chars (string_bytes e.0)) ≡ b
@@ -31,7 +31,7 @@ module _ {Z : Type 0} where
       → pairs_in new ≡ last_values (pairs_in es ++ pair_in (k, v) ∷ [])
   inserted-last k v es new is s e = ap pairs_in e ∙ put-settled (pairs_in es) (pairs_in (insert_entry string_eq es k v)) (pair_in (k, v)) s.settled (inserted k v es is s.read).0
 
-  -- The entry that is found has the first value of its name.
+  -- Looking up a name in the map returns the first entry with the name.
   found-next : (q : List ℕ) (e : String Z × Given) (es : List (String Z × Given)) → AreRead (e ∷ es)
       → (option_map (λ it. it.text) (lookup (λ k. bytes_eq q (string_bytes k)) es) ≡ first_value (chars q) (pairs_in es))
       × (option_map (λ it. it.value) (lookup (λ k. bytes_eq q (string_bytes k)) es) ≡ option_and_then (value_named (chars q)) (first_value (chars q) (pairs_in es)))
@@ -56,12 +56,12 @@ module _ {Z : Type 0} where
       → option_map (λ it. it.value) (lookup (λ k. bytes_eq q (string_bytes k)) es) ≡ option_and_then (value_named (chars q)) (value_of (chars q) (pairs_in es))
   value-found q u es s = (found q u es s.read).1 ∙ ap (option_and_then (value_named (chars q))) (first-settled (chars q) (pairs_in es) s.settled)
 
--- Only the last values below another layer count.
+-- Replacing the lower list by its last values doesn't change the last values of both lists.
 pub overlaid-under : (under over : List Variable) → last_values (last_values under ++ over) ≡ last_values (under ++ over)
 overlaid-under under over =
     sym (overlaid (last_values under) over) ∙ ap (λ (vs : List Variable). last_values (vs ++ last_values over)) (twice under) ∙ overlaid under over
 
--- Only the last values of the upper layer count.
+-- Replacing the upper list by its last values doesn't change the last values of both lists.
 pub overlaid-over : (under over : List Variable) → last_values (under ++ last_values over) ≡ last_values (under ++ over)
 overlaid-over under over = sym (overlaid-under under (last_values over)) ∙ overlaid under over
 
@@ -75,7 +75,7 @@ given-over name under own all text e f = sym f ∙ sym (layered name under own a
 pub given-program_layer : (name : List ℕ) (under own all : List Variable) → last_values (under ++ own) ≡ all → None ≡ value_of name own → value_of name under ≡ value_of name all
 given-program_layer name under own all e f = sym (layered name under own all e ∙ ap (λ (o : Option (List ℕ)). option_or o (value_of name under)) (sym f))
 
--- Setting the first of the remaining entries leaves the final values unchanged.
+-- Setting the first of the remaining entries preserves the final values `all`.
 pub next-entry : {Z : Type 0} (old new : List Variable) (bytes : List ℕ) (copy : Given) (key : String Z) (it : Given) (rest after : List (String Z × Given)) {all : List Variable}
     → bytes ≡ string_bytes key → copy ≡ it → new ≡ last_values (old ++ a_pair (chars bytes) copy.text ∷ []) → rest ≡ (key, it) ∷ after
     → last_values (old ++ pairs_in rest) ≡ all → last_values (new ++ pairs_in after) ≡ all
@@ -86,7 +86,7 @@ next-entry {Z} old new bytes copy key it rest after k v n parts so_far =
     ∙ overlaid-under (old ++ pair_in (key, it) ∷ []) (pairs_in after) ∙ ap last_values (append_assoc old (pair_in (key, it) ∷ []) (pairs_in after))
     ∙ ap (λ (es : List (String Z × Given)). last_values (old ++ pairs_in es)) (sym parts) ∙ so_far
 
--- A definition in the upper layer is the last definition of all.
+-- Setting a property in the upper layer sets it in the last values of both layers.
 pub set-last : (under own new all definitions : List Variable) (given due : Variable) → given ≡ due → new ≡ last_values (own ++ given ∷ []) → last_values (under ++ own) ≡ all → all ≡ last_values definitions
     → last_values (under ++ new) ≡ last_values (definitions ++ due ∷ [])
 set-last under own new all definitions given due same n view last =
@@ -94,24 +94,24 @@ set-last under own new all definitions given due same n view last =
     ∙ ap last_values (sym (append_assoc under own (due ∷ []))) ∙ sym (overlaid-under (under ++ own) (due ∷ []))
     ∙ ap (λ (vs : List Variable). last_values (vs ++ due ∷ [])) (view ∙ last) ∙ overlaid-under definitions (due ∷ [])
 
--- Each name has one value.
+-- The last values of two layers have each name once.
 pub once : (under own all : List Variable) → last_values (under ++ own) ≡ all → all ≡ last_values all
 once under own all e = sym e ∙ sym (twice (under ++ own)) ∙ ap last_values e
 
--- Setting a program's properties and then a case's is setting all properties.
+-- Setting the properties of a program and then those of a case sets the last values of both.
 pub laid-over : (old program own mid new all : List Variable) → last_values (program ++ own) ≡ all → mid ≡ last_values (old ++ program) → new ≡ last_values (mid ++ own) → new ≡ last_values (old ++ all)
 laid-over old program own mid new all view m n =
     n ∙ ap (λ (vs : List Variable). last_values (vs ++ own)) m ∙ overlaid-under (old ++ program) own ∙ ap last_values (append_assoc old program own) ∙ sym (overlaid-over old (program ++ own))
     ∙ ap (λ (vs : List Variable). last_values (old ++ vs)) view
 
--- A case's properties over the upper layer of its program are over all properties of the program.
+-- Overlaying a case's properties over its program's upper layer overlays them over all properties.
 pub case-over : (program_layer own first second program case : List Variable) → last_values (program_layer ++ own) ≡ program → first ≡ last_values own → second ≡ last_values (first ++ case)
     → last_values (program_layer ++ second) ≡ last_values (program ++ case)
 case-over program_layer own first second program case view f s =
     ap (λ (vs : List Variable). last_values (program_layer ++ vs)) s ∙ overlaid-over program_layer (first ++ case) ∙ ap last_values (sym (append_assoc program_layer first case)) ∙ sym (overlaid-under (program_layer ++ first) case)
     ∙ ap (λ (ps : List Variable). last_values (ps ++ case)) (ap (λ (vs : List Variable). last_values (program_layer ++ vs)) f ∙ overlaid-over program_layer own ∙ view)
 
--- Properties over properties are the last values of both lists of definitions.
+-- The last values of two lists of last values are those of both lists of definitions.
 pub definitions-over : (program case under over : List Variable) → program ≡ last_values under → case ≡ last_values over → last_values (program ++ case) ≡ last_values (under ++ over)
 definitions-over program case under over u o =
     ap (λ (ps : List Variable). last_values (ps ++ case)) u ∙ ap (λ (cs : List Variable). last_values (last_values under ++ cs)) o ∙ overlaid under over

@@ -4,11 +4,11 @@ use Rattle.kt_metadata.proofs.Common.{around, is_allowed, listed_row}
 use Rattle.kt_base.specs.declared.verdict.Reason.{Reason}
 use Rattle.kt_base.specs.Reasons.{reason_text}
 
--- The element that is found is in the reason.
+-- A reason with the element `found` between `front` and `back` is the text that `around` returns.
 pub around_found : (front back word text : List ℕ) (found : Option (List ℕ)) → found ≡ Some word → text ≡ front ++ (word ++ back) → Some text ≡ around front back found
 around_found front back word text found e f = ap (λ (t : List ℕ). Some t) f ∙ sym (ap (around front back) e)
 
--- The element that isn't listed is in the reason.
+-- If `word` isn't allowed, the reason with `word` is the text that `listed_row` returns.
 pub unlisted_told : (front word : List ℕ) (reason : Reason) (listed : List (List ℕ)) (found : Bool) → found ≡ is_allowed listed word → found ≡ false
     → reason_text reason ≡ front ++ (word ++ codes "' not supported") → Some (reason_text reason) ≡ listed_row front listed word
 unlisted_told front word reason listed found f off t =

@@ -5,6 +5,7 @@ use Rattle.std.proofs.lemmas.Bool.Decides.{nat_tests}
 use Rattle.kt_metadata.specs.declared.value.Value.TheVariants.{Timeout}
 use Rattle.kt_metadata.specs.Values.{limited, digits_of, after_digits, number_of}
 
+-- `IsTimeout seconds`: `seconds` is 1 to 1,000,000.
 abbrev pub IsTimeout : ℕ → Type 0
 IsTimeout seconds = (1 ≤ seconds) × (seconds ≤ 1000000)
 

@@ -13,16 +13,16 @@ solid-word : (word : List ℕ) → is_word word ≡ true → list_any is_space w
 solid-word [] e = refl
 solid-word (c ∷ cs) e = not-true (list_any is_space (c ∷ cs)) e
 
--- A text without white space has none after another character that isn't white space.
+-- Appending a character that isn't white space to a text without white space adds no white space.
 solid-more : (word : List ℕ) (c : ℕ) → list_any is_space word ≡ false → is_space c ≡ false → list_any is_space (word ++ c ∷ []) ≡ false
 solid-more word c w e = list_any-append is_space word (c ∷ []) ∙ rw (w, e) refl
 
--- The end of the text ends an element.
+-- A text without white space is one element, or no element if it is empty.
 found-end : (word : List ℕ) → list_any is_space word ≡ false → AreWords (word ++ []) (ended word [])
 found-end [] e = rule.over
 found-end (c ∷ cs) e = rule.one (c ∷ cs) [] [] (word-solid c cs e) tt rule.over
 
--- White space ends an element.
+-- If white space follows a text without white space, the elements are the text and those after it.
 found-space : (word : List ℕ) (c : ℕ) (cs : List ℕ) (more : List (List ℕ)) → list_any is_space word ≡ false → is_space c ≡ true → AreWords cs more
     → AreWords (word ++ c ∷ cs) (ended word more)
 found-space [] c cs more e space rest = rule.blank c cs more space rest
@@ -37,7 +37,7 @@ found-next word c cs e rest on true space =
 found-next word c cs e rest on false other =
     rw other (subst (λ (t : List ℕ). AreWords t (words_from (word ++ c ∷ []) cs)) (append_assoc word (c ∷ []) cs) (on (solid-more word c e other)))
 
--- The walk finds elements by the rule `AreWords`.
+-- `words_from` returns elements by the rule `AreWords`.
 found : (word text : List ℕ) → list_any is_space word ≡ false → AreWords (word ++ text) (words_from word text)
 found word [] e = found-end word e
 found word (c ∷ cs) e = found-next word c cs e (found [] cs refl) (λ solid. found (word ++ c ∷ []) cs solid) (is_space c) refl
@@ -45,7 +45,7 @@ found word (c ∷ cs) e = found-next word c cs e (found [] cs refl) (λ solid. f
 pub are-words : (text : List ℕ) → AreWords text (words text)
 are-words text = found [] text refl
 
--- The walk goes through characters without white space.
+-- `words_from` appends characters that aren't white space to the element that has begun.
 through-next : (word : List ℕ) (c : ℕ) (cs text : List ℕ) → list_any is_space (c ∷ cs) ≡ false
     → (list_any is_space cs ≡ false → words_from (word ++ c ∷ []) (cs ++ text) ≡ words_from ((word ++ c ∷ []) ++ cs) text)
     → (b : Bool) → is_space c ≡ b → words_from word (c ∷ (cs ++ text)) ≡ words_from (word ++ c ∷ cs) text
@@ -58,13 +58,13 @@ through : (word first text : List ℕ) → list_any is_space first ≡ false →
 through word [] text e = ap (λ (w : List ℕ). words_from w text) (sym (append-nil word))
 through word (c ∷ cs) text e = through-next word c cs text e (λ f. through (word ++ c ∷ []) cs text f) (is_space c) refl
 
--- The walk finds the element that begins the text.
+-- If a text begins with an element, `words_from` returns this element and those of the rest.
 over-next : (first text : List ℕ) → is_word first ≡ true → IsBreak text → words_from first text ≡ first ∷ words text
 over-next [] text e b = absurd (cc)
 over-next (c ∷ cs) [] e b = refl
 over-next (c ∷ cs) (d ∷ ds) e b = rw b refl
 
--- A text has no other elements by the rule `AreWords`.
+-- By the rule `AreWords`, a text has no other list of elements than `words text`.
 pub no-others : (text : List ℕ) (found : List (List ℕ)) → AreWords text found → found ≡ words text
 no-others _ _ rule.over = refl
 no-others _ _ (rule.blank c text found space rest) = no-others text found rest ∙ sym (rw space refl)

@@ -3,25 +3,25 @@ use Rattle.std.proofs.Common.{◌≡◌, ℕ, true, false, List, [], ◌∷◌, 
 use Rattle.kt_metadata.proofs.Common.{is_space, ended, words_from}
 use Rattle.kt_base.specs.Texts.{is_empty}
 
--- An empty element isn't appended.
+-- `ended` of an empty element adds nothing to a list.
 pub nothing : (word : List ℕ) → is_empty word ≡ true → ended word [] ≡ []
 nothing [] e = refl
 nothing (c ∷ cs) e = absurd (cc)
 
--- An element with a character is appended.
+-- `ended` of an element that isn't empty adds the element to a list.
 pub something : (word : List ℕ) → is_empty word ≡ false → ended word [] ≡ word ∷ []
 something [] e = absurd (cc)
 something (c ∷ cs) e = refl
 
--- The elements after an ended element are appended to it.
+-- `ended word more` is the list of `word`, if it isn't empty, followed by `more`.
 ended-then : (word : List ℕ) (more : List (List ℕ)) → ended word more ≡ ended word [] ++ more
 ended-then [] more = refl
 ended-then (c ∷ cs) more = refl
 
--- White space ends the element.
+-- If white space follows `word`, the elements are `word` and the elements after the white space.
 pub at-space : (word rest : List ℕ) (c : ℕ) → is_space c ≡ true → ended word [] ++ words_from [] rest ≡ words_from word (c ∷ rest)
 at-space word rest c space = sym (ended-then word (words_from [] rest)) ∙ sym (rw space refl)
 
--- Any other character is appended to the element.
+-- If another character follows `word`, it belongs to the same element.
 pub in-word : (word rest : List ℕ) (c : ℕ) → is_space c ≡ false → words_from (word ++ c ∷ []) rest ≡ words_from word (c ∷ rest)
 in-word word rest c other = sym (rw other refl)

@@ -1,4 +1,4 @@
--- The names that the clauses of this crate cite, passed on from one place. Declares nothing.
+-- Exports the definitions that the clauses of this crate cite. Declares nothing.
 pub use Rattle.std.specs.List.{filter, find, list_any}
 pub use Rattle.std.specs.Option.{option_copied, option_map}
 pub use Rattle.kt_base.specs.Characters.{is_space}

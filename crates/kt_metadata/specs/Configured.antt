@@ -3,7 +3,7 @@ use Rattle.std.specs.Prelude.{ℕ, Bool, not, codes, List, is_some, unwrap_or, o
 use Rattle.kt_base.specs.LastValues.{value_of}
 use Rattle.kt_config.specs.Values.{Values, variables_of}
 
--- `is_undefined config suite name`: `suite` has no variable `name` in `config`.
+-- `is_undefined config suite name`: the test suite `suite` has no variable `name` in `config`.
 abbrev pub is_undefined : Values → List ℕ → List ℕ → Bool
 is_undefined config suite name =
     not (is_some (option_and_then (value_of name) (variables_of suite config.suites)))

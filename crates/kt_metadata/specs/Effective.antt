@@ -9,30 +9,32 @@ use Rattle.kt_metadata.specs.declared.value.Value.TheVariants.{Words, Truth, Siz
 use Rattle.kt_metadata.specs.declared.meta.Meta.{Meta}
 use Rattle.kt_metadata.specs.Properties.{value_named}
 
--- `texts_of definitions name`: the text of the last definition of `name`.
+-- `texts_of definitions name`: the text of the last of `definitions` for the property `name`, or
+-- nothing.
 abbrev pub texts_of : List Variable → List ℕ → Option (List ℕ)
 texts_of definitions name = value_of name definitions
 
--- `given texts name`: the value of the property `name` by its text in `texts`.
+-- `given texts name`: the value of the property `name`, parsed from the text that `texts` returns
+-- for it, or nothing if the property isn't set.
 abbrev pub given : (List ℕ → Option (List ℕ)) → List ℕ → Option Value
 given texts name = option_and_then (value_named name) (texts name)
 
--- `words_in value`: the elements of `value`, or none.
+-- `words_in value`: the elements of `value`, or an empty list without a value.
 abbrev pub words_in : Option Value → List (List ℕ)
 words_in (Some (Words found)) = found
 words_in other = []
 
--- `truth_in value`: the truth value of `value`, or false.
+-- `truth_in value`: the truth value in `value`, or false without a value.
 abbrev pub truth_in : Option Value → Bool
 truth_in (Some (Truth b)) = b
 truth_in other = false
 
--- `size_in value`: the size of `value` in bytes, or 0.
+-- `size_in value`: the size in `value`, in bytes, or 0 without a value.
 abbrev pub size_in : Option Value → ℕ
 size_in (Some (Size bytes)) = bytes
 size_in other = 0
 
--- `user_in value`: the required user of `value`, or any user.
+-- `user_in value`: the required user in `value`, or any user without a value.
 abbrev pub user_in : Option Value → User
 user_in (Some (OfUser user)) = user
 user_in other = Any
@@ -41,12 +43,13 @@ user_in other = Any
 abbrev pub default_timeout : ℕ
 default_timeout = 300
 
--- `timeout_in value`: the timeout of `value` in seconds, or the default.
+-- `timeout_in value`: the timeout in `value`, in seconds, or the default without a value.
 abbrev pub timeout_in : Option Value → ℕ
 timeout_in (Some (Timeout seconds)) = seconds
 timeout_in other = default_timeout
 
--- `meta_of texts`: each property by its value in `texts`, or else by its default.
+-- `meta_of texts`: the effective properties if `texts` returns the texts that are set: each
+-- property has the value of its text, or its default.
 abbrev pub meta_of : (List ℕ → Option (List ℕ)) → Meta
 meta_of texts = record {
   allowed_architectures = words_in (given texts (codes "allowed_architectures"));
@@ -63,6 +66,7 @@ meta_of texts = record {
   timeout = timeout_in (given texts (codes "timeout"));
 }
 
--- `effective definitions`: each property by its last definition, or else by its default.
+-- `effective definitions`: the effective properties after `definitions`: each property has the
+-- value of its last definition, or its default.
 abbrev pub effective : List Variable → Meta
 effective definitions = meta_of (texts_of definitions)

@@ -1,3 +1,3 @@
--- Definitions for private functions. No public clause cites them.
+-- Definitions that only private functions cite.
 pub mod Layers
 pub mod Rows

@@ -19,17 +19,17 @@ abbrev pub spaced : List (List ℕ) → List ℕ
 spaced [] = []
 spaced (word ∷ words) = 32 ∷ (word ++ spaced words)
 
--- `joined words`: the elements `words`, joined by one space.
+-- `joined words`: the elements `words` with one space between two elements.
 abbrev pub joined : List (List ℕ) → List ℕ
 joined [] = []
 joined (word ∷ words) = word ++ spaced words
 
--- `truth_text value`: the text of a truth value in a listing.
+-- `truth_text value`: the text of the truth value `value` in a listing.
 abbrev pub truth_text : Bool → List ℕ
 truth_text true = codes "true"
 truth_text false = codes "false"
 
--- `user_text user`: the text of a required user in a listing.
+-- `user_text user`: the text of the required user `user` in a listing. It is empty for any user.
 abbrev pub user_text : User → List ℕ
 user_text Any = []
 user_text Root = codes "root"
@@ -44,7 +44,7 @@ shown (value.Size bytes) text = decimal bytes
 shown (value.User user) text = user_text user
 shown (value.Timeout seconds) text = decimal seconds
 
--- `default_value form`: the value of a property with this form that isn't set.
+-- `default_value form`: the value that a property with values of `form` has if it isn't set.
 abbrev pub default_value : Form → Value
 default_value form.Words = value.Words []
 default_value form.Files = value.Words []
@@ -55,12 +55,13 @@ default_value form.Size = value.Size 0
 default_value form.User = value.User Any
 default_value form.Timeout = value.Timeout default_timeout
 
--- `shown_text texts r`: the text of the property of row `r` in a listing: its value in `texts`, or
--- else its default.
+-- `shown_text texts r`: the text of the property of row `r` in a listing. `texts` returns the texts
+-- that are set. A property that isn't set has its default.
 abbrev pub shown_text : (List ℕ → Option (List ℕ)) → PropertyRow → List ℕ
 shown_text texts r = shown (unwrap_or (given texts r.name) (default_value r.form)) (unwrap_or (texts r.name) [])
 
--- `shown_pair texts r`: the property of row `r` with its text in a listing.
+-- `shown_pair texts r`: the property of row `r` with its text in a listing. `texts` returns the
+-- texts that are set.
 abbrev pub shown_pair : (List ℕ → Option (List ℕ)) → PropertyRow → Variable
 shown_pair texts r = record { name = r.name; value = shown_text texts r }
 
@@ -68,20 +69,21 @@ shown_pair texts r = record { name = r.name; value = shown_text texts r }
 abbrev pub is_valued : Variable → Bool
 is_valued pair = not (is_empty pair.value)
 
--- `is_custom_pair pair`: `pair` is of a custom property.
+-- `is_custom_pair pair`: the name of `pair` is that of a custom property.
 abbrev pub is_custom_pair : Variable → Bool
 is_custom_pair pair = is_custom pair.name
 
--- `shown_pairs texts rows`: the properties of `rows` with their texts in order, without empty
--- texts.
+-- `shown_pairs texts rows`: the properties of `rows` with their texts in a listing, in order,
+-- except those with empty texts. `texts` returns the texts that are set.
 abbrev pub shown_pairs : (List ℕ → Option (List ℕ)) → List PropertyRow → List Variable
 shown_pairs texts rows = filter is_valued (map (shown_pair texts) rows)
 
--- `custom_pairs pairs`: the custom properties among `pairs` in order, without empty texts.
+-- `custom_pairs pairs`: the custom properties among `pairs` in order, except those with empty
+-- texts.
 abbrev pub custom_pairs : List Variable → List Variable
 custom_pairs pairs = filter is_valued (filter is_custom_pair pairs)
 
--- `listing definitions`: the effective properties in the order of the table, then the custom
--- properties in the order of their first definitions.
+-- `listing definitions`: the properties with their texts after `definitions`: those of the table in
+-- its order, then the custom properties in the order of their first definitions.
 abbrev pub listing : List Variable → List Variable
 listing definitions = shown_pairs (texts_of definitions) table ++ custom_pairs (last_values definitions)

@@ -11,14 +11,14 @@ use Rattle.kt_metadata.specs.declared.fault.PropFault.TheVariants.{NoMemory, Unk
 use Rattle.kt_metadata.specs.Words.{words}
 use Rattle.kt_metadata.specs.Values.{truth_of, user_of, size_of, timeout_of, is_not_absolute, is_no_program}
 
--- `PropertyRow`: a property with a fixed name: the name, the key in lists of ATF cases, and the form of the
--- values.
+-- `PropertyRow`: a property with a fixed name: the name, the key in lists of ATF cases, and the
+-- form of the values.
 pub record PropertyRow : Type 0 where
   pub name : List ℕ
   pub key : List ℕ
   pub form : Form
 
--- `row name key f`: the row of these three values.
+-- `row name key f`: the row of the property `name` with the key `key` and values of the form `f`.
 abbrev row : List ℕ → List ℕ → Form → PropertyRow
 row name key f = record { name = name; key = key; form = f }
 
@@ -38,28 +38,28 @@ table =
     ∷ row (codes "required_user") (codes "require.user") form.User
     ∷ row (codes "timeout") (codes "timeout") form.Timeout ∷ []
 
--- `filled text`: `text`, if it has at least one character.
+-- `filled text`: `text`, or nothing if it is empty.
 abbrev pub filled : List ℕ → Option (List ℕ)
 filled [] = None
 filled (c ∷ cs) = Some (c ∷ cs)
 
--- `after_front front text`: the rest of `text` after the prefix `front`, if `text` begins with
--- `front`.
+-- `after_front front text`: the rest of `text` after the prefix `front`, or nothing if `text`
+-- doesn't begin with `front`.
 abbrev pub after_front : List ℕ → List ℕ → Option (List ℕ)
 after_front [] text = Some text
 after_front (c ∷ front) [] = None
 after_front (c ∷ front) (d ∷ text) = if c == d then after_front front text else None
 
--- `own_part front text`: the rest of `text` after the prefix `front`, if `text` begins with `front`
--- and goes on.
+-- `own_part front text`: the rest of `text` after the prefix `front`, or nothing if the prefix is
+-- missing or the rest is empty.
 abbrev pub own_part : List ℕ → List ℕ → Option (List ℕ)
 own_part front text = option_and_then filled (after_front front text)
 
--- `is_custom name`: `name` is the name of a custom property.
+-- `is_custom name`: `name` is the name of a custom property: `custom.` and at least one character.
 abbrev pub is_custom : List ℕ → Bool
 is_custom name = is_some (own_part (codes "custom.") name)
 
--- `has_name name r`: the row `r` has the name `name`.
+-- `has_name name r`: the property of the row `r` has the name `name`.
 abbrev pub has_name : List ℕ → PropertyRow → Bool
 has_name name r = bytes_eq name r.name
 
@@ -73,11 +73,13 @@ form_named name = if is_custom name then Some form.Text else option_map (λ r. r
 abbrev pub is_kyuafile_property : List ℕ → Bool
 is_kyuafile_property name = not (bytes_eq name (codes "has_cleanup")) && is_some (form_named name)
 
--- `words_but is_wrong found`: the value of the elements `found`, if none of them is wrong.
+-- `words_but is_wrong found`: the value with the elements `found`, or nothing if `is_wrong` holds
+-- of one of them.
 abbrev pub words_but : (List ℕ → Bool) → List (List ℕ) → Option Value
 words_but is_wrong found = if list_any is_wrong found then None else Some (value.Words found)
 
--- `value_in form text`: the value of `form` that `text` represents, if there is one.
+-- `value_in form text`: the value of the form `form` that `text` represents, or nothing if `text`
+-- is invalid.
 abbrev pub value_in : Form → List ℕ → Option Value
 value_in form.Words text = Some (value.Words (words text))
 value_in form.Files text = words_but is_not_absolute (words text)
@@ -88,19 +90,19 @@ value_in form.Size text = option_map (λ n. value.Size n) (size_of text)
 value_in form.User text = option_map (λ u. value.User u) (user_of text)
 value_in form.Timeout text = option_map (λ n. value.Timeout n) (timeout_of text)
 
--- `value_named name text`: the value of the property `name` that `text` represents, if there is
--- one.
+-- `value_named name text`: the value of the property `name` that `text` represents, or nothing if
+-- the name or the text is invalid.
 abbrev pub value_named : List ℕ → List ℕ → Option Value
 value_named name text = option_and_then (λ f. value_in f text) (form_named name)
 
--- `value_fault form text`: the error if a property with values of `form` is set to `text`. Without
--- a form, the property is unknown.
+-- `value_fault form text`: the error if a property with values of `form` is set to `text`, or
+-- nothing. Without a form, the property is unknown.
 abbrev pub value_fault : Option Form → List ℕ → Option PropFault
 value_fault None text = Some UnknownProperty
 value_fault (Some f) text = if is_some (value_in f text) then None else Some BadValue
 
--- `definition_fault name text`: the error if the property `name` is set to `text`: an unknown name
--- comes before a bad value.
+-- `definition_fault name text`: the error if the property `name` is set to `text`, or nothing. An
+-- unknown name comes before a bad value.
 abbrev pub definition_fault : List ℕ → List ℕ → Option PropFault
 definition_fault name text = value_fault (form_named name) text
 

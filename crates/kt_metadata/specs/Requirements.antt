@@ -17,67 +17,69 @@ use Rattle.kt_metadata.specs.declared.value.User.{User}
 use Rattle.kt_metadata.specs.declared.value.User.TheVariants.{Root, Unprivileged}
 use Rattle.kt_metadata.specs.Configured.{is_undefined, architecture_of, platform_of}
 
--- `text_in reason`: the text of `reason`, if there is a reason.
+-- `text_in reason`: the text of `reason`, or nothing without a reason.
 abbrev pub text_in : Option Reason → Option (List ℕ)
 text_in reason = option_map reason_text reason
 
--- `around front back word`: `word` between `front` and `back`, if there is a word.
+-- `around front back word`: the text `front`, `word`, `back`, or nothing without a `word`.
 abbrev pub around : List ℕ → List ℕ → Option (List ℕ) → Option (List ℕ)
 around front back word = option_map (λ w. front ++ (w ++ back)) word
 
--- `is_allowed listed word`: `listed` is empty or contains `word`.
+-- `is_allowed listed word`: the list of allowed values `listed` is empty or contains `word`.
 abbrev pub is_allowed : List (List ℕ) → List ℕ → Bool
 is_allowed listed word = length listed == 0 || list_any (λ w. bytes_eq w word) listed
 
--- `config_row meta config suite`: the reason if a required variable isn't a variable of `suite`,
--- for the first such variable.
+-- `config_row meta config suite`: the reason if a variable that `meta` requires isn't set for the
+-- test suite `suite` in `config`. The reason names the first such variable.
 abbrev pub config_row : Meta → Values → List ℕ → Option (List ℕ)
 config_row meta config suite =
     around (codes "Required configuration property '") (codes "' not defined")
     (find (is_undefined config suite) meta.required_configs)
 
--- `listed_row front listed word`: the reason if `word` isn't allowed by `listed`; it begins with
--- `front`.
+-- `listed_row front listed word`: the reason if `word` isn't among the allowed values `listed`. The
+-- reason begins with `front`.
 abbrev pub listed_row : List ℕ → List (List ℕ) → List ℕ → Option (List ℕ)
 listed_row front listed word = if is_allowed listed word then None else Some (front ++ (word ++ codes "' not supported"))
 
--- `architecture_row meta config`: the reason if the architecture isn't allowed.
+-- `architecture_row meta config`: the reason if `meta` doesn't allow the architecture of `config`.
 abbrev pub architecture_row : Meta → Values → Option (List ℕ)
 architecture_row meta config = listed_row (codes "Current architecture '") meta.allowed_architectures (architecture_of config)
 
--- `platform_row meta config`: the reason if the platform isn't allowed.
+-- `platform_row meta config`: the reason if `meta` doesn't allow the platform of `config`.
 abbrev pub platform_row : Meta → Values → Option (List ℕ)
 platform_row meta config = listed_row (codes "Current platform '") meta.allowed_platforms (platform_of config)
 
--- `user_row user root`: the reason if `user` is root and the runner isn't, or if `user` is
--- unprivileged and the runner is root. `root`: the runner is root.
+-- `user_row user root`: the reason if the runner isn't the required `user`. `root` is true if the
+-- runner is root.
 abbrev pub user_row : User → Bool → Option (List ℕ)
 user_row Root false = Some (codes "Requires root privileges")
 user_row Unprivileged true = Some (codes "Requires an unprivileged user")
 user_row user root = None
 
--- `all_needs`: all kinds of needs, in the order of the lookups.
+-- `all_needs`: all kinds of needs, in the order in which the host is searched for them.
 abbrev pub all_needs : List Need
 all_needs = File ∷ Program ∷ []
 
--- `needed need meta`: the files or programs that `meta` requires on the host.
+-- `needed need meta`: the objects of the kind `need`, files or programs, that `meta` requires on
+-- the host.
 abbrev pub needed : Need → Meta → List (List ℕ)
 needed File meta = meta.required_files
 needed Program meta = meta.required_programs
 
--- `is_found need host word`: the file or program `word` was found on `host`.
+-- `is_found need host word`: `word`, a file or program of the kind `need`, was found on `host`.
 abbrev pub is_found : Need → Host → List ℕ → Bool
 is_found File host word = contains_text host.files (utf8 word)
 is_found Program host word = contains_text host.programs (utf8 word)
 
--- `is_same_need need word other_need other`: `word` and `other` are equal, and so are their kinds.
+-- `is_same_need need word other_need other`: `word` and `other` are equal, and so are their kinds
+-- `need` and `other_need`.
 abbrev pub is_same_need : Need → List ℕ → Need → List ℕ → Bool
 is_same_need File path File other = bytes_eq (utf8 path) (utf8 other)
 is_same_need Program name Program other = bytes_eq (utf8 name) (utf8 other)
 is_same_need need word other_need other = false
 
--- `IsNoted need word old new`: `new` is `old`, with `word` added to the files or programs that were
--- found.
+-- `IsNoted need word old new`: the host `new` is `old` with `word` added to the objects of the kind
+-- `need` that were found.
 pub record IsNoted (need : Need) (word : List ℕ) (old new : Host) : Type 0 where
   pub found : (other_need : Need) (other : List ℕ) → is_found other_need new other ≡ (is_found other_need old other || is_same_need need word other_need other)
   pub root : new.root ≡ old.root
@@ -89,33 +91,34 @@ abbrev pub need_text : Need → List ℕ
 need_text File = codes "Required file '"
 need_text Program = codes "Required program '"
 
--- `need_row need meta host`: the reason if a required file or program wasn't found on `host`, for
--- the first such file or program.
+-- `need_row need meta host`: the reason if an object of the kind `need` that `meta` requires wasn't
+-- found on `host`. The reason names the first such object.
 abbrev pub need_row : Need → Meta → Host → Option (List ℕ)
 need_row need meta host = around (need_text need) (codes "' not found") (find (λ word. not (is_found need host word)) (needed need meta))
 
--- `amount_row phrase due there`: the reason if the amount `there` is less than the required amount
--- `due`. An unknown amount is enough.
+-- `amount_row phrase due there`: the reason, with the message `phrase`, if the host has `there`
+-- bytes and `due` bytes are required. An unknown amount is enough.
 abbrev pub amount_row : Phrase → ℕ → Option ℕ → Option (List ℕ)
 amount_row phrase due None = None
 amount_row phrase due (Some there) =
     if nat_lt there due then Some (counted_text phrase due there) else None
 
--- `host_rows meta host`: the reasons of the requirements that only `host` decides, in their order.
+-- `host_rows meta host`: the reasons why `host` doesn't meet the requirements of `meta` on user,
+-- files, programs, memory and disk, in this order. A reason is absent if the requirement is met.
 abbrev pub host_rows : Meta → Host → List (Option (List ℕ))
 host_rows meta host =
     user_row meta.required_user host.root ∷ need_row File meta host ∷ need_row Program meta host
     ∷ amount_row MemoryNeeded meta.required_memory host.memory
     ∷ amount_row DiskNeeded meta.required_disk_space host.disk ∷ []
 
--- `rows meta config suite host`: the reasons of all eight requirements in their order, each absent
--- if the requirement is met.
+-- `rows meta config suite host`: the reasons of all eight requirements of a case of `suite`, in the
+-- order of the checks. A reason is absent if the requirement is met.
 abbrev pub rows : Meta → Values → List ℕ → Host → List (Option (List ℕ))
 rows meta config suite host =
     config_row meta config suite ∷ architecture_row meta config
     ∷ platform_row meta config ∷ host_rows meta host
 
--- `first_reason rows`: the first reason among `rows`.
+-- `first_reason rows`: the first reason that is present in `rows`, or nothing.
 abbrev pub first_reason : List (Option (List ℕ)) → Option (List ℕ)
 first_reason [] = None
 first_reason (None ∷ rest) = first_reason rest

@@ -9,74 +9,80 @@ use Rattle.kt_base.specs.Utf8.{utf8}
 use Rattle.kt_metadata.specs.declared.value.User.{User}
 use Rattle.kt_metadata.specs.declared.value.User.TheVariants.{Any, Root, Unprivileged}
 
--- `truths`: the texts of truth values.
+-- `truths`: the table from texts to truth values.
 abbrev pub truths : List (List ℕ × Bool)
 truths = (codes "true", true) ∷ (codes "yes", true) ∷ (codes "false", false) ∷ (codes "no", false) ∷ []
 
--- `truth_of text`: the truth value that `text` represents, if there is one.
+-- `truth_of text`: the truth value that `text` represents, or nothing if `text` is invalid.
 abbrev pub truth_of : List ℕ → Option Bool
 truth_of text = named truths text
 
--- `users`: the texts of required users.
+-- `users`: the table from texts to required users.
 abbrev pub users : List (List ℕ × User)
 users = ([], Any) ∷ (codes "root", Root) ∷ (codes "unprivileged", Unprivileged) ∷ []
 
--- `user_of text`: the required user that `text` represents, if there is one.
+-- `user_of text`: the required user that `text` represents, or nothing if `text` is invalid.
 abbrev pub user_of : List ℕ → Option User
 user_of text = named users text
 
--- `number_of digits`: the number of one or more digits, if it is below 2^64.
+-- `number_of digits`: the number with the decimal digits `digits`, or nothing if they are none or
+-- the number isn't below 2^64.
 abbrev pub number_of : List ℕ → Option ℕ
 number_of [] = None
 number_of (c ∷ cs) = fits (decimal_from 0 (c ∷ cs))
 
--- `digits_of text`: the digits at the beginning of `text`.
+-- `digits_of text`: the decimal digits at the beginning of `text`.
 abbrev pub digits_of : List ℕ → List ℕ
 digits_of text = take (prefix_len is_digit text) text
 
--- `after_digits text`: the rest of `text` after the digits at its beginning.
+-- `after_digits text`: the rest of `text` after the decimal digits at its beginning.
 abbrev pub after_digits : List ℕ → List ℕ
 after_digits text = drop (prefix_len is_digit text) text
 
--- `unit_of c`: the factor of the unit `c`: K, M, G or T, in either case.
+-- `unit_of c`: the factor in bytes of the unit `c`, or nothing if `c` isn't K, M, G or T, in either
+-- case.
 abbrev pub unit_of : ℕ → Option ℕ
 unit_of c =
     if c == 75 || c == 107 then Some 1024 else if c == 77 || c == 109 then Some (1024 ^ 2)
     else if c == 71 || c == 103 then Some (1024 ^ 3) else if c == 84 || c == 116 then Some (1024 ^ 4) else None
 
--- `factor_of rest`: the factor after the digits of a size: 1 if `rest` is empty, or the factor of a
--- single unit.
+-- `factor_of rest`: the factor for the bytes `rest` after the digits of a size: 1 if `rest` is
+-- empty, or the factor of the unit `rest`. Nothing for another `rest`.
 abbrev pub factor_of : List ℕ → Option ℕ
 factor_of [] = Some 1
 factor_of (c ∷ []) = unit_of c
 factor_of (c ∷ d ∷ cs) = None
 
--- `scaled number factor`: the product, if it is below 2^64.
+-- `scaled number factor`: the product of `number` and `factor`, or nothing if one is missing or the
+-- product isn't below 2^64.
 abbrev pub scaled : Option ℕ → Option ℕ → Option ℕ
 scaled None factor = None
 scaled (Some v) None = None
 scaled (Some v) (Some factor) = fits (v * factor)
 
--- `size_in bytes`: the size in bytes that digits and a unit represent, if there is one.
+-- `size_in bytes`: the size in bytes that the ASCII text `bytes`, digits and a unit, represents, or
+-- nothing if it is invalid.
 abbrev pub size_in : List ℕ → Option ℕ
 size_in bytes = scaled (number_of (digits_of bytes)) (factor_of (after_digits bytes))
 
--- `size_of text`: the size in bytes that `text` represents, if there is one.
+-- `size_of text`: the size in bytes that `text` represents, or nothing if `text` is invalid.
 abbrev pub size_of : List ℕ → Option ℕ
 size_of text = size_in (utf8 text)
 
--- `limited number rest`: the timeout of `number` in seconds, if `rest` is empty; 0 is the longest
--- timeout.
+-- `limited number rest`: the timeout in seconds for `number`, which is followed by `rest`. 0 gives
+-- the longest timeout. Nothing if `rest` isn't empty or the number is too large.
 abbrev pub limited : Option ℕ → List ℕ → Option ℕ
 limited (Some v) [] = if v == 0 then Some longest_timeout else if nat_le v longest_timeout then Some v else None
 limited (Some v) (c ∷ cs) = None
 limited None rest = None
 
--- `timeout_in bytes`: the timeout in seconds that digits represent, if there is one.
+-- `timeout_in bytes`: the timeout in seconds that the ASCII digits `bytes` represent, or nothing if
+-- they are invalid.
 abbrev pub timeout_in : List ℕ → Option ℕ
 timeout_in bytes = limited (number_of (digits_of bytes)) (after_digits bytes)
 
--- `timeout_of text`: the timeout in seconds that `text` represents, if there is one.
+-- `timeout_of text`: the timeout in seconds that `text` represents, or nothing if `text` is
+-- invalid.
 abbrev pub timeout_of : List ℕ → Option ℕ
 timeout_of text = timeout_in (utf8 text)
 

@@ -19,7 +19,7 @@ pub enum PropFault {
 impl PropFault {
     ghost use Rattle.kt_metadata.specs.FaultWords.{prop_words};
 
-    /// Returns the message of the error, which `Display` prints.
+    /// Returns the message of the error (this profile), which `Display` prints.
     pub fn words(&self) -> &'static str
         ensures { result.now ≡ prop_words self.now }
     {

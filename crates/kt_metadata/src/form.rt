@@ -8,14 +8,14 @@ use crate::values::{has_no_file, has_no_program, size, timeout, truth, user, wor
 use kt_base::{Items, NoMemory, Text};
 use std::alloc::Global;
 
-/// A form of property values, which decides how a text is parsed.
+/// A form of property values. It decides how a text is parsed and what the default value is.
 #[derive(Clone, Copy)]
 pub enum Form {
     /// Elements that are separated by white space.
     Words,
     /// Elements that are absolute paths.
     Files,
-    /// Elements that are absolute paths, or names without a slash that are looked up in `PATH`.
+    /// Elements that name programs: absolute paths, or names without a slash to look up in `PATH`.
     Programs,
     /// Any text.
     Text,
@@ -32,7 +32,7 @@ pub enum Form {
 /// The timeout of a case without a `timeout` property, in seconds.
 pub const DEFAULT_TIMEOUT: u32 = 300;
 
-/// Returns the elements `words` as a value, or `None` if `wrong` is `true`.
+/// Returns the elements `words` as a value, or `None` if `wrong` is `true`: an element is invalid.
 fn unless(wrong: bool, words: Items<Text>) -> Option<Value>
     ensures { result ≡ (if wrong then None else Some (Value.Words words)) }
 {
@@ -45,6 +45,10 @@ fn unless(wrong: bool, words: Items<Text>) -> Option<Value>
 
 impl Form {
     /// Parses `text` as a value of this form, or returns `None` if `text` isn't such a value.
+    ///
+    /// # Errors
+    ///
+    /// - `NoMemory`: an allocation fails.
     pub fn read(self, alloc: Global, text: &Text) -> Result<Option<Value>, NoMemory>
         ensures { IfOk result (λ value. value ≡ value_in self text.now) }
     {
@@ -66,7 +70,7 @@ impl Form {
         }
     }
 
-    /// Returns the value of a property that isn't set.
+    /// Returns the value that a property of this form has if it isn't set.
     ///
     /// Allocates nothing.
     pub fn default_value(self, alloc: Global) -> Value

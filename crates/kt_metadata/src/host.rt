@@ -5,7 +5,7 @@ use kt_base::{NoMemory, Text};
 use std::alloc::Global;
 use std::collections::BTreeSet;
 
-/// A kind of requirement that is looked up on the host.
+/// A kind of object that a test case requires on the host: a file or a program.
 #[derive(Clone, Copy)]
 pub enum Need {
     /// A required file, by its absolute path.
@@ -14,11 +14,11 @@ pub enum Need {
     Program,
 }
 
-/// The kinds of needs, in the order of the lookups.
+/// The kinds of needs, in the order in which the host is searched for them.
 const NEEDS: [Need; 2] = [Need::File, Need::Program];
 
 impl Need {
-    /// Returns all kinds of needs, in the order of the lookups.
+    /// Returns all kinds of needs, in the order in which the host is searched for them.
     pub fn all() -> &'static [Need]
         ensures { result.now ≡ all_needs }
     {
@@ -58,7 +58,9 @@ impl Host {
     ghost use Rattle.std.specs.Prelude.{◌≡◌, List, ℕ, OnOk, false};
     ghost use Rattle.kt_metadata.specs.Common.{is_found, IsNoted, Need};
 
-    /// Creates a host on which no required file or program was found yet.
+    /// Creates the description of a host on which no required file or program was found yet.
+    ///
+    /// `memory` and `disk` are in bytes.
     ///
     /// Allocates nothing.
     pub fn new(alloc: Global, root: bool, memory: Option<u64>, disk: Option<u64>) -> Host
@@ -76,7 +78,7 @@ impl Host {
         }
     }
 
-    /// Records that the required file or program `word` was found.
+    /// Records that `word`, a required object of the kind `need`, was found.
     ///
     /// # Errors
     ///
@@ -97,7 +99,7 @@ impl Host {
         }
     }
 
-    /// Returns `true` if the required file or program `word` was found.
+    /// Returns `true` if `word`, a required object of the kind `need`, was found.
     pub(crate) fn has(&self, need: Need, word: &Text) -> bool
         ensures { result ≡ is_found need self.now word.now }
     {

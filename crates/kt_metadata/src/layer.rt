@@ -10,7 +10,7 @@ use std::marker::Model;
 
 /// A map from names of properties to definitions, in the order of the first definitions.
 ///
-/// In contracts, it is the list of its names with their texts. Each name occurs once.
+/// In contracts, a `Layer` is the list of its names with their texts. Each name occurs once.
 #[derive(Drop)]
 pub struct Layer {
     given: IndexMap<String, Given>,
@@ -55,7 +55,9 @@ impl Layer {
         self.given.is_empty()
     }
 
-    /// Returns the definition of `name`, if the layer has one, in constant time.
+    /// Returns the definition of the property `name`, or `None` without a definition.
+    ///
+    /// Takes constant time.
     pub fn get(&self, name: &str) -> Option<&Given>
         ensures text { option_map (λ it. it.text) (option_copied result)
             ≡ value_of (chars name.now) self.now }
@@ -65,9 +67,11 @@ impl Layer {
         self.given.get(name)
     }
 
-    /// Inserts the definition of `name`: in place of an earlier definition, or else at the end.
+    /// Sets the definition of the property `name`, in place of an earlier definition or at the end.
     ///
-    /// On failure, the layer is unchanged.
+    /// # Errors
+    ///
+    /// - `NoMemory`: an allocation fails. The layer is unchanged.
     pub fn put(&mut self, name: &str, given: Given) -> Result<(), NoMemory>
         requires { IsRead (chars name.now) given }
         ensures ok { OnOk result (self.new
@@ -79,7 +83,11 @@ impl Layer {
         Ok(())
     }
 
-    /// Inserts each definition of `more`, in place of an earlier definition of the same name.
+    /// Sets each definition of `more`, in place of an earlier definition of the same name.
+    ///
+    /// # Errors
+    ///
+    /// - `NoMemory`: an allocation fails. Some definitions may have been set.
     pub fn put_all(&mut self, more: &Layer) -> Result<(), NoMemory>
         ensures { OnOk result (self.new ≡ last_values (self.old ++ more.now)) }
     {
@@ -90,7 +98,11 @@ impl Layer {
         Ok(())
     }
 
-    /// Appends the custom properties with texts that aren't empty to `pairs`.
+    /// Appends the custom properties with their texts to `pairs`, except those with empty texts.
+    ///
+    /// # Errors
+    ///
+    /// - `NoMemory`: an allocation fails. Some properties may have been appended.
     pub fn add_custom(&self, pairs: &mut Variables) -> Result<(), NoMemory>
         ensures { OnOk result (pairs.new ≡ pairs.old ++ custom_pairs self.now) }
     {
@@ -102,7 +114,11 @@ impl Layer {
     }
 }
 
-/// Appends a pair to `pairs`, unless `value` is empty.
+/// Appends the pair of `name` and `value` to `pairs`, unless `value` is empty.
+///
+/// # Errors
+///
+/// - `NoMemory`: an allocation fails.
 pub fn add(pairs: &mut Variables, name: Text, value: Text) -> Result<(), NoMemory>
     ensures { OnOk result (pairs.new ≡ pairs.old ++ filter is_valued (a_pair name value ∷ [])) }
 {
@@ -112,7 +128,9 @@ pub fn add(pairs: &mut Variables, name: Text, value: Text) -> Result<(), NoMemor
     pairs.push(Variable { name, value })
 }
 
-/// Appends a pair to `pairs` if `name` is the name of a custom property and `value` isn't empty.
+/// Appends a copy of the pair of `name` and `value` to `pairs`, if `name` is a custom property.
+///
+/// Appends nothing if `value` is empty.
 fn add_if_custom(
     alloc: Global,
     pairs: &mut Variables,

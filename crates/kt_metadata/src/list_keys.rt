@@ -5,7 +5,7 @@ use crate::table::{TABLE, own_part, row_keyed};
 use kt_base::{NoMemory, Text};
 use std::alloc::Global;
 
-/// Returns `custom.` followed by `part`, as the name of a custom property.
+/// Creates the name of a custom property: `custom.` followed by `part`.
 fn custom_name(alloc: Global, part: &str) -> Result<Text, NoMemory>
     ensures { IfOk result (λ name. name ≡ codes "custom." ++ chars part.now) }
 {
@@ -14,8 +14,7 @@ fn custom_name(alloc: Global, part: &str) -> Result<Text, NoMemory>
     Ok(name)
 }
 
-/// Returns the name of the custom property that `key` represents, or `None` if `key` isn't
-/// `X-NAME`.
+/// Returns the name `custom.NAME` for the key `X-NAME`, or `None` if `key` has another form.
 fn name_of_custom_key(alloc: Global, key: &Text) -> Result<Option<Text>, NoMemory>
     ensures { IfOk result (λ found. found
         ≡ option_map (λ part. codes "custom." ++ part) (own_part (codes "X-") key.now)) }
@@ -29,7 +28,7 @@ fn name_of_custom_key(alloc: Global, key: &Text) -> Result<Option<Text>, NoMemor
     }
 }
 
-/// Returns the name of the property that `key` represents, or `None` if no property has this key.
+/// Returns the name of the property with the key `key`, or `None` if no property has this key.
 fn name_of_key(alloc: Global, key: &Text) -> Result<Option<Text>, NoMemory>
     ensures { IfOk result (λ found. found ≡ name_of_key key.now) }
 {
@@ -39,10 +38,10 @@ fn name_of_key(alloc: Global, key: &Text) -> Result<Option<Text>, NoMemory>
     }
 }
 
-/// Returns the name of the property that `key` represents in a list of ATF cases (this profile).
+/// Converts the key of a property in a list of ATF cases to the property's name (this profile).
 ///
-/// The key `require.arch` represents `allowed_architectures`, and `X-NAME` represents
-/// `custom.NAME`. The result is `None` if no property has this key.
+/// The name for the key `require.arch` is `allowed_architectures`, and for `X-NAME` it is
+/// `custom.NAME`. Returns `None` if no property has the key.
 ///
 /// # Errors
 ///

@@ -3,7 +3,7 @@ use crate::value::{Value, copy_of_words};
 use crate::{Need, Props, User};
 use kt_base::{Items, NoMemory, Text};
 
-/// The effective properties of a case (kyuafile(5)): each by its value, or else by its default.
+/// A set of the effective properties of a test case (kyuafile(5)), with defaults for unset ones.
 pub struct Meta {
     /// The allowed architectures. If the list is empty, each architecture is allowed.
     pub allowed_architectures: Items<Text>,
@@ -31,7 +31,7 @@ pub struct Meta {
     pub timeout: u32,
 }
 
-/// Implemented manually for the prover: a drop is one call.
+/// Not derived, so that the prover handles a drop as one call.
 impl Drop for Meta {
     fn drop(self) {
         let Meta {
@@ -55,7 +55,7 @@ impl Meta {
     ghost use Rattle.std.specs.Prelude.{◌≡◌};
     ghost use Rattle.kt_metadata.specs.Common.{needed};
 
-    /// Returns the required files or programs, which must be found on the host.
+    /// Returns the required files, or the required programs, as `need` selects.
     pub fn needed(&self, need: Need) -> &[Text]
         ensures { result.now ≡ needed need self.now }
     {
@@ -70,7 +70,7 @@ impl Props {
     ghost use Rattle.std.specs.Prelude.{◌≡◌, ◌≤◌, [], List, IfOk, chars, unwrap_or};
     ghost use Rattle.kt_metadata.specs.Common.{Variable, last_values, longest_timeout, texts_of, given, words_in, truth_in, size_in, user_in, timeout_in, effective, needed};
 
-    /// Returns the elements of the property `name`, or none if the property isn't set.
+    /// Returns the elements of the property `name`, or an empty slice if the property isn't set.
     fn listed(&self, name: &str) -> &[Text]
         ensures { result.now ≡ words_in (given (texts_of self.now) (chars name.now)) }
     {
@@ -80,7 +80,7 @@ impl Props {
         }
     }
 
-    /// Copies the elements of the property `name`, which are none if the property isn't set.
+    /// Copies the elements of the property `name`. The list is empty if the property isn't set.
     fn words(&self, name: &str) -> Result<Items<Text>, NoMemory>
         ensures { IfOk result (λ found. found
             ≡ words_in (given (texts_of self.now) (chars name.now))) }
@@ -88,7 +88,7 @@ impl Props {
         copy_of_words(self.allocator(), self.listed(name))
     }
 
-    /// Copies the text of the property `name`, which is empty if the property isn't set.
+    /// Copies the text of the property `name`. The copy is empty if the property isn't set.
     fn description(&self, name: &str) -> Result<Text, NoMemory>
         ensures { IfOk result (λ text. text ≡ unwrap_or (texts_of self.now (chars name.now)) []) }
     {
@@ -118,7 +118,7 @@ impl Props {
         }
     }
 
-    /// Returns the required user of the property `name`, or any user if the property isn't set.
+    /// Returns the required user of the property `name`, or `User::Any` if the property isn't set.
     fn user(&self, name: &str) -> User
         ensures { result ≡ user_in (given (texts_of self.now) (chars name.now)) }
     {
@@ -128,8 +128,7 @@ impl Props {
         }
     }
 
-    /// Returns the timeout of the property `name` in seconds, or the default if the property isn't
-    /// set.
+    /// Returns the timeout of the property `name` in seconds, or 300 if the property isn't set.
     fn timeout(&self, name: &str) -> u32
         ensures { result ≡ timeout_in (given (texts_of self.now) (chars name.now)) }
     {
@@ -139,7 +138,7 @@ impl Props {
         }
     }
 
-    /// Returns the required files or programs, which must be found on the host.
+    /// Returns the required files, or the required programs, as `need` selects.
     ///
     /// Allocates nothing.
     pub fn needed(&self, need: Need) -> &[Text]
@@ -151,10 +150,9 @@ impl Props {
         }
     }
 
-    /// Returns the effective properties: each by its last value, or else by its default
-    /// (kyuafile(5)).
+    /// Returns the effective properties: each has its last value, or its default if it isn't set.
     ///
-    /// The timeout 0 represents the longest timeout, 1,000,000 seconds.
+    /// The timeout 0 represents the longest timeout, 1,000,000 seconds (kyuafile(5)).
     ///
     /// # Errors
     ///

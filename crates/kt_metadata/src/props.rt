@@ -11,18 +11,17 @@ use std::alloc::Global;
 use std::marker::Model;
 use std::rc::Rc;
 
-/// A set of properties with their values, of a program or a case.
+/// A set of properties of a program or a test case, with their values.
 ///
-/// In contracts, it is the list of the last values of the accepted definitions, in the order of the
-/// first definitions. An overlay over [`Props::shared`] shares the memory of the program's
+/// In contracts, a `Props` is the list of the last values of the accepted definitions, in the order
+/// of the first definitions. An overlay over [`Props::shared`] shares the memory of the program's
 /// properties.
 pub struct Props {
     program: Option<Rc<SharedLayer>>,
     own: Layer,
 }
 
-/// Implemented manually for the prover: a drop is one call, and only this function takes the fields
-/// apart.
+/// Not derived, so that the prover handles a drop as one call, and only here sees the fields.
 impl Drop for Props {
     fn drop(self) {
         let Props { program, own } = self;
@@ -42,7 +41,7 @@ impl Model for Props {
     ghost view = { λ p. last_values (program_layer p.program ++ p.own) };
 }
 
-/// Returns another reference to the layer of `program`, if `program` has a layer.
+/// Clones the reference to the layer `program`, or returns `Ok(None)` without a layer.
 fn program_layer(program: &Option<Rc<SharedLayer>>) -> Result<Option<Rc<SharedLayer>>, NoMemory>
     ensures { IfOk result (λ layer. program_layer layer ≡ program_layer program.now) }
 {
@@ -73,7 +72,9 @@ impl Props {
         self.own.allocator()
     }
 
-    /// Returns the last definition of `name`: the definition of the case, or else of its program.
+    /// Returns the last definition of the property `name`, or `None` if the property isn't set.
+    ///
+    /// A definition of the case comes before a definition of its program.
     pub(crate) fn find(&self, name: &str) -> Option<&Given>
         ensures text { option_map (λ it. it.text) (option_copied result)
             ≡ texts_of self.now (chars name.now) }
@@ -141,7 +142,7 @@ impl Props {
         Ok(())
     }
 
-    /// Sets each property of `self` in `layer`, in place of earlier values.
+    /// Sets each property of `self` in `layer`, in place of the values that `layer` had.
     fn lay_over(&self, layer: &mut Layer) -> Result<(), NoMemory>
         ensures { OnOk result (layer.new ≡ last_values (layer.old ++ self.now)) }
     {
@@ -154,7 +155,11 @@ impl Props {
         }
     }
 
-    /// Copies all properties into one newly allocated layer.
+    /// Copies all properties, of the program and of the case, into one newly allocated layer.
+    ///
+    /// # Errors
+    ///
+    /// - `NoMemory`: an allocation fails.
     pub(crate) fn merged(&self) -> Result<Layer, NoMemory>
         ensures { IfOk result (λ layer. layer ≡ self.now) }
     {
@@ -163,7 +168,7 @@ impl Props {
         Ok(layer)
     }
 
-    /// Returns the listing of the properties, in memory that copies of the listing share.
+    /// Creates the listing of the properties, in memory that copies of the listing share.
     fn shared_listing(&self) -> Result<Variables, NoMemory>
         ensures { IfOk result (λ pairs. pairs ≡ listing self.now) }
     {
@@ -171,7 +176,7 @@ impl Props {
         pairs.into_shared()
     }
 
-    /// Returns all properties in one layer, with their listing.
+    /// Copies all properties into one layer, together with their listing.
     fn shared_layer(&self) -> Result<SharedLayer, NoMemory>
         ensures { IfOk result (λ layer. layer ≡ self.now) }
     {
@@ -180,9 +185,9 @@ impl Props {
         Ok(SharedLayer::new(layer, pairs))
     }
 
-    /// Returns equal properties in memory that overlays over them share.
+    /// Copies the properties into memory that overlays over the copy share.
     ///
-    /// The call computes the listing of the properties. If an overlay adds no property,
+    /// The call also computes the listing of the properties. If an overlay adds no property,
     /// [`Props::listing`] shares the memory of this listing.
     ///
     /// # Errors
@@ -199,9 +204,9 @@ impl Props {
         })
     }
 
-    /// Returns the properties of `program`, overlaid with the properties of `case`.
+    /// Creates the properties of a test case: those of `program`, overlaid with those of `case`.
     ///
-    /// A value of the case takes the place of a value of the program.
+    /// A value in `case` replaces the value of the same property in `program`.
     ///
     /// # Errors
     ///
@@ -223,7 +228,9 @@ impl Props {
 }
 
 impl Props {
-    /// Returns the text of the property of `row` in a listing: its value, or else its default.
+    /// Returns the text that the property of `row` has in a listing.
+    ///
+    /// A property that isn't set has the text of its default value.
     fn shown(&self, row: &PropertyRow) -> Result<Text, NoMemory>
         ensures { IfOk result (λ text. text ≡ shown_text (texts_of self.now) (row_in row.now)) }
     {
@@ -234,7 +241,7 @@ impl Props {
         }
     }
 
-    /// Appends the properties of `rows` with their texts to `pairs`, without empty texts.
+    /// Appends the properties of `rows` with their texts to `pairs`, except those with empty texts.
     fn add_shown(&self, pairs: &mut Variables, rows: &[PropertyRow]) -> Result<(), NoMemory>
         ensures { OnOk result (pairs.new
             ≡ pairs.old ++ shown_pairs (texts_of self.now) (map row_in rows.now)) }
@@ -246,7 +253,7 @@ impl Props {
         Ok(())
     }
 
-    /// Appends the custom properties to `pairs`, without empty texts.
+    /// Appends the custom properties with their texts to `pairs`, except those with empty texts.
     fn add_custom(&self, pairs: &mut Variables) -> Result<(), NoMemory>
         ensures { OnOk result (pairs.new ≡ pairs.old ++ custom_pairs self.now) }
     {
@@ -254,7 +261,7 @@ impl Props {
         all.add_custom(pairs)
     }
 
-    /// Returns the listing of the properties, in newly allocated memory.
+    /// Creates the listing of the properties in newly allocated memory.
     fn own_listing(&self) -> Result<Variables, NoMemory>
         ensures { IfOk result (λ pairs. pairs ≡ listing self.now) }
     {
@@ -264,12 +271,12 @@ impl Props {
         Ok(pairs)
     }
 
-    /// Returns the properties with their texts: effective values first, then custom properties.
+    /// Returns a listing of the properties: names with the texts of their effective values.
     ///
-    /// The effective values are in the order of the table of properties, the custom properties in
-    /// the order of their first definitions. Elements are joined by one space, and numbers are
-    /// decimal. A property with an empty text is omitted. If an overlay adds no property to
-    /// [`Props::shared`] properties, the result shares the memory of their listing.
+    /// The properties with fixed names come first, in alphabetical order. The custom properties
+    /// follow in the order of their first definitions. Elements are joined by one space, and
+    /// numbers are decimal. A property with an empty text is omitted. If an overlay adds no
+    /// property to [`Props::shared`] properties, the result shares the memory of their listing.
     ///
     /// # Errors
     ///

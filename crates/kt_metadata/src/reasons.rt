@@ -16,14 +16,16 @@ fn is_undefined(config: &Config, suite: &Text, name: &Text) -> bool
     }
 }
 
-/// Returns the first element of `words` that isn't a variable of the test suite `suite`.
+/// Returns the first of `words` that isn't a variable of the test suite `suite`, or `None`.
 fn first_undefined<'a>(words: &'a [Text], config: &Config, suite: &Text) -> Option<&'a Text>
     ensures { option_copied result ≡ find (is_undefined config.now suite.now) words.now }
 {
     words.iter().find(|word| is_undefined(config, suite, *word))
 }
 
-/// Returns the first required file or program that wasn't found on the host.
+/// Returns the first required file or program that wasn't found on the host, or `None`.
+///
+/// `need` decides whether files or programs are checked.
 fn first_missing<'a>(need: Need, meta: &'a Meta, host: &Host) -> Option<&'a Text>
     ensures { option_copied result
         ≡ find (λ word. not (is_found need host.now word)) (needed need meta.now) }
@@ -46,7 +48,7 @@ fn is_allowed(words: &[Text], word: &str) -> bool
     words.is_empty() || is_listed(words, word)
 }
 
-/// Returns the reason whose text is `front`, `word` and `back`, joined.
+/// Creates the reason with the text `front`, `word` and `back`, concatenated.
 fn about(alloc: Global, front: &str, word: &str, back: &str) -> Result<Reason, NoMemory>
     ensures { IfOk result (λ reason. reason_text reason
         ≡ chars front.now ++ (chars word.now ++ chars back.now)) }
@@ -57,7 +59,13 @@ fn about(alloc: Global, front: &str, word: &str, back: &str) -> Result<Reason, N
     Ok(Reason::Owned(text))
 }
 
-/// Returns the reason to skip a case if a required variable isn't a variable of the test suite.
+/// Returns the reason to skip a case if a required variable isn't set for the test suite `suite`.
+///
+/// Returns `None` if all required variables are set.
+///
+/// # Errors
+///
+/// - `NoMemory`: an allocation fails.
 pub fn config_reason(
     alloc: Global,
     meta: &Meta,
@@ -80,9 +88,14 @@ pub fn config_reason(
     }
 }
 
-/// Returns the reason to skip a case if `listed` isn't empty and doesn't contain `word`.
+/// Returns the reason to skip a case if `word` isn't among the allowed values `listed`.
 ///
-/// `word` is the configured architecture or platform. The reason begins with `front`.
+/// `word` is the configured architecture or platform. An empty list allows each value. The reason
+/// begins with `front`. Returns `None` if `word` is allowed.
+///
+/// # Errors
+///
+/// - `NoMemory`: an allocation fails.
 pub fn listed_reason(
     alloc: Global,
     front: &str,
@@ -99,7 +112,7 @@ pub fn listed_reason(
     Ok(Some(reason))
 }
 
-/// Returns the reason to skip a case if the runner isn't the required user.
+/// Returns the reason to skip a case if the runner isn't the required user, else `None`.
 ///
 /// `root` is `true` if the runner is root.
 pub fn user_reason(user: User, root: bool) -> Option<Reason>
@@ -112,7 +125,13 @@ pub fn user_reason(user: User, root: bool) -> Option<Reason>
     }
 }
 
-/// Returns the reason to skip a case if a required file or program wasn't found.
+/// Returns the reason to skip a case if a required object of the kind `need` wasn't found.
+///
+/// Returns `None` if all such objects were found.
+///
+/// # Errors
+///
+/// - `NoMemory`: an allocation fails.
 pub fn need_reason(
     alloc: Global,
     need: Need,
@@ -132,7 +151,8 @@ pub fn need_reason(
 
 /// Returns the reason to skip a case if the host has less memory or disk space than required.
 ///
-/// `due` and `there` are the required and the known amounts in bytes. An unknown amount is enough.
+/// `due` is the required amount in bytes, and `there` the amount of the host, if it is known.
+/// Returns `None` if the amount is enough or unknown.
 pub fn amount_reason(phrase: Phrase, due: u64, there: Option<u64>) -> Option<Reason>
     ensures { text_in result ≡ amount_row phrase due there }
 {

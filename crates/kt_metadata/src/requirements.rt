@@ -7,7 +7,7 @@ use kt_base::{NoMemory, Phrase, Reason, Text};
 use kt_config::Config;
 use std::alloc::Global;
 
-/// Returns the reason to skip a case if the configured architecture isn't an allowed architecture.
+/// Returns the reason to skip a case if the configured architecture isn't allowed, else `None`.
 fn architecture_reason(
     alloc: Global,
     meta: &Meta,
@@ -24,7 +24,7 @@ fn architecture_reason(
     )
 }
 
-/// Returns the reason to skip a case if the configured platform isn't an allowed platform.
+/// Returns the reason to skip a case if the configured platform isn't allowed, else `None`.
 fn platform_reason(alloc: Global, meta: &Meta, config: &Config) -> Result<Option<Reason>, NoMemory>
     ensures { IfOk result (λ reason. text_in reason ≡ platform_row meta.now config.now) }
 {
@@ -32,7 +32,9 @@ fn platform_reason(alloc: Global, meta: &Meta, config: &Config) -> Result<Option
     listed_reason(alloc, "Current platform '", listed, config.platform())
 }
 
-/// Returns the reason to skip a case: the first of its requirements that the host doesn't meet.
+/// Returns the reason to skip a case: the first requirement that the host doesn't meet.
+///
+/// Returns `None` if the host meets the requirements on user, files, programs, memory and disk.
 fn host_reason(alloc: Global, meta: &Meta, host: &Host) -> Result<Option<Reason>, NoMemory>
     ensures { IfOk result (λ reason. text_in reason ≡ first_reason (host_rows meta.now host.now)) }
 {
@@ -53,7 +55,7 @@ fn host_reason(alloc: Global, meta: &Meta, host: &Host) -> Result<Option<Reason>
 
 /// Returns the reason to skip a case: its first unmet requirement, or `None` if all are met.
 ///
-/// `suite` is the test suite whose variables are checked. The order is this profile's: variables,
+/// The requirements are checked in this order (this profile): variables of the test suite `suite`,
 /// architecture, platform, user, files, programs, memory, disk space.
 ///
 /// # Errors

@@ -5,9 +5,9 @@ use crate::layer::Layer;
 use kt_base::{NoMemory, Variables};
 use std::marker::Model;
 
-/// A layer of properties with its listing, which the cases of a program share.
+/// A layer of a program's properties with its listing. The cases of the program share its memory.
 ///
-/// In contracts, it is the list of its names with their texts. Each name occurs once.
+/// In contracts, a `SharedLayer` is the list of its names with their texts. Each name occurs once.
 #[derive(Drop)]
 pub struct SharedLayer {
     layer: Layer,
@@ -42,7 +42,11 @@ impl SharedLayer {
         &self.layer
     }
 
-    /// Returns a copy of the listing, which shares the memory of the listing.
+    /// Copies the listing. The copy shares the memory of the listing.
+    ///
+    /// # Errors
+    ///
+    /// - `NoMemory`: an allocation fails, or the count of copies would overflow.
     pub fn listing(&self) -> Result<Variables, NoMemory>
         ensures { IfOk result (λ pairs. pairs ≡ listing self.now) }
     {

@@ -7,7 +7,7 @@ use crate::value::Value;
 use kt_base::Text;
 use std::alloc::Global;
 
-/// A row of [`TABLE`]: the name, the key and the form of the values of a property.
+/// A row of [`TABLE`]: a property's name, its key in a list of ATF cases, and its values' form.
 pub type PropertyRow = (&'static str, &'static str, Form);
 
 /// The properties with fixed names, in the order of a listing.
@@ -29,14 +29,16 @@ pub const TABLE: [PropertyRow; 12] = [
     ("timeout", "timeout", Form::Timeout),
 ];
 
-/// Returns `true` if `name` is the name of a custom property: `custom.` and at least one character.
+/// Returns `true` if `name` is the name of a custom property (kyuafile(5)).
+///
+/// Such a name is `custom.` followed by at least one character.
 pub fn is_custom(name: &str) -> bool
     ensures { result ≡ is_custom (chars name.now) }
 {
     own_part(name, "custom.").is_some()
 }
 
-/// Returns the first row whose property name is `name`.
+/// Returns the first of `rows` whose property has the name `name`, or `None` without such a row.
 fn row_named<'a>(name: &Text, rows: &'a [PropertyRow]) -> Option<&'a PropertyRow>
     ensures { option_map row_in (option_copied result)
         ≡ find (has_name name.now) (map row_in rows.now) }
@@ -49,7 +51,9 @@ fn row_named<'a>(name: &Text, rows: &'a [PropertyRow]) -> Option<&'a PropertyRow
     None
 }
 
-/// Returns the first row whose key in a list of ATF cases is `key`.
+/// Returns the first of `rows` with the key `key`, or `None` without such a row.
+///
+/// The keys are those of a list of ATF cases (this profile).
 pub fn row_keyed<'a>(key: &Text, rows: &'a [PropertyRow]) -> Option<&'a PropertyRow>
     ensures { option_map row_in (option_copied result)
         ≡ find (has_key key.now) (map row_in rows.now) }
@@ -104,7 +108,7 @@ pub fn read_definition(alloc: Global, name: &Text, text: &Text) -> Result<Value,
     }
 }
 
-/// Returns `text`, or `None` if it is empty.
+/// Returns `Some(text)`, or `None` if `text` is empty.
 fn filled(text: &str) -> Option<&str>
     ensures { option_map (λ part. chars part.now) result ≡ filled (chars text.now) }
 {
@@ -114,8 +118,9 @@ fn filled(text: &str) -> Option<&str>
     Some(text)
 }
 
-/// Returns the rest of `text` after the prefix `front`, or `None` if the prefix is missing or the
-/// rest is empty.
+/// Strips the prefix `front` from `text`.
+///
+/// Returns `None` if `text` does not begin with `front` or has nothing after it.
 pub fn own_part<'a>(text: &'a str, front: &str) -> Option<&'a str>
     ensures { option_map (λ part. chars part.now) result
         ≡ own_part (chars front.now) (chars text.now) }

@@ -18,9 +18,9 @@ pub enum User {
 /// A value of a property, parsed by the property's [`Form`](crate::form::Form).
 #[derive(Drop)]
 pub enum Value {
-    /// Elements in the order of the text.
+    /// The elements of the text, in their order.
     Words(Items<Text>),
-    /// The text of the property as it was written.
+    /// Any text. The text itself is stored in [`Given`].
     Text,
     /// A truth value.
     Truth(bool),
@@ -32,7 +32,11 @@ pub enum Value {
     Timeout(u32),
 }
 
-/// Copies `words` into newly allocated memory.
+/// Copies the list `words` into newly allocated memory.
+///
+/// # Errors
+///
+/// - `NoMemory`: an allocation fails.
 pub fn copy_of_words(alloc: Global, words: &[Text]) -> Result<Items<Text>, NoMemory>
     ensures { IfOk result (λ copy. copy ≡ words.now) }
 {
@@ -43,7 +47,7 @@ pub fn copy_of_words(alloc: Global, words: &[Text]) -> Result<Items<Text>, NoMem
     Ok(copy)
 }
 
-/// Joins the elements `words` by one space.
+/// Joins the elements `words` with one space between two elements.
 fn join(alloc: Global, words: &[Text]) -> Result<Text, NoMemory>
     ensures { IfOk result (λ text. text ≡ joined words.now) }
 {
@@ -53,7 +57,7 @@ fn join(alloc: Global, words: &[Text]) -> Result<Text, NoMemory>
     }
 }
 
-/// Appends the elements `words` to `front`, each after a space.
+/// Appends the elements `words` to `front`, each after a space, and returns the text.
 fn join_after(front: Text, words: &[Text]) -> Result<Text, NoMemory>
     ensures { IfOk result (λ text. text ≡ front ++ spaced words.now) }
 {
@@ -65,14 +69,16 @@ fn join_after(front: Text, words: &[Text]) -> Result<Text, NoMemory>
     Ok(text)
 }
 
-/// Returns the text that represents a truth value in a listing of properties.
+/// Returns the text of the truth value `value` in a listing of properties: `true` or `false`.
 fn truth_word(value: bool) -> &'static str
     ensures { chars result.now ≡ truth_text value }
 {
     if value { "true" } else { "false" }
 }
 
-/// Returns the text that represents a required user in a listing of properties.
+/// Returns the text of the required user `user` in a listing of properties.
+///
+/// Any user has an empty text.
 fn user_word(user: User) -> &'static str
     ensures { chars result.now ≡ user_text user }
 {
@@ -85,6 +91,10 @@ fn user_word(user: User) -> &'static str
 
 impl Value {
     /// Copies the value into newly allocated memory.
+    ///
+    /// # Errors
+    ///
+    /// - `NoMemory`: an allocation fails.
     pub fn copy(&self, alloc: Global) -> Result<Value, NoMemory>
         ensures { IfOk result (λ value. value ≡ self.now) }
     {
@@ -98,9 +108,14 @@ impl Value {
         }
     }
 
-    /// Returns the text that represents the value in a listing of properties.
+    /// Converts the value to its text in a listing of properties.
     ///
-    /// `text` is the text from which the value was parsed.
+    /// `text` is the text from which the value was parsed. Elements are joined by one space, and
+    /// numbers are decimal.
+    ///
+    /// # Errors
+    ///
+    /// - `NoMemory`: an allocation fails.
     pub fn shown(&self, alloc: Global, text: &str) -> Result<Text, NoMemory>
         ensures { IfOk result (λ listed. listed ≡ shown self.now (chars text.now)) }
     {
@@ -115,10 +130,10 @@ impl Value {
     }
 }
 
-/// A definition: a text as it was written, and the value parsed from it.
+/// A definition of a property: the text that was set, and the value parsed from it.
 #[derive(Drop)]
 pub struct Given {
-    /// The text as it was written.
+    /// The text that was set, unchanged.
     pub text: Text,
     /// The value parsed from the text.
     pub value: Value,
@@ -128,6 +143,10 @@ impl Given {
     ghost use Rattle.std.specs.Prelude.{◌≡◌, IfOk};
 
     /// Copies the text and the value into newly allocated memory.
+    ///
+    /// # Errors
+    ///
+    /// - `NoMemory`: an allocation fails.
     pub fn copy(&self, alloc: Global) -> Result<Given, NoMemory>
         ensures { IfOk result (λ given. given ≡ self.now) }
     {

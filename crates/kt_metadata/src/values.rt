@@ -23,10 +23,10 @@ fn end_word(words: &mut Items<Text>, word: Text) -> Result<(), NoMemory>
     words.push(word)
 }
 
-/// Appends the next character `c` to the element `word` and returns the element.
+/// Processes the next character `c` of a text, after the beginning `word` of an element.
 ///
-/// White space ends the element instead: it is appended to `words`, and an empty element is
-/// returned.
+/// Returns `word` with `c` appended. If `c` is white space, appends `word` to `words` instead and
+/// returns an empty text.
 fn next_word(alloc: Global, words: &mut Items<Text>, word: Text, c: char) -> Result<Text, NoMemory>
     ensures { IfOk result (λ next. (rest : List ℕ) → words.new ++ words_from next rest
         ≡ words.old ++ words_from word (c ∷ rest)) }
@@ -40,7 +40,11 @@ fn next_word(alloc: Global, words: &mut Items<Text>, word: Text, c: char) -> Res
     Ok(word)
 }
 
-/// Returns the elements of `text`, which are separated by white space (this profile).
+/// Splits `text` into its elements, which are separated by white space (this profile).
+///
+/// # Errors
+///
+/// - `NoMemory`: an allocation fails.
 pub fn words(alloc: Global, text: &Text) -> Result<Items<Text>, NoMemory>
     ensures { IfOk result (λ found. found ≡ words text.now) }
 {
@@ -53,14 +57,14 @@ pub fn words(alloc: Global, text: &Text) -> Result<Items<Text>, NoMemory>
     Ok(found)
 }
 
-/// Theorem: `words text` is the only list of elements that `AreWords` relates to `text`.
+/// Theorem: each text has exactly one list of elements by the rule `AreWords`: `words text`.
 pub fn words_laws()
     ensures words { (text : List ℕ) → AreWords text (words text) }
     ensures only { (text : List ℕ) → (found : List (List ℕ)) → AreWords text found
         → found ≡ words text }
 {}
 
-/// The texts of truth values.
+/// The truth values by their texts in a Kyuafile (kyuafile(5)).
 const TRUTHS: [(&str, bool); 4] = [
     ("true", true),
     ("yes", true),
@@ -69,6 +73,8 @@ const TRUTHS: [(&str, bool); 4] = [
 ];
 
 /// Parses `text` as a truth value: `true`, `yes`, `false` or `no`.
+///
+/// Returns `None` for another text.
 #[tactic(auto, unfolding(crate::proofs::Common::chars))]
 pub fn truth(text: &Text) -> Option<bool>
     ensures { result ≡ truth_of text.now }
@@ -76,7 +82,7 @@ pub fn truth(text: &Text) -> Option<bool>
     named(text, &TRUTHS)
 }
 
-/// The texts of required users.
+/// The required users by their texts in a Kyuafile (kyuafile(5)).
 const USERS: [(&str, User); 3] = [
     ("", User::Any),
     ("root", User::Root),
@@ -84,6 +90,8 @@ const USERS: [(&str, User); 3] = [
 ];
 
 /// Parses `text` as a required user: an empty text, `root` or `unprivileged`.
+///
+/// Returns `None` for another text.
 #[tactic(auto, unfolding(crate::proofs::Common::chars))]
 pub fn user(text: &Text) -> Option<User>
     ensures { result ≡ user_of text.now }
@@ -91,11 +99,12 @@ pub fn user(text: &Text) -> Option<User>
     named(text, &USERS)
 }
 
-/// The longest timeout, in seconds.
+/// The greatest timeout of a test case, in seconds.
 const LONGEST_TIMEOUT: u32 = 1_000_000;
 
-/// Returns the number that `digits` represent, or `None` if `digits` is empty or the number isn't
-/// below 2^64.
+/// Parses `digits` as a decimal number.
+///
+/// Returns `None` if `digits` is empty or the number isn't below 2^64.
 fn number(digits: &[u8]) -> Option<u64>
     ensures { result ≡ number_of digits.now }
 {
@@ -105,7 +114,9 @@ fn number(digits: &[u8]) -> Option<u64>
     decimal_up_to(u64::MAX, digits)
 }
 
-/// Returns the factor of a unit: 1024 for K, 1024^2 for M, 1024^3 for G and 1024^4 for T.
+/// Returns the factor of the unit `c` in bytes, or `None` if `c` isn't a unit.
+///
+/// The units are K (1024), M (1024^2), G (1024^3) and T (1024^4), in either case.
 fn unit(c: u8) -> Option<u64>
     ensures { result ≡ unit_of c }
 {
@@ -118,7 +129,10 @@ fn unit(c: u8) -> Option<u64>
     }
 }
 
-/// Returns the factor after the digits of a size: 1 if `rest` is empty, or the factor of one unit.
+/// Returns the factor for the bytes `rest` after the digits of a size.
+///
+/// The factor is 1 if `rest` is empty, or the factor of the unit `rest`. Returns `None` for
+/// another `rest`.
 fn factor(rest: &[u8]) -> Option<u64>
     ensures { result ≡ factor_of rest.now }
 {
@@ -129,7 +143,9 @@ fn factor(rest: &[u8]) -> Option<u64>
     }
 }
 
-/// Returns the product of `number` and `factor`, or `None` if it isn't below 2^64.
+/// Multiplies `number` by `factor`.
+///
+/// Returns `None` if one of them is `None` or the product isn't below 2^64.
 fn scaled(number: Option<u64>, factor: Option<u64>) -> Option<u64>
     ensures { result ≡ scaled number factor }
 {
@@ -138,7 +154,8 @@ fn scaled(number: Option<u64>, factor: Option<u64>) -> Option<u64>
 
 /// Parses `text` as a size in bytes: digits, and at most one of the units K, M, G and T.
 ///
-/// A unit may be a lower-case letter. A size is below 2^64.
+/// A unit may be a lower-case letter. Returns `None` for another text, or if the size isn't below
+/// 2^64.
 pub fn size(text: &[u8]) -> Option<u64>
     ensures { result ≡ size_in text.now }
 {
@@ -146,9 +163,10 @@ pub fn size(text: &[u8]) -> Option<u64>
     scaled(number(&text[..length]), factor(&text[length..]))
 }
 
-/// Returns the timeout of `number` seconds, or `None` if it is too long or `rest` isn't empty.
+/// Converts `number` to a timeout in seconds, if no bytes `rest` follow its digits.
 ///
-/// The number 0 represents the longest timeout, 1,000,000 seconds.
+/// The number 0 represents the longest timeout, 1,000,000 seconds. Returns `None` without a number,
+/// for a longer timeout, or if `rest` isn't empty.
 fn limited(number: Option<u64>, rest: &[u8]) -> Option<u32>
     ensures { result ≡ limited number rest.now }
 {
@@ -165,9 +183,9 @@ fn limited(number: Option<u64>, rest: &[u8]) -> Option<u32>
     }
 }
 
-/// Parses `text` as a timeout in seconds, 0 to 1,000,000.
+/// Parses `text` as a timeout in seconds, 0 to 1,000,000. Returns `None` for another text.
 ///
-/// The text 0 represents the longest timeout, 1,000,000 seconds.
+/// The number 0 represents the longest timeout, 1,000,000 seconds.
 pub fn timeout(text: &[u8]) -> Option<u32>
     ensures { result ≡ timeout_in text.now }
 {
@@ -189,15 +207,16 @@ fn is_no_program(word: &Text) -> bool
     !is_absolute(word.as_str()) && has_slash(word.as_str())
 }
 
-/// Returns `true` if an element isn't an absolute path, so that it can't name a required file.
+/// Returns `true` if one of `words` isn't an absolute path and so can't name a required file.
 pub fn has_no_file(words: &[Text]) -> bool
     ensures { result ≡ list_any is_not_absolute words.now }
 {
     words.iter().any(|word| is_not_absolute(word))
 }
 
-/// Returns `true` if an element is a relative path with a slash, which can't name a required
-/// program.
+/// Returns `true` if one of `words` is a relative path with a slash.
+///
+/// Such an element can't name a required program.
 pub fn has_no_program(words: &[Text]) -> bool
     ensures { result ≡ list_any is_no_program words.now }
 {

@@ -9,30 +9,33 @@ use Rattle.kt_base.specs.LastValues.{last_values}
 use Rattle.kt_metadata.specs.declared.value.Given.{Given}
 use Rattle.kt_metadata.specs.Properties.{value_named}
 
--- `pair_in entry`: the name and the text of `entry`.
+-- `pair_in entry`: the name and the text in `entry` of a layer's map.
 abbrev pub pair_in : {Z : Type 0} → String Z × Given → Variable
 pair_in entry = record { name = chars (string_bytes entry.0); value = entry.1.text }
 
--- `pairs_in entries`: the names and the texts of `entries`.
+-- `pairs_in entries`: the names and the texts in `entries` of a layer's map, in order.
 abbrev pub pairs_in : {Z : Type 0} → List (String Z × Given) → List Variable
 pairs_in entries = map pair_in entries
 
--- `IsRead name it`: the value in `it` is what the text in `it` gives to the property `name`.
+-- `IsRead name it`: the definition `it` of the property `name` is consistent: its value is the
+-- result of parsing its text.
 abbrev pub IsRead : List ℕ → Given → Type 0
 IsRead name it = value_named name it.text ≡ Some it.value
 
--- `AreRead entries`: the value of each of `entries` is what its text gives to the property of its
--- name.
+-- `AreRead entries`: in each of `entries`, a name with a definition, the value is the result of
+-- parsing the text.
 abbrev pub AreRead : {Z : Type 0} → List (String Z × Given) → Type 0
 AreRead [] = Unit {0}
 AreRead (entry ∷ entries) = IsRead (chars (string_bytes entry.0)) entry.1 × AreRead entries
 
--- `AreSound entries`: each name occurs once in `entries`, and each value is that of its text.
+-- `AreSound entries`: each name occurs once in `entries`, and each value is the result of parsing
+-- its text.
 pub record AreSound {Z : Type 0} (entries : List (String Z × Given)) : Type 0 where
   pub settled : pairs_in entries ≡ last_values (pairs_in entries)
   pub read : AreRead entries
 
--- `program_layer program`: the pairs of the layer `program`, or none without a layer.
+-- `program_layer program`: the names and texts in the shared layer `program`, or none without a
+-- layer.
 abbrev pub program_layer : {Z : Type 0} → Option (Rc (List Variable) Z) → List Variable
 program_layer None = []
 program_layer (Some layer) = rc_value layer
