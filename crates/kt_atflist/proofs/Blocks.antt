@@ -26,17 +26,17 @@ none-of : (o : Option (List ℕ)) → is_some o ≡ false → o ≡ None
 none-of None e = refl
 none-of (Some value) e = absurd (cc)
 
--- Setting a property preserves that each name has one value.
+-- After a property is set, or setting fails, each name still has one value.
 pub settled-after : {U E : Type 0} (r : Result U E) (old new : List Variable) (pair : Variable) → old ≡ last_values old
     → OnOk r (new ≡ last_values (old ++ pair ∷ [])) → OnErr r (new ≡ old) → new ≡ last_values new
 settled-after (Ok u) old new pair s set kept = set ∙ sym (twice (old ++ pair ∷ [])) ∙ ap last_values (sym set)
 settled-after (Err e) old new pair s set kept = kept ∙ s ∙ ap last_values (sym kept)
 
--- `as_case name props`: the case of a block.
+-- `as_case name props`: the case of a block with the name `name` and the properties `props`.
 abbrev as_case : List ℕ → List Variable → CaseDef
 as_case name props = record { name = name; props = props; fault = None }
 
--- A property that the block has not set yet is appended.
+-- Setting a property that the block does not have yet appends the property.
 pub property-after : {U E : Type 0} (r : Result U E) (called : List ℕ) (old new : List Variable) (now : CaseDef) (pair : Variable) → as_case called old ≡ now
     → old ≡ last_values old → is_given now.props pair.name ≡ false → OnOk r (new ≡ last_values (old ++ pair ∷ [])) → OnOk r (as_case called new ≡ with_property now pair.name pair.value)
 property-after (Ok u) called old new now pair v s g set =

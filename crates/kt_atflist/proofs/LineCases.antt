@@ -4,12 +4,13 @@ use Rattle.kt_atflist.proofs.Common.{find, is_empty, ident_in, is_name, key_in, 
 use Rattle.kt_base.specs.Lossy.{lossy}
 use Rattle.kt_metadata.specs.ListKeys.{name_of_key}
 
--- `Led cases line block step`: `step` has the specified state after `line`, or its fault.
+-- `Led cases line block step`: `step` is the specified result of `line`: the next state or the
+-- fault.
 abbrev pub Led : List CaseDef → List ℕ → Option CaseDef → ListStep → Type 0
 Led cases line block (To next) = Goes cases line block next
 Led cases line block (Wrong cause) = Fails cases line block cause
 
--- Equal steps have equal results.
+-- `Led` for a step implies `Led` for an equal step.
 leads : (cases : List CaseDef) (line : List ℕ) (block : Option CaseDef) (s t : ListStep) → s ≡ t → Led cases line block t → Led cases line block s
 leads cases line block s t e h = subst (Led cases line block) (sym e) h
 
@@ -45,7 +46,7 @@ record Gives (line value : List ℕ) (o : Option (List ℕ)) : Type 0 where
   plain : bytes_eq (lossy (key_in line)) (codes "ident") ≡ false
   property : name_of_key (lossy (key_in line)) ≡ o
 
--- The line sets the property that its key represents.
+-- A line of a block that `Gives` describes sets the property of its key.
 stepped : (cases : List CaseDef) (block : CaseDef) (line value : List ℕ) (o : Option (List ℕ)) → Gives line value o → go_on cases block line ≡ go_on_with cases (set_property block o (lossy value))
 stepped cases block line value o g = rw (g.some, g.value_is, g.key, g.plain, g.property) refl
 
@@ -108,14 +109,14 @@ further_led cases block line false None e v =
 further_led cases block line false (Some value) e v =
     value_led cases block line value (is_empty (key_in line)) (bytes_eq (lossy (key_in line)) (codes "ident")) e v refl refl
 
--- Each line has a next state or a fault.
+-- `step_from` gives each line its specified next state or its fault.
 pub led_by : (cases : List CaseDef) (block : Option CaseDef) (line : List ℕ) → Led cases line block (step_from cases block line)
 led_by cases None line = first_led cases line (ident_in line) refl
 led_by cases (Some block) line = further_led cases block line (is_empty line) (value_in line) refl refl
 
 -- ---- the specified next state is unique
 
--- The step of a line is to its specified next state.
+-- `step_from` of a valid line gives its specified next state.
 pub step_goes : (cases : List CaseDef) (block : Option CaseDef) (line : List ℕ) (next : Read) → Goes cases line block next → step_from cases block line ≡ To next
 step_goes cases None line next (begins name e f g) = ap (λ (o : Option (List ℕ)). begin_with cases (name_from o)) e ∙ rw (f, g) refl
 step_goes cases (Some block) line next (gives _ value property e v k w p g h) =

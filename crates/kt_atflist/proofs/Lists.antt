@@ -157,7 +157,7 @@ one_answer text a b p q = sym (only_answer text a p) ∙ only_answer text b q
 pub answered : (text : List ℕ) (result : Outcome) → result ≡ read_list text → IsAnswer text result
 answered text result e = subst (IsAnswer text) (sym e) (answers text)
 
--- The result of the lines is the specified result of the text.
+-- The result that `read_lines` specifies for the lines of a text is a result of the text.
 pub lines_answered : (text : List ℕ) (result : Outcome) → IsUtf8 text → IsUnlessMemory result (read_lines (lines text)) → IsOutOfMemory result ⊎ IsAnswer text result
 lines_answered text result u (inl memory) = inl memory
 lines_answered text result u (inr e) = inr (answered text result (e ∙ sym (read_utf8 text u)))

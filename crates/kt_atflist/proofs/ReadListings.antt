@@ -11,7 +11,8 @@ use Rattle.kt_atflist.specs.declared.listing.ListBytes.TheVariants as bytes
 use Rattle.kt_atflist.specs.declared.listing.Listing.TheVariants as listing
 use Rattle.kt_atflist.specs.declared.list_fault.ListCause.TheVariants as cause
 
--- Cases that were read are not an error of an allocation.
+-- A result with cases is not the error of a failed allocation, so the text is a list of these
+-- cases.
 pub cases_read : (slice text : List ℕ) (cases : List CaseDef) → slice ≡ text → IsOutOfMemory (Ok cases) ⊎ IsAnswer slice (Ok cases) → IsRead text (Ok cases)
 cases_read slice text cases e (inl (refusal, n)) = absurd (cc)
 cases_read slice text cases e (inr a) = listed cases (subst (λ (t : List ℕ). IsAnswer t (Ok cases)) e a)

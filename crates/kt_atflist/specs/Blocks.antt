@@ -22,7 +22,8 @@ is_given pairs name = list_any (is_named name) pairs
 abbrev pub named : List ℕ → CaseDef
 named name = record { name = name; props = []; fault = None }
 
--- `with_property block name value`: `block` with the property `name` appended.
+-- `with_property block name value`: `block` with the property `name` appended, which has the value
+-- `value`.
 abbrev pub with_property : CaseDef → List ℕ → List ℕ → CaseDef
 with_property block name value = record { name = block.name; props = block.props ++ record { name = name; value = value } ∷ []; fault = block.fault }
 

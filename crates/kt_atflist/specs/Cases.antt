@@ -10,16 +10,16 @@ use Rattle.kt_atflist.specs.Blocks.{named}
 use Rattle.kt_atflist.specs.declared.listing.CaseDef.{CaseDef}
 use Rattle.kt_atflist.specs.declared.listing.Listing.{Listing}
 
--- `over_program props case`: `case` with its own properties over `props`, the properties of its
--- program.
+-- `over_program props case`: `case` with its properties overlaid over `props`, those of its
+-- program. A property of the case replaces the same property of the program.
 abbrev pub over_program : List Variable → CaseDef → CaseDef
 over_program props case = record { name = case.name; props = last_values (props ++ case.props); fault = case.fault }
 
--- `main_case`: the case of a TAP or plain program.
+-- `main_case`: the only case of a TAP or plain program, before the program's properties are added.
 abbrev pub main_case : CaseDef
 main_case = named (codes "main")
 
--- `list_case reason`: the case that represents a list that can't be used for `reason`.
+-- `list_case reason`: the only case of a program whose list can't be used, for this `reason`.
 abbrev pub list_case : Reason → CaseDef
 list_case reason = record { name = codes "__test_cases_list__"; props = []; fault = Some reason }
 

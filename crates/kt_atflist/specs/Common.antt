@@ -1,4 +1,4 @@
--- The names that the clauses of this crate cite, passed on from one place. Declares nothing.
+-- Exports the definitions that the clauses of this crate cite. Declares nothing.
 pub use Rattle.std.specs.List.{list_any, prefix_len}
 pub use Rattle.kt_base.specs.Lines.{lines}
 pub use Rattle.kt_base.specs.declared.child.Interface.{Interface}

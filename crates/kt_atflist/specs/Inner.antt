@@ -1,4 +1,3 @@
--- Definitions for private functions: the code's reading of a list line by line. No public clause
--- cites them.
+-- Definitions that only private functions cite: how the code reads a list, line by line.
 pub mod Keys
 pub mod Reading

@@ -20,15 +20,16 @@ use Rattle.kt_atflist.specs.declared.listing.Listing.{Listing}
 use Rattle.kt_atflist.specs.declared.listing.Listing.TheVariants as listing
 use Rattle.kt_atflist.specs.Spelling.{Spells, IsDue}
 
--- `ended_reason outcome`: the reason why a program with this outcome did not list its cases; no
--- reason if it exited with 0.
+-- `ended_reason outcome`: the reason why a program with this `outcome` did not list its cases, or
+-- nothing if it exited with 0.
 abbrev pub ended_reason : Outcome → Option Reason
 ended_reason TimedOut = Some (Fixed ListTimedOut)
 ended_reason WaitFailed = Some (Fixed ListNotWaitedFor)
 ended_reason (Exited code) = if code == 0 then None else Some (Ended NoList (Exited code))
 ended_reason (Signaled signal core) = Some (Ended NoList (Signaled signal core))
 
--- `fault_phrase cause`: the phrase of `cause`; `NoMemory` has no phrase.
+-- `fault_phrase cause`: the fixed message for `cause` in a reason. A failed allocation has no
+-- message and stays an error.
 abbrev pub fault_phrase : ListCause → Result Phrase NoMemory
 fault_phrase (cause.NoMemory refusal) = Err refusal
 fault_phrase BadHeader = Ok ListBadHeader
@@ -41,14 +42,14 @@ fault_phrase BadValue = Ok ListBadValue
 fault_phrase EmptyList = Ok ListEmpty
 fault_phrase NotUtf8 = Ok ListNotUtf8
 
--- `IsRead text found`: `found` is the cases of the list `text`, or the reason why `text` isn't a
--- list.
+-- `IsRead text found`: parsing `text` as a list gives `found`: the cases of the list, or the reason
+-- why `text` isn't a list.
 pub data IsRead (text : List ℕ) : Result (List CaseDef) Reason → Type 0 where
   no_list : (fault : ListFault) (phrase : Phrase) → IsDue text fault → fault_phrase fault.cause ≡ Ok phrase → IsRead text (Err (Counted phrase fault.line 0))
   listed : (cases : List CaseDef) → Spells text cases → IsRead text (Ok cases)
 
--- `Lists listing found`: `found` is the cases of `listing`, or the reason why `listing` can't be
--- used.
+-- `Lists listing found`: a program with the listing `listing` has the result `found`: the listed
+-- cases, or the reason why the listing can't be used.
 pub data Lists : Listing → Result (List CaseDef) Reason → Type 0 where
   unstarted : (refused : Refused) → Lists (listing.Refused refused) (Err (refused_reason refused))
   unlisted : (outcome : Outcome) (bytes : ListBytes) (reason : Reason) → ended_reason outcome ≡ Some reason → Lists (listing.Ended outcome bytes) (Err reason)

@@ -2,9 +2,9 @@
 use Rattle.std.specs.Prelude.{List, Option}
 use Rattle.kt_atflist.specs.declared.listing.CaseDef.{CaseDef}
 
--- `Read`: the cases that were read, and the block in progress.
+-- `Read`: the state of the reader: the cases of the finished blocks, and the block that has begun.
 pub record Read : Type 0 where
   -- The cases of the finished blocks.
   pub cases : List CaseDef
-  -- The case of the block in progress, if there is one.
+  -- The case of the block that has begun, or nothing between two blocks.
   pub block : Option CaseDef

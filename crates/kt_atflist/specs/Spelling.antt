@@ -1,4 +1,4 @@
--- The cases of a list of test cases, and the fault of a text that isn't a list.
+-- The test cases of a list, and the fault of a text that isn't a list.
 use Rattle.std.specs.Prelude.{◌≡◌, ◌⊎◌, ℕ, ◌+◌, Bool, true, false, not, ◌||◌, List, [], ◌∷◌, ◌++◌, codes, bytes_eq, Option, Some, None, Result, Ok, Err, is_some}
 use Rattle.std.specs.List.{find}
 use Rattle.std.specs.Str.{IsUtf8}
@@ -21,17 +21,18 @@ use Rattle.kt_atflist.specs.Read.{Read}
 abbrev pub Outcome : Type 0
 Outcome = Result (List CaseDef) ListFault
 
--- `header`: the first line of each list.
+-- `header`: the first line of each list, without its newline.
 abbrev pub header : List ℕ
 header = codes "Content-Type: application/X-atf-tp; version=\"1\""
 
--- `fault_at cause line`: the fault with the cause `cause` in line `line`.
+-- `fault_at cause line`: the fault with this `cause` in the line with the number `line`.
 abbrev pub fault_at : ListCause → ℕ → ListFault
 fault_at cause line = record { cause = cause; line = line }
 
 -- ---- valid lines
 
--- `Goes cases line block next`: reading `line` after `cases`, in `block` (if any), gives `next`.
+-- `Goes cases line block next`: `line` is valid after the blocks of `cases`, in `block` or outside
+-- a block, and `next` is the state of the reader after the line.
 pub data Goes (cases : List CaseDef) (line : List ℕ) : Option CaseDef → Read → Type 0 where
   begins : (name : List ℕ) → ident_in line ≡ Some name → is_name name ≡ true → is_listed cases (lossy name) ≡ false
       → Goes cases line None (record { cases = cases; block = Some (named (lossy name)) })
@@ -41,8 +42,8 @@ pub data Goes (cases : List CaseDef) (line : List ℕ) : Option CaseDef → Read
       → Goes cases line (Some block) (record { cases = cases; block = Some (with_property block property (lossy value)) })
   ends : (block : CaseDef) → is_empty line ≡ true → Goes cases line (Some block) (record { cases = cases ++ block ∷ []; block = None })
 
--- `Spelled cases block lines all`: reading `lines` after `cases`, in `block` (if any), gives the
--- cases `all` in the end.
+-- `Spelled cases block lines all`: `lines` are valid after the blocks of `cases`, in `block` or
+-- outside a block. They complete a list of the cases `all`.
 pub data Spelled : List CaseDef → Option CaseDef → List (List ℕ) → List CaseDef → Type 0 where
   no_block : (cases : List CaseDef) → Spelled cases None [] cases
   last_block : (cases : List CaseDef) (block : CaseDef) → Spelled cases (Some block) [] (cases ++ block ∷ [])
@@ -51,26 +52,27 @@ pub data Spelled : List CaseDef → Option CaseDef → List (List ℕ) → List 
 
 -- ---- faulty lines
 
--- `gives_again pairs name`: one of `pairs` has the name `name`, which may be missing.
+-- `gives_again pairs name`: one of `pairs` already has the name `name`. False without a `name`.
 abbrev pub gives_again : List Variable → Option (List ℕ) → Bool
 gives_again pairs None = false
 gives_again pairs (Some property) = is_given pairs property
 
--- `is_bad name value`: the property `name` may not have the value `value`.
+-- `is_bad name value`: the property `name` may not have the value `value`. False without a `name`.
 abbrev pub is_bad : Option (List ℕ) → List ℕ → Bool
 is_bad None value = false
 is_bad (Some property) value = not (is_good property value)
 
--- `fits_first cases ident cause`: `cause` fits the first line of a block after `cases`, with the
--- name `ident` if the line has one.
+-- `fits_first cases ident cause`: a first line of a block after the blocks of `cases`, with the
+-- name `ident`, has a fault with this `cause`. The line begins without `ident: ` if `ident` is
+-- nothing.
 abbrev pub fits_first : List CaseDef → Option (List ℕ) → ListCause → Bool
 fits_first cases None NoIdent = true
 fits_first cases (Some name) BadValue = not (is_name name)
 fits_first cases (Some name) RepeatedIdent = is_listed cases (lossy name)
 fits_first cases ident _ = false
 
--- `fits_further block key value cause`: `cause` fits a line of `block`, but not its first, with the
--- key `key` and the value `value` (if any).
+-- `fits_further block key value cause`: a line of `block` after its first, with the key `key` and
+-- the value `value`, or without a value, has a fault with this `cause`.
 abbrev pub fits_further : CaseDef → List ℕ → Option (List ℕ) → ListCause → Bool
 fits_further block key None BadLine = true
 fits_further block key (Some value) BadLine = is_empty key
@@ -79,24 +81,26 @@ fits_further block key (Some value) UnknownKey = not (is_some (name_of_key (loss
 fits_further block key (Some value) BadValue = is_bad (name_of_key (lossy key)) (lossy value)
 fits_further block key value _ = false
 
--- `first_rows`: the causes for a first line; the first that fits is reported.
+-- `first_rows`: the possible causes of a fault in the first line of a block. The first that fits is
+-- reported.
 abbrev pub first_rows : List ListCause
 first_rows = NoIdent ∷ BadValue ∷ RepeatedIdent ∷ []
 
--- `further_rows`: the causes for a line after the first of its block; the first that fits is
--- reported.
+-- `further_rows`: the possible causes of a fault in a line after the first of its block. The first
+-- that fits is reported.
 abbrev pub further_rows : List ListCause
 further_rows = BadLine ∷ RepeatedKey ∷ UnknownKey ∷ BadValue ∷ []
 
--- `Fails cases line block cause`: `cause` is the first that fits `line` after `cases`, in `block`
--- (if any). An empty line ends its block.
+-- `Fails cases line block cause`: `line` is faulty after the blocks of `cases`, in `block` or
+-- outside a block, and `cause` is the cause that is reported. An empty line in a block is valid.
 pub data Fails (cases : List CaseDef) (line : List ℕ) : Option CaseDef → ListCause → Type 0 where
   first : (cause : ListCause) → find (fits_first cases (ident_in line)) first_rows ≡ Some cause → Fails cases line None cause
   further : (block : CaseDef) (cause : ListCause) → is_empty line ≡ false → find (fits_further block (key_in line) (value_in line)) further_rows ≡ Some cause
       → Fails cases line (Some block) cause
 
--- `Faulty n cases block lines fault`: `fault` is in the first faulty line of `lines`, counted from
--- `n`, after `cases`, in `block` (if any).
+-- `Faulty n cases block lines fault`: one of `lines`, whose numbers begin with `n`, is faulty after
+-- the blocks of `cases`, in `block` or outside a block. `fault` is the fault of the first such
+-- line.
 pub data Faulty : ℕ → List CaseDef → Option CaseDef → List (List ℕ) → ListFault → Type 0 where
   here : (n : ℕ) (cases : List CaseDef) (block : Option CaseDef) (first : List ℕ) (rest : List (List ℕ)) (cause : ListCause)
       → Fails cases first block cause → Faulty n cases block (first ∷ rest) (fault_at cause n)
@@ -105,13 +109,14 @@ pub data Faulty : ℕ → List CaseDef → Option CaseDef → List (List ℕ) �
 
 -- ---- whole texts
 
--- `IsList lines cases`: `lines` are the header, an empty line, and one block or more, with the
--- cases `cases`.
+-- `IsList lines cases`: `lines` are the header, an empty line, and the blocks of the cases `cases`,
+-- at least one.
 pub data IsList : List (List ℕ) → List CaseDef → Type 0 where
   list : (first second third : List ℕ) (rest : List (List ℕ)) (cases : List CaseDef) → bytes_eq first header ≡ true → is_empty second ≡ true
       → Spelled [] None (third ∷ rest) cases → IsList (first ∷ second ∷ third ∷ rest) cases
 
--- `IsFault lines fault`: `fault` is the fault of the first faulty line of `lines`.
+-- `IsFault lines fault`: `lines` are not a list, and `fault` is the fault of their first faulty
+-- line.
 pub data IsFault : List (List ℕ) → ListFault → Type 0 where
   no_first : IsFault [] (fault_at BadHeader 1)
   other_first : (first : List ℕ) (rest : List (List ℕ)) → bytes_eq first header ≡ false → IsFault (first ∷ rest) (fault_at BadHeader 1)
@@ -122,12 +127,12 @@ pub data IsFault : List (List ℕ) → ListFault → Type 0 where
   in_blocks : (first second third : List ℕ) (rest : List (List ℕ)) (fault : ListFault) → bytes_eq first header ≡ true → is_empty second ≡ true
       → Faulty 3 [] None (third ∷ rest) fault → IsFault (first ∷ second ∷ third ∷ rest) fault
 
--- `Spells text cases`: `text` is a list of `cases`.
+-- `Spells text cases`: `text` is UTF-8 and a list of the cases `cases`.
 abbrev pub Spells : List ℕ → List CaseDef → Type 0
 Spells text cases = IsUtf8 text × IsList (lines text) cases
 
--- `IsDue text fault`: `text` isn't a list because of `fault`: it isn't UTF-8, or else its first
--- faulty line has this fault.
+-- `IsDue text fault`: `text` isn't a list, and `fault` is the reason: it isn't UTF-8, or else its
+-- first faulty line has this fault.
 abbrev pub IsDue : List ℕ → ListFault → Type 0
 IsDue text fault = (¬ (IsUtf8 text) × (fault ≡ fault_at NotUtf8 0)) ⊎ (IsUtf8 text × IsFault (lines text) fault)
 
@@ -136,10 +141,10 @@ abbrev pub IsAnswer : List ℕ → Result (List CaseDef) ListFault → Type 0
 IsAnswer text (Ok cases) = Spells text cases
 IsAnswer text (Err fault) = IsDue text fault
 
--- `IsOutOfMemory result`: an allocation failed.
+-- `IsOutOfMemory result`: `result` is the error of a failed allocation.
 abbrev pub IsOutOfMemory : Outcome → Type 0
 IsOutOfMemory result = (refusal : NoMemory) × (result ≡ Err (fault_at (cause.NoMemory refusal) 0))
 
--- `IsUnlessMemory result answer`: `result` is `answer`, or an allocation failed.
+-- `IsUnlessMemory result answer`: `result` is `answer`, or the error of a failed allocation.
 abbrev pub IsUnlessMemory : Outcome → Outcome → Type 0
 IsUnlessMemory result answer = IsOutOfMemory result ⊎ (result ≡ answer)

@@ -8,9 +8,9 @@ use kt_metadata::{PropFault, Props};
 use std::alloc::Global;
 use std::marker::Model;
 
-/// A block in progress: a test case with the properties that were read so far.
+/// A block of a list, up to the last line read: a test case with its properties so far.
 ///
-/// In contracts, it is the case.
+/// In contracts, a `Block` is the case.
 #[derive(Drop)]
 pub struct Block {
     name: Text,
@@ -43,16 +43,22 @@ impl Block {
         }
     }
 
-    /// Returns `true` if the block has set the property `name`.
+    /// Returns `true` if a line of the block has set the property `name`.
     pub fn has(&self, name: &Text) -> bool
         ensures { result ≡ is_given self.now.props name.now }
     {
         self.props.get(name).is_some()
     }
 
-    /// Sets the property `name`, which the block has not set yet.
+    /// Sets the property `name` to `value`. The caller checks that the property is not set yet.
     ///
-    /// On failure, the block is unchanged.
+    /// # Errors
+    ///
+    /// The block is unchanged on an error.
+    ///
+    /// - `UnknownProperty`: no property has this name.
+    /// - `BadValue`: the property may not have this value.
+    /// - `NoMemory`: an allocation fails.
     pub fn set(&mut self, name: &Text, value: &Text) -> Result<(), PropFault>
         requires { is_given self.old.props name.now ≡ false }
         ensures ok { OnOk result (self.new ≡ with_property self.old name.now value.now) }
@@ -64,7 +70,7 @@ impl Block {
         self.props.set(name, value)
     }
 
-    /// Returns the case of the finished block.
+    /// Converts the finished block to its test case.
     pub fn into_case(self) -> CaseDef
         ensures { result ≡ self }
     {

@@ -1,4 +1,4 @@
-//! Returns the cases of a listing.
+//! The cases of a listing.
 
 ghost use Rattle.std.specs.Prelude.{◌≡◌, IfOk};
 ghost use Rattle.kt_atflist.specs.Common.{ended_reason, IsRead, Lists};
@@ -7,7 +7,9 @@ use crate::{CaseDef, ListBytes, Listing, parse_list};
 use kt_base::{Bytes, Items, NoMemory, Outcome, Phrase, Reason};
 use std::alloc::Global;
 
-/// Returns the reason why a program did not list its cases, or `None` if the program exited with 0.
+/// Returns the reason why a program with this `outcome` did not list its cases.
+///
+/// Returns `None` if the program exited with 0.
 fn ended_reason(outcome: Outcome) -> Option<Reason>
     ensures { result ≡ ended_reason outcome }
 {
@@ -23,7 +25,7 @@ fn ended_reason(outcome: Outcome) -> Option<Reason>
     }
 }
 
-/// Returns the cases of the list `text`, or the reason why `text` isn't a list.
+/// Parses `text` as a list and returns its cases, or the reason why `text` isn't a list.
 fn read_bytes(alloc: Global, text: &Bytes) -> Result<Result<Items<CaseDef>, Reason>, NoMemory>
     ensures { IfOk result (λ found. IsRead text.now found) }
 {
@@ -36,7 +38,11 @@ fn read_bytes(alloc: Global, text: &Bytes) -> Result<Result<Items<CaseDef>, Reas
     }
 }
 
-/// Returns the cases of a listing, or the reason why the listing can't be used.
+/// Returns the cases of the listing `listing`, or the reason why it can't be used.
+///
+/// # Errors
+///
+/// - `NoMemory`: an allocation fails.
 pub fn listed_cases(
     alloc: Global,
     listing: &Listing,

@@ -8,7 +8,7 @@ use std::marker::Model;
 
 /// A set of names with lookup in constant time.
 ///
-/// In contracts, it is the list of the names in the order of their insertion.
+/// In contracts, a `Names` is the list of the names in the order of their insertion.
 #[derive(Drop)]
 pub struct Names {
     keys: IndexSet<String>,
@@ -42,9 +42,11 @@ impl Names {
         self.keys.contains(name.as_str())
     }
 
-    /// Inserts `name`, which the set doesn't contain yet.
+    /// Inserts `name`. The caller checks that the set doesn't contain `name` yet.
     ///
-    /// On failure, the set is unchanged.
+    /// # Errors
+    ///
+    /// - `NoMemory`: an allocation fails. The set is unchanged.
     pub fn push(&mut self, alloc: Global, name: &Text) -> Result<(), NoMemory>
         requires { list_any (bytes_eq name.now) self.old ≡ false }
         ensures ok { OnOk result (self.new ≡ self.old ++ name.now ∷ []) }

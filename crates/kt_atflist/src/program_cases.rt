@@ -1,4 +1,4 @@
-//! Returns the test cases of a program.
+//! The test cases of a program.
 
 ghost use Rattle.std.specs.Prelude.{◌≡◌, ◌∷◌, ◌++◌, [], List, map, chars, Some, None, IfOk, OnOk, IsSome, ℕ, Option, Result};
 ghost use Rattle.kt_atflist.specs.Common.{Atf, Variable, over_program, main_case, list_case, AreCases, Interface, IsAnswer, CaseDef, ListFault, Listing};
@@ -12,10 +12,10 @@ use std::alloc::Global;
 /// The name of the only case of a TAP or plain program.
 const MAIN: &str = "main";
 
-/// The name of the case that represents a list that can't be used.
+/// The name of the case of a program whose list can't be used.
 const LIST: &str = "__test_cases_list__";
 
-/// Appends `case` to `cases`, with its own properties over `props`, the properties of its program.
+/// Appends `case` to `cases`, with its properties overlaid over `props`, those of its program.
 fn add(cases: &mut Items<CaseDef>, props: &Props, case: CaseDef) -> Result<(), NoMemory>
     ensures { OnOk result (cases.new ≡ cases.old ++ over_program props.now case ∷ []) }
 {
@@ -28,8 +28,7 @@ fn add(cases: &mut Items<CaseDef>, props: &Props, case: CaseDef) -> Result<(), N
     cases.push(CaseDef { name, props, fault })
 }
 
-/// Returns the cases `found`, each with its own properties over `props`, the properties of its
-/// program.
+/// Overlays the properties of each case in `found` over `props`, those of the program.
 fn each_with_program(
     alloc: Global,
     props: &Props,
@@ -44,7 +43,9 @@ fn each_with_program(
     Ok(cases)
 }
 
-/// Returns the cases `found` with their own properties over `props`, whose memory the cases share.
+/// Overlays the properties of each case in `found` over a copy of `props`, those of the program.
+///
+/// The cases share the memory of this copy.
 fn all_with_program(
     alloc: Global,
     props: &Props,
@@ -56,7 +57,7 @@ fn all_with_program(
     each_with_program(alloc, &shared, found)
 }
 
-/// Returns the single case `name` of a program, with the properties `props` and the fault `fault`.
+/// Creates the only case of a program, with this name, the program's properties and this fault.
 fn one_case(
     alloc: Global,
     name: &str,
@@ -76,7 +77,9 @@ fn one_case(
     Ok(cases)
 }
 
-/// Returns the cases of an ATF program with the listing `listing`.
+/// Returns the cases of an ATF program with the properties `props` and the listing `listing`.
+///
+/// If the listing can't be used, the program has the one case `__test_cases_list__`.
 fn listed(alloc: Global, props: &Props, listing: &Listing) -> Result<Items<CaseDef>, NoMemory>
     ensures { IfOk result (λ cases. AreCases props.now Atf (Some listing.now) cases) }
 {
@@ -115,9 +118,9 @@ pub fn cases(
     }
 }
 
-/// Theorem: a text has at most one result, and a program has at most one list of cases.
+/// Theorem: the rules give a text at most one result, and a program at most one list of cases.
 ///
-/// The result of a text is its cases or its first fault.
+/// The result of a text is the cases of its list, or its first fault.
 pub fn theorem_of_one_answer()
     ensures text { (text : List ℕ) → (first : Result (List CaseDef) ListFault)
         → (second : Result (List CaseDef) ListFault) → IsAnswer text first → IsAnswer text second

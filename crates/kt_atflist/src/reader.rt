@@ -1,4 +1,4 @@
-//! Parses a list of test cases.
+//! The parser of a list of test cases.
 
 ghost use Rattle.std.specs.Prelude.{◌⊎◌, List, Result, ◌≡◌, ◌<◌, ◌∷◌, [], length, MatchOption, IfSome};
 ghost use Rattle.kt_atflist.specs.Common.{IsAnswer, IsOutOfMemory, IsUnlessMemory, ListFault, CaseDef, lines, read_from, nothing_read, read_blocks, read_second, read_lines};
@@ -25,10 +25,10 @@ fn first_line(text: &[u8]) -> Option<(&[u8], &[u8])>
     }
 }
 
-/// The first line of each list.
+/// The first line of each list of test cases, without its newline (atf-test-program(1)).
 const HEADER: &[u8] = b"Content-Type: application/X-atf-tp; version=\"1\"";
 
-/// Parses the blocks of a list from line 3 on.
+/// Parses `text`, the lines of a list from line 3 on, as blocks.
 fn read_from(alloc: Global, text: &[u8]) -> Result<Items<CaseDef>, ListFault>
     ensures { IsUnlessMemory result (read_from 3 nothing_read (lines text.now)) }
 {
@@ -47,7 +47,7 @@ fn read_from(alloc: Global, text: &[u8]) -> Result<Items<CaseDef>, ListFault>
     Ok(cases)
 }
 
-/// Parses a list from line 3 on; line 3 must exist.
+/// Parses `text`, the lines of a list from line 3 on. Fails with `EmptyList` if line 3 is missing.
 fn read_blocks(alloc: Global, text: &[u8]) -> Result<Items<CaseDef>, ListFault>
     ensures { IsUnlessMemory result (read_blocks (lines text.now)) }
 {
@@ -60,7 +60,8 @@ fn read_blocks(alloc: Global, text: &[u8]) -> Result<Items<CaseDef>, ListFault>
     read_from(alloc, text)
 }
 
-/// Parses a list from line 2 on; line 2 must be empty.
+/// Parses `text`, the lines of a list from line 2 on. Fails with `BadHeader` unless line 2 is
+/// empty.
 fn read_second(alloc: Global, text: &[u8]) -> Result<Items<CaseDef>, ListFault>
     ensures { IsUnlessMemory result (read_second (lines text.now)) }
 {
@@ -77,7 +78,7 @@ fn read_second(alloc: Global, text: &[u8]) -> Result<Items<CaseDef>, ListFault>
     read_blocks(alloc, rest)
 }
 
-/// Parses a list in UTF-8 from line 1 on; line 1 must be the header.
+/// Parses `text`, all lines of a list. Fails with `BadHeader` unless line 1 is `HEADER`.
 fn read_lines(alloc: Global, text: &[u8]) -> Result<Items<CaseDef>, ListFault>
     ensures { IsUnlessMemory result (read_lines (lines text.now)) }
 {

@@ -8,16 +8,17 @@ use kt_base::Items;
 use std::alloc::Global;
 use std::marker::Model;
 
-/// A state of the reader between two lines of a list.
+/// A reader of a list, in its state between two lines.
 ///
-/// In contracts, it is the cases of the finished blocks, and the case of the block in progress.
+/// In contracts, a `ListReader` is the cases of the finished blocks, and the case of the block that
+/// has begun.
 #[derive(Drop)]
 pub struct ListReader {
     /// The cases of the finished blocks.
     pub cases: Items<CaseDef>,
-    /// The names of `cases`, and of the case of `block`.
+    /// The names of `cases`, and the name of `block`.
     pub names: Names,
-    /// The block in progress, if there is one.
+    /// The block that has begun and is not finished, or `None` between two blocks.
     pub block: Option<Block>,
 }
 
@@ -34,7 +35,7 @@ impl Model for ListReader {
 }
 
 impl ListReader {
-    /// Creates the state of the reader before the first block of a list.
+    /// Creates a reader in its state before the first block of a list.
     ///
     /// Allocates nothing.
     pub fn new(alloc: Global) -> ListReader
@@ -51,8 +52,8 @@ impl ListReader {
 /// A result of reading one line of a list.
 #[derive(Drop)]
 pub enum ListStep {
-    /// The state after the line.
+    /// The line is valid. This is the state after the line.
     To(ListReader),
-    /// The cause of the fault in the line.
+    /// The line is faulty, for this cause.
     Wrong(ListCause),
 }

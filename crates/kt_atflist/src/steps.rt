@@ -1,4 +1,4 @@
-//! Computes the state of the reader after each line of a list.
+//! The state of the reader after each line of a list.
 
 ghost use Rattle.std.specs.Prelude.{◌≡◌, true, false, List, ℕ, None, Some, IfOk};
 ghost use Rattle.kt_atflist.specs.Blocks.{is_given, is_good, with_property};
@@ -14,7 +14,9 @@ use kt_base::{Items, NoMemory, Text, lossy};
 use kt_metadata::{PropFault, property_of_key};
 use std::alloc::Global;
 
-/// Begins a block for the case `name`, unless an earlier block has this name.
+/// Begins a block for the case `name`, after the blocks of `cases`.
+///
+/// Returns the fault `RepeatedIdent` if an earlier block has this name.
 fn begin_named(
     alloc: Global,
     cases: Items<CaseDef>,
@@ -35,7 +37,9 @@ fn begin_named(
     }))
 }
 
-/// Returns the name in the first line of a block, or the cause of the fault in the line.
+/// Parses the first line of a block and returns the name of the case.
+///
+/// Returns `NoIdent` if the line does not begin with `ident: `, or `BadValue` for a bad name.
 fn name_in(alloc: Global, line: &[u8]) -> Result<Result<Text, ListCause>, NoMemory>
     ensures { IfOk result (λ found. found ≡ name_from (ident_in line.now)) }
 {
@@ -50,7 +54,9 @@ fn name_in(alloc: Global, line: &[u8]) -> Result<Result<Text, ListCause>, NoMemo
     }
 }
 
-/// Reads the first line of a block: begins the block, or returns the cause of a fault.
+/// Processes `line` as the first line of a block, after the blocks of `cases`.
+///
+/// Returns the state after the line, or the cause of the fault in the line.
 fn begin(
     alloc: Global,
     cases: Items<CaseDef>,
@@ -66,7 +72,9 @@ fn begin(
     }
 }
 
-/// Sets a property that the block has not set yet, and returns `true` if the value is valid.
+/// Sets the property `name` of `block` to `value`. Returns `true` if the property accepts `value`.
+///
+/// Otherwise, `block` is unchanged. The caller checks that the property is not set yet.
 fn is_set(block: &mut Block, name: &Text, value: &Text) -> Result<bool, NoMemory>
     requires { is_given block.old.props name.now ≡ false }
     ensures good { IfOk result (λ good. good ≡ is_good name.now value.now) }
@@ -81,7 +89,9 @@ fn is_set(block: &mut Block, name: &Text, value: &Text) -> Result<bool, NoMemory
     }
 }
 
-/// Sets the property `name` of a block, or returns the cause of a fault.
+/// Sets the property `name` of `block` to `value`. Returns `None`, or the cause of the fault.
+///
+/// A `name` of `None` means that no property has the key of the line.
 fn set_property(
     block: &mut Block,
     name: &Option<Text>,
@@ -105,7 +115,7 @@ fn set_property(
     }
 }
 
-/// Sets the property that `key` represents, or returns the cause of a fault.
+/// Sets the property with the key `key` to `value`. Returns `None`, or the cause of the fault.
 fn set_key(
     alloc: Global,
     block: &mut Block,
@@ -123,7 +133,9 @@ fn set_key(
     set_property(block, &name, value)
 }
 
-/// Sets the property that the bytes `key` represent, or returns the cause of a fault.
+/// Decodes `key` and `value` as UTF-8 and sets the property with this key to this value.
+///
+/// Returns `None`, or the cause of the fault.
 fn set_bytes(
     alloc: Global,
     block: &mut Block,
@@ -139,7 +151,9 @@ fn set_bytes(
     set_key(alloc, block, &key, &value)
 }
 
-/// Sets the property of the key in `line` to the value in `line`, or returns the cause of a fault.
+/// Sets the property in `line`, which has the form `KEY: VALUE`.
+///
+/// Returns `None`, or the cause of the fault in the line.
 fn set_line(alloc: Global, block: &mut Block, line: &[u8]) -> Result<Option<ListCause>, NoMemory>
     ensures change { IfOk result (λ fault.
         changed block.new fault ≡ set_line block.old (key_in line.now) (value_in line.now)) }
@@ -157,7 +171,9 @@ fn set_line(alloc: Global, block: &mut Block, line: &[u8]) -> Result<Option<List
     }
 }
 
-/// Reads a line of a block that is neither the block's first line nor empty.
+/// Processes `line`, which sets a property of `block`, after the blocks of `cases`.
+///
+/// Returns the state after the line, or the cause of the fault in the line.
 fn go_on_with(
     alloc: Global,
     cases: Items<CaseDef>,
@@ -179,7 +195,7 @@ fn go_on_with(
     }
 }
 
-/// Appends the case of a finished block to the cases of earlier blocks.
+/// Appends the case of the finished `block` to `cases`, those of the earlier blocks.
 fn with_block(mut cases: Items<CaseDef>, block: Block) -> Result<Items<CaseDef>, NoMemory>
     ensures { IfOk result (λ all. all ≡ closed cases (Some block)) }
 {
@@ -187,7 +203,9 @@ fn with_block(mut cases: Items<CaseDef>, block: Block) -> Result<Items<CaseDef>,
     Ok(cases)
 }
 
-/// Reads a line of a block after the block's first line. An empty line ends the block.
+/// Processes `line` as a line of `block` after the block's first line.
+///
+/// An empty line ends the block. Returns the state after the line, or the cause of the fault.
 fn go_on(
     alloc: Global,
     cases: Items<CaseDef>,
@@ -209,7 +227,13 @@ fn go_on(
     }))
 }
 
-/// Reads the next line of a list, and returns the state after it or the cause of its fault.
+/// Processes the next line of a list, from line 3 on, in the state `reading` of the reader.
+///
+/// Returns the state after the line, or the cause of the fault in the line.
+///
+/// # Errors
+///
+/// - `NoMemory`: an allocation fails.
 pub fn step(alloc: Global, reading: ListReader, line: &[u8]) -> Result<ListStep, NoMemory>
     ensures { IfOk result (λ step. step ≡ step_of reading line.now) }
 {
@@ -224,7 +248,11 @@ pub fn step(alloc: Global, reading: ListReader, line: &[u8]) -> Result<ListStep,
     }
 }
 
-/// Returns all cases of the list, whose end also ends a block in progress.
+/// Returns the cases of a list that ends in the state `reading`. The end also ends a block.
+///
+/// # Errors
+///
+/// - `NoMemory`: an allocation fails.
 pub fn finish(reading: ListReader) -> Result<Items<CaseDef>, NoMemory>
     ensures { IfOk result (λ cases. cases ≡ finished reading) }
 {

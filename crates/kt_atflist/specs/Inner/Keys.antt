@@ -4,11 +4,11 @@ use Rattle.std.specs.String.{string_bytes}
 use Rattle.std.specs.declared.string.String.{String}
 use Rattle.kt_atflist.specs.declared.listing.CaseDef.{CaseDef}
 
--- `characters key`: the characters of `key`.
+-- `characters key`: the characters of the string `key`.
 abbrev pub characters : {Z : Type 0} → String Z → List ℕ
 characters key = chars (string_bytes key)
 
--- `name_of case`: the name of `case`.
+-- `name_of case`: the name of the test case `case`.
 abbrev pub name_of : CaseDef → List ℕ
 name_of case = case.name
 

@@ -15,31 +15,35 @@ use Rattle.kt_atflist.specs.Read.{Read}
 use Rattle.kt_atflist.specs.declared.reading.ListStep.{ListStep}
 use Rattle.kt_atflist.specs.declared.reading.ListStep.TheVariants.{To, Wrong}
 
--- `begin_named cases name`: the step that begins a block for the case `name` after `cases`.
+-- `begin_named cases name`: the result of a line that begins a block for the case `name` after the
+-- blocks of `cases`. A fault if one of `cases` has this name.
 abbrev pub begin_named : List CaseDef → List ℕ → ListStep
 begin_named cases name = if is_listed cases name then Wrong RepeatedIdent else To (record { cases = cases; block = Some (named name) })
 
--- `name_from ident`: the name of the case with the bytes `ident`, or the cause of the fault.
+-- `name_from ident`: the name of the case with the bytes `ident`, or the cause of the fault without
+-- `ident` or with a bad name.
 abbrev pub name_from : Option (List ℕ) → Result (List ℕ) ListCause
 name_from None = Err NoIdent
 name_from (Some ident) = if is_name ident then Ok (lossy ident) else Err BadValue
 
--- `begin_with cases name`: the step that begins a block after `cases`, if there is a name.
+-- `begin_with cases name`: the result of the first line of a block after the blocks of `cases`.
+-- `name` is the name in the line, or the cause of the fault in the line.
 abbrev pub begin_with : List CaseDef → Result (List ℕ) ListCause → ListStep
 begin_with cases (Err cause) = Wrong cause
 begin_with cases (Ok name) = begin_named cases name
 
--- `Change`: a changed block, or the cause of a fault.
+-- `Change`: the result of a line that sets a property: the changed block, or the cause of a fault.
 abbrev pub Change : Type 0
 Change = Result CaseDef ListCause
 
--- `changed block cause`: `block`, or `cause` if there is one.
+-- `changed block cause`: the result of a line that sets a property: the fault with the cause
+-- `cause` if there is one, otherwise the block `block` after the line.
 abbrev pub changed : CaseDef → Option ListCause → Change
 changed block None = Ok block
 changed block (Some cause) = Err cause
 
 -- `set_property block name value`: `block` with the property `name` set to `value`, or the cause of
--- a fault.
+-- a fault. Without a `name`, the key is unknown.
 abbrev pub set_property : CaseDef → Option (List ℕ) → List ℕ → Change
 set_property block None value = Err UnknownKey
 set_property block (Some name) value =
@@ -47,76 +51,81 @@ set_property block (Some name) value =
     else if is_good name value then Ok (with_property block name value)
     else Err BadValue
 
--- `set_key block key value`: `block` with the property that `key` represents set to `value`, or the
+-- `set_key block key value`: `block` with the property of the key `key` set to `value`, or the
 -- cause of a fault.
 abbrev pub set_key : CaseDef → List ℕ → List ℕ → Change
 set_key block key value = if bytes_eq key (codes "ident") then Err RepeatedKey else set_property block (name_of_key key) value
 
--- `set_line block key value`: `block` with the property that the bytes `key` represent set to the
--- bytes `value`, or the cause of a fault. A line may lack a value.
+-- `set_line block key value`: `block` after a line with the bytes `key` and `value`, which set a
+-- property, or the cause of a fault. Without a `value`, the line is bad.
 abbrev pub set_line : CaseDef → List ℕ → Option (List ℕ) → Change
 set_line block key None = Err BadLine
 set_line block key (Some value) = if is_empty key then Err BadLine else set_key block (lossy key) (lossy value)
 
--- `go_on_with cases change`: the step to a changed block after `cases`.
+-- `go_on_with cases change`: the result of a line that sets a property, after the blocks of
+-- `cases`. `change` is the block after the line, or the cause of the fault in the line.
 abbrev pub go_on_with : List CaseDef → Change → ListStep
 go_on_with cases (Err cause) = Wrong cause
 go_on_with cases (Ok block) = To (record { cases = cases; block = Some block })
 
--- `go_on cases block line`: the step for a line of `block` that isn't its first line; an empty line
--- ends the block.
+-- `go_on cases block line`: the result of `line`, which is a line of `block` but not its first,
+-- after the blocks of `cases`. An empty line ends the block.
 abbrev pub go_on : List CaseDef → CaseDef → List ℕ → ListStep
 go_on cases block line = if is_empty line then To (record { cases = cases ++ block ∷ []; block = None }) else go_on_with cases (set_line block (key_in line) (value_in line))
 
--- `step_from cases block line`: the step for `line` after `cases`, in `block` if there is a block
--- in progress.
+-- `step_from cases block line`: the result of `line` after the blocks of `cases`. The line is in
+-- `block`, or begins a block without `block`.
 abbrev pub step_from : List CaseDef → Option CaseDef → List ℕ → ListStep
 step_from cases None line = begin_with cases (name_from (ident_in line))
 step_from cases (Some block) line = go_on cases block line
 
--- `step_of r line`: the step for `line` in the state `r`.
+-- `step_of r line`: the result of `line` in the state `r` of the reader: the next state, or the
+-- cause of a fault.
 abbrev pub step_of : Read → List ℕ → ListStep
 step_of r line = step_from r.cases r.block line
 
--- `closed cases block`: `cases`, followed by the case of a block in progress.
+-- `closed cases block`: `cases`, followed by the case of `block` if there is a block.
 abbrev pub closed : List CaseDef → Option CaseDef → List CaseDef
 closed cases None = cases
 closed cases (Some block) = cases ++ block ∷ []
 
--- `finished r`: all cases if the list ends in the state `r`.
+-- `finished r`: the cases of a list that ends in the state `r` of the reader.
 abbrev pub finished : Read → List CaseDef
 finished r = closed r.cases r.block
 
--- `led n step more`: the result of line `n` with this step; `more` is the result of the rest by the
--- next state.
+-- `led n step more`: the result of a list from line `n` on. `step` is the result of line `n`, and
+-- `more` returns the result of the later lines for a state.
 abbrev pub led : ℕ → ListStep → (Read → Outcome) → Outcome
 led n (Wrong cause) more = Err (fault_at cause n)
 led n (To r) more = more r
 
--- `read_from n r lines`: the result of the lines from line `n` on, in the state `r`.
+-- `read_from n r lines`: the cases of a list, or its first fault, if the reader is in the state `r`
+-- before `lines`, which begin with line `n`.
 abbrev pub read_from : ℕ → Read → List (List ℕ) → Outcome
 read_from n r [] = Ok (finished r)
 read_from n r (line ∷ rest) = led n (step_of r line) (λ next. read_from (n + 1) next rest)
 
--- `nothing_read`: the state before the first block.
+-- `nothing_read`: the state of the reader before the first block: no case and no block.
 abbrev pub nothing_read : Read
 nothing_read = record { cases = []; block = None }
 
--- `read_blocks lines`: the result of the lines from line 3 on.
+-- `read_blocks lines`: the cases of a list, or its first fault, if `lines` are its lines from line
+-- 3 on and the lines before are valid.
 abbrev pub read_blocks : List (List ℕ) → Outcome
 read_blocks [] = Err (fault_at EmptyList 3)
 read_blocks (line ∷ rest) = read_from 3 nothing_read (line ∷ rest)
 
--- `read_second lines`: the result of the lines from line 2 on.
+-- `read_second lines`: the cases of a list, or its first fault, if `lines` are its lines from line
+-- 2 on and line 1 is valid.
 abbrev pub read_second : List (List ℕ) → Outcome
 read_second [] = Err (fault_at BadHeader 2)
 read_second (line ∷ rest) = if is_empty line then read_blocks rest else Err (fault_at BadHeader 2)
 
--- `read_lines lines`: the result of all lines.
+-- `read_lines lines`: the cases of a list with the lines `lines`, or its first fault.
 abbrev pub read_lines : List (List ℕ) → Outcome
 read_lines [] = Err (fault_at BadHeader 1)
 read_lines (line ∷ rest) = if bytes_eq line header then read_second rest else Err (fault_at BadHeader 1)
 
--- `read_list text`: the result of the bytes `text`.
+-- `read_list text`: the cases of the list `text`, or its first fault.
 abbrev pub read_list : List ℕ → Outcome
 read_list text = if is_utf8 text then read_lines (lines text) else Err (fault_at NotUtf8 0)
