@@ -7,10 +7,13 @@ use Rattle.kt_base.specs.Verdicts as verdict
 use Rattle.kt_status.specs.Tables as row
 use Rattle.kt_status.proofs.RowOrder.{at_or_next, at_equal, Least, passes, next, here}
 
+-- `late_row c`: the number of the first row of the ATF table for the claim `c` after a timeout.
 abbrev pub late_row : Claim → ℕ
 late_row (ExpectedTimeout r) = 2
 late_row _ = 3
 
+-- `exit_row c code`: the number of the first row of the ATF table for the claim `c` after an exit
+-- with status `code`.
 abbrev pub exit_row : Claim → ℕ → ℕ
 exit_row Missing code = 4
 exit_row Unreadable code = 5
@@ -25,6 +28,8 @@ exit_row (ExpectedExit (Some due) r) code = at_or_next (nat_eq due code) 14 15
 exit_row (ExpectedSignal due r) code = 19
 exit_row (ExpectedTimeout r) code = 20
 
+-- `signal_row c signal`: the number of the first row of the ATF table for the claim `c` after the
+-- signal `signal`.
 abbrev pub signal_row : Claim → ℕ → ℕ
 signal_row Missing signal = 4
 signal_row Unreadable signal = 5

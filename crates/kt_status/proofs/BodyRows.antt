@@ -10,15 +10,20 @@ use Rattle.kt_status.specs.Tables as row
 use Rattle.kt_status.proofs.RowOrder.{at_or_next, at_equal, Least, next, here, only}
 use Rattle.kt_status.proofs.AtfRows.{atf_row, atf_fits, atf_least}
 
+-- `plain_row e`: the number of the first row of the table of plain programs for the outcome `e`.
 abbrev pub plain_row : Outcome → ℕ
 plain_row WaitFailed = 1
 plain_row TimedOut = 2
 plain_row (Signaled signal core) = 3
 plain_row (Exited code) = at_or_next (nat_eq code 0) 4 5
 
+-- `counted_row some code`: the number of the first row of the TAP table if `some` tests failed and
+-- the program exited with status `code`.
 abbrev pub counted_row : ℕ → ℕ → ℕ
 counted_row some code = if nat_lt 0 some then 7 else at_or_next (nat_eq code 0) 8 9
 
+-- `tap_row t e`: the number of the first row of the TAP table for the results `t` and the outcome
+-- `e`.
 abbrev pub tap_row : Tap → Outcome → ℕ
 tap_row t WaitFailed = 1
 tap_row t TimedOut = 2
@@ -60,7 +65,8 @@ tap_fits (Invalid f) (Exited code) = row.tap_invalid f code
 tap_fits (SkipAll r) (Exited code) = row.tap_skipped r code
 tap_fits (Counted some all) (Exited code) = counted_fits (nat_lt 0 some) some all code refl
 
--- A row after the row of failed tests decides only if no test failed.
+-- Row 7, for failed tests, is before the row `m`: if no test failed, the row `m` decides as without
+-- row 7.
 pub behind_failed : (t : Bool) (first m : ℕ) (x y v : Judged) → 7 < m → Least first y m v → Least (if t then 7 else first) (if t then x else y) m v
 behind_failed true first m x y v lt h = (omega arith, λ e. absurd (omega arith))
 behind_failed false first m x y v lt h = h
@@ -81,7 +87,7 @@ tap_least _ _ _ _ (row.tap_dubious some all code) = behind_failed (nat_lt 0 some
 
 -- ---- bodies
 
--- The value of the table is a verdict on the body, and the only one.
+-- `verdict_of` is the verdict on a body by the tables, and no other verdict is.
 pub body_only : (e : Evidence) (o : Outcome) (v : Judged) → v ≡ verdict_of e o → IsVerdict e o v × ((other : Judged) → IsVerdict e o other → v ≡ other)
 body_only (evidence.Atf c) o v is = rw is (only (λ n v. AtfRow n c o v) (atf_row c o) (atf_verdict c o) (atf_fits c o) (λ m x h. atf_least m c o x h))
 body_only (evidence.Tap t) o v is = rw is (only (λ n v. TapRow n t o v) (tap_row t o) (tap_verdict t o) (tap_fits t o) (λ m x h. tap_least m t o x h))

@@ -1,4 +1,4 @@
--- The names that most proofs of this crate cite, re-exported. Declares nothing.
+-- Exports the names that most proofs of this crate cite. Declares nothing.
 pub use Rattle.std.proofs.lemmas.Bool.{eq-eqb, eqb-true, lt-ltb, ltb-true}
 pub use Rattle.kt_base.specs.Verdicts.{Judged}
 pub use Rattle.kt_base.specs.declared.child.Outcome.{Outcome}

@@ -1,4 +1,4 @@
--- The rows of the tables of refused starts and of cleanups.
+-- The rows of the tables of failed starts and of cleanups.
 use Rattle.std.proofs.Common.{◌≡◌, ℕ, ◌<◌, Bool, true, false, refl, sym, subst, arith, codes, nat_eq, if◌then◌else◌}
 use Rattle.kt_status.proofs.Common.{Outcome, Exited, Signaled, TimedOut, WaitFailed, Judged, RefusalRow, CleanupRow, IsVerdictOfRefusal, IsVerdictAfter, verdict_of_refusal, cleaned, verdict_after_cleanup}
 use Rattle.kt_base.specs.declared.child.Refused.{Refused}
@@ -10,8 +10,9 @@ use Rattle.kt_status.specs.Tables as row
 use Rattle.kt_status.specs.declared.cleanup_end.CleanupEnd.TheVariants as cleanup
 use Rattle.kt_status.proofs.RowOrder.{at_or_next, at_equal, Least, next, here, only}
 
--- ---- starts that were refused
+-- ---- failed starts
 
+-- `refusal_row r`: the number of the row of the table of failed starts for the error `r`.
 abbrev pub refusal_row : Refused → ℕ
 refusal_row refused.Directory = 1
 refusal_row refused.Output = 2
@@ -35,6 +36,8 @@ refusal_only r v is = rw is (only (λ n v. RefusalRow n r v) (refusal_row r) (ve
 
 -- ---- cleanups
 
+-- `end_row end`: the number of the first row of the table of cleanups for a good verdict on the
+-- body and the result `end` of the cleanup.
 abbrev pub end_row : CleanupEnd → ℕ
 end_row (cleanup.Ended (Exited code)) = at_or_next (nat_eq code 0) 2 4
 end_row (cleanup.Ended TimedOut) = 3
@@ -42,6 +45,8 @@ end_row (cleanup.Ended (Signaled s core)) = 4
 end_row (cleanup.Ended WaitFailed) = 4
 end_row cleanup.Refused = 5
 
+-- `cleanup_row body end`: the number of the first row of the table of cleanups for the verdict
+-- `body` on the body and the result `end` of the cleanup.
 abbrev pub cleanup_row : Judged → CleanupEnd → ℕ
 cleanup_row body end = if good body.kind then end_row end else 1
 
@@ -63,7 +68,7 @@ end_least body TimedOut = (omega arith, λ e. absurd (omega arith))
 end_least body (Signaled s core) = here _ _
 end_least body WaitFailed = here _ _
 
--- A row for good verdicts decides only if the verdict on the body is good.
+-- If the verdict on the body is bad, row 1 is before each row for good verdicts.
 pub if_good : (t : Bool) (first n : ℕ) (x body v : Judged) → 1 < n → Least first x n v → Least (if t then first else 1) (if t then x else body) n v
 if_good true first n x body v lt h = h
 if_good false first n x body v lt h = (omega arith, λ e. absurd (omega arith))

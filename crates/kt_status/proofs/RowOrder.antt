@@ -10,7 +10,8 @@ at_or_next t n m = if t then n else m
 
 -- ---- two rows and a test
 
--- The row of a test fits if the test passes, otherwise the next row does.
+-- If the row `n` fits in case `a` and `b` are equal, and the row `m` fits in any case, the row that
+-- the test selects fits.
 pub at_equal : (n m a b : ℕ) (x y : Judged) (P : ℕ → Judged → Type 0) → (a ≡ b → P n x) → P m y → P (at_or_next (nat_eq a b) n m) (if nat_eq a b then x else y)
 at_equal n m a b x y P here next = at_test (nat_eq a b) (λ e. here (eqb-true a b e)) next where
   at_test : (t : Bool) → (t ≡ true → P n x) → P m y → P (at_or_next t n m) (if t then x else y)
@@ -22,18 +23,19 @@ at_equal n m a b x y P here next = at_test (nat_eq a b) (λ e. here (eqb-true a 
 abbrev pub Least : ℕ → Judged → ℕ → Judged → Type 0
 Least first verdict n v = (first ≤ n) × (n ≡ first → v ≡ verdict)
 
--- If a test passes, the row of the test is the first that fits.
+-- If `a` and `b` are equal, row `n`, which tests this, is the first row that fits.
 pub passes : (n m a b : ℕ) (x y : Judged) → a ≡ b → Least (at_or_next (nat_eq a b) n m) (if nat_eq a b then x else y) n x
 passes n m a b x y is = rw (eq-eqb a b is) (omega arith, λ e. refl)
 
--- The row after the row of a test is not before the first that fits.
+-- Row `m`, after the row `n` that tests whether `a` and `b` are equal, is not before the first row
+-- that fits.
 pub next : (n m a b : ℕ) (x y : Judged) → n < m → Least (at_or_next (nat_eq a b) n m) (if nat_eq a b then x else y) m y
 next n m a b x y lt = at_test (nat_eq a b) n m x y lt where
   at_test : (t : Bool) (n m : ℕ) (x y : Judged) → n < m → Least (at_or_next t n m) (if t then x else y) m y
   at_test true n m x y lt = (omega arith, λ e. absurd (omega arith))
   at_test false n m x y lt = (omega arith, λ e. refl)
 
--- The first row that fits gives the verdict.
+-- The row `n` is not before itself and gives its own verdict.
 pub here : (n : ℕ) (v : Judged) → Least n v n v
 here n v = (omega arith, λ e. refl)
 

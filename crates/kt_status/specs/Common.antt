@@ -1,4 +1,4 @@
--- The names that the clauses of this crate cite, re-exported. Declares nothing.
+-- Exports the definitions that the clauses of this crate cite. Declares nothing.
 pub use Rattle.kt_base.specs.Phrases.{phrase_text}
 pub use Rattle.kt_base.specs.Reasons.{ending_text}
 pub use Rattle.kt_base.specs.Verdicts.{Judged, broken}

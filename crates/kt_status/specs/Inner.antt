@@ -1,2 +1,2 @@
--- The verdicts as functions, for private functions.
+-- Definitions that only private functions cite: the verdicts as functions.
 pub mod Verdicts

@@ -23,7 +23,7 @@ use Rattle.kt_claim.specs.declared.evidence.Evidence.TheVariants as evidence
 use Rattle.kt_status.specs.declared.cleanup_end.CleanupEnd.{CleanupEnd}
 use Rattle.kt_status.specs.declared.cleanup_end.CleanupEnd.TheVariants as cleanup
 
--- `claim_fault_text fault`: the text for an error in a result file.
+-- `claim_fault_text fault`: the text for the error `fault` in a result file, in a reason.
 abbrev pub claim_fault_text : ClaimFault → List ℕ
 claim_fault_text result.TooLong = codes "too long"
 claim_fault_text result.Empty = codes "empty"
@@ -34,7 +34,7 @@ claim_fault_text result.BadNumber = codes "bad number"
 claim_fault_text result.UnexpectedReason = codes "unexpected reason"
 claim_fault_text result.NoReason = codes "no reason"
 
--- `tap_fault_text fault`: the text for an error in a TAP stream.
+-- `tap_fault_text fault`: the text for the error `fault` in TAP output, in a reason.
 abbrev pub tap_fault_text : TapFault → List ℕ
 tap_fault_text stream.Unreadable = codes "output could not be read"
 tap_fault_text stream.TooLong = codes "output too long"
@@ -42,12 +42,13 @@ tap_fault_text stream.NoPlan = codes "no plan"
 tap_fault_text stream.SecondPlan = codes "second plan"
 tap_fault_text stream.PlanDiffers = codes "plan differs from tests"
 
--- `Ends outcome`: the process exited or received a signal.
+-- `Ends outcome`: a process with this `outcome` exited or received a signal.
 pub data Ends : Outcome → Type 0 where
   exited : (code : ℕ) → Ends (Exited code)
   signaled : (signal : ℕ) (core : Bool) → Ends (Signaled signal core)
 
--- `AtfRow number claim outcome verdict`: a row of the ATF table.
+-- `AtfRow number claim outcome verdict`: the row `number` of the ATF table fits a case with this
+-- `claim` whose body has this `outcome`, and gives `verdict`.
 pub data AtfRow : ℕ → Claim → Outcome → Judged → Type 0 where
   not_waited_for : (c : Claim) → AtfRow 1 c WaitFailed (verdict.broken (codes "Test case could not be waited for"))
   late_as_expected : (r : List ℕ) → AtfRow 2 (ExpectedTimeout r) TimedOut (verdict.expected_failure r)
@@ -77,7 +78,8 @@ pub data AtfRow : ℕ → Claim → Outcome → Judged → Type 0 where
   not_signaled : (due : Option ℕ) (r : List ℕ) (code : ℕ) → AtfRow 19 (ExpectedSignal due r) (Exited code) (verdict.broken (codes "Expected signal but " ++ ending_text (Exited code)))
   not_late : (r : List ℕ) (e : Outcome) → Ends e → AtfRow 20 (ExpectedTimeout r) e (verdict.broken (codes "Expected timeout but " ++ ending_text e))
 
--- `PlainRow number outcome verdict`: a row of the table of plain programs.
+-- `PlainRow number outcome verdict`: the row `number` of the table of plain programs fits a program
+-- with this `outcome`, and gives `verdict`.
 pub data PlainRow : ℕ → Outcome → Judged → Type 0 where
   plain_not_waited_for : PlainRow 1 WaitFailed (verdict.broken (codes "Test case could not be waited for"))
   plain_late : PlainRow 2 TimedOut (verdict.broken (codes "Test case timed out"))
@@ -85,7 +87,8 @@ pub data PlainRow : ℕ → Outcome → Judged → Type 0 where
   plain_passed : PlainRow 4 (Exited 0) verdict.passed
   plain_failed : (code : ℕ) → PlainRow 5 (Exited code) (verdict.failed (codes "Returned non-success exit status " ++ decimal code))
 
--- `TapRow number tap outcome verdict`: a row of the TAP table.
+-- `TapRow number tap outcome verdict`: the row `number` of the TAP table fits a program that
+-- printed the results `tap` and has this `outcome`, and gives `verdict`.
 pub data TapRow : ℕ → Tap → Outcome → Judged → Type 0 where
   tap_not_waited_for : (t : Tap) → TapRow 1 t WaitFailed (verdict.broken (codes "Test case could not be waited for"))
   tap_late : (t : Tap) → TapRow 2 t TimedOut (verdict.broken (codes "Test case timed out"))
@@ -98,15 +101,17 @@ pub data TapRow : ℕ → Tap → Outcome → Judged → Type 0 where
   tap_dubious : (some all code : ℕ)
       → TapRow 9 (Counted some all) (Exited code) (verdict.broken (codes "Dubious test program: reported all tests as passed but returned exit code " ++ decimal code))
 
--- `RefusalRow number refused verdict`: a row of the table of refused starts.
+-- `RefusalRow number refused verdict`: the row `number` of the table of failed starts fits a start
+-- that failed with the error `refused`, and gives `verdict`.
 pub data RefusalRow : ℕ → Refused → Judged → Type 0 where
   no_directory : RefusalRow 1 refused.Directory (verdict.broken (codes "Work directory could not be made"))
   no_output : RefusalRow 2 refused.Output (verdict.broken (codes "Output files could not be made"))
   not_spawned : RefusalRow 3 refused.Spawn (verdict.broken (codes "Test program could not be started"))
   no_memory : RefusalRow 4 refused.Memory (verdict.broken (codes "Test case could not be started for want of memory"))
 
--- `CleanupRow number body end verdict`: a row of the table of cleanups. `body` is the verdict on
--- the body, `verdict` the one on the case.
+-- `CleanupRow number body end verdict`: the row `number` of the table of cleanups fits if the body
+-- has the verdict `body` and the cleanup has the result `end`. It gives `verdict`, the verdict on
+-- the case.
 pub data CleanupRow : ℕ → Judged → CleanupEnd → Judged → Type 0 where
   bad_already : (body : Judged) (end : CleanupEnd) → good body.kind ≡ false → CleanupRow 1 body end body
   cleaned_up : (body : Judged) → CleanupRow 2 body (cleanup.Ended (Exited 0)) body
@@ -114,22 +119,26 @@ pub data CleanupRow : ℕ → Judged → CleanupEnd → Judged → Type 0 where
   cleanup_failed : (body : Judged) (ending : Outcome) → CleanupRow 4 body (cleanup.Ended ending) (verdict.broken (codes "Test case cleanup did not terminate successfully"))
   cleanup_not_started : (body : Judged) → CleanupRow 5 body cleanup.Refused (verdict.broken (codes "Test case cleanup could not be started"))
 
--- `FirstOf Row verdict`: the first row that fits gives this verdict.
+-- `FirstOf Row verdict`: `Row number verdict` holds for the least `number` of a row that fits, so
+-- the first such row gives `verdict`.
 pub record FirstOf (Row : ℕ → Judged → Type 0) (verdict : Judged) : Type 0 where
   pub number : ℕ
   pub fits : Row number verdict
   pub first : (m : ℕ) (other : Judged) → Row m other → number ≤ m
 
--- `IsVerdict evidence outcome verdict`: the verdict on a body, by the table of its interface.
+-- `IsVerdict evidence outcome verdict`: `verdict` is the verdict on a body with this `evidence` and
+-- `outcome`, by the table for ATF, TAP or plain programs.
 abbrev pub IsVerdict : Evidence → Outcome → Judged → Type 0
 IsVerdict (evidence.Atf claim) ending verdict = FirstOf (λ n v. AtfRow n claim ending v) verdict
 IsVerdict (evidence.Tap tap) ending verdict = FirstOf (λ n v. TapRow n tap ending v) verdict
 IsVerdict evidence.Plain ending verdict = FirstOf (λ n v. PlainRow n ending v) verdict
 
--- `IsVerdictOfRefusal refused verdict`: the verdict on a case whose start was refused.
+-- `IsVerdictOfRefusal refused verdict`: `verdict` is the verdict on a case whose start failed with
+-- the error `refused`.
 abbrev pub IsVerdictOfRefusal : Refused → Judged → Type 0
 IsVerdictOfRefusal refused verdict = FirstOf (λ n v. RefusalRow n refused v) verdict
 
--- `IsVerdictAfter body end verdict`: the verdict on a case after its cleanup.
+-- `IsVerdictAfter body end verdict`: `verdict` is the verdict on a case if the body has the verdict
+-- `body` and the cleanup has the result `end`.
 abbrev pub IsVerdictAfter : Judged → CleanupEnd → Judged → Type 0
 IsVerdictAfter body end verdict = FirstOf (λ n v. CleanupRow n body end v) verdict

@@ -4,7 +4,7 @@ ghost use Rattle.kt_status.specs.Common.{ending_text, phrase_text, broken, claim
 use kt_base::{Outcome, Phrase, Reason, Verdict};
 use kt_claim::{Claim, ClaimFault};
 
-/// Returns the phrase for an error in a result file.
+/// Returns the message for the error `fault` in a result file, the reason of a `broken` verdict.
 fn fault_phrase(fault: ClaimFault) -> Phrase
     ensures { phrase_text result ≡ codes "Invalid result file: " ++ claim_fault_text fault }
 {
@@ -20,14 +20,18 @@ fn fault_phrase(fault: ClaimFault) -> Phrase
     }
 }
 
-/// Returns the verdict on a case whose outcome contradicts its claim.
+/// Returns the `broken` verdict on a case whose result file is missing or contradicts `ending`.
+///
+/// The reason is `phrase`, followed by the exit status or the signal.
 fn contradicted(phrase: Phrase, ending: Outcome) -> Verdict
     ensures { result ≡ broken (phrase_text phrase ++ ending_text ending) }
 {
     Verdict::broken(Reason::Ended(phrase, ending))
 }
 
-/// Returns the verdict on an ATF case, by the first row of the ATF table that fits (this profile).
+/// Returns the verdict on the body of an ATF case, by its result file and outcome (this profile).
+///
+/// The first matching row of the ATF table decides. The call doesn't allocate.
 pub fn atf_verdict(claim: Claim, ending: Outcome) -> Verdict
     ensures { result ≡ atf_verdict claim ending }
 {

@@ -4,7 +4,9 @@ ghost use Rattle.kt_status.specs.Common.{Judged, IsVerdictAfter, cleaned};
 use crate::CleanupEnd;
 use kt_base::{Outcome, Phrase, Reason, Verdict};
 
-/// Returns the verdict on a case whose body has the good verdict `body`, after its cleanup.
+/// Returns the verdict on a case after its cleanup, if `body`, the verdict on its body, is good.
+///
+/// The verdict is `body` if the cleanup exited with 0, otherwise `broken`.
 fn cleaned(body: Verdict, end: CleanupEnd) -> Verdict
     ensures { result ≡ cleaned body end }
 {
@@ -19,7 +21,8 @@ fn cleaned(body: Verdict, end: CleanupEnd) -> Verdict
 
 /// Returns the verdict on a case after its cleanup, given the verdict on its body (this profile).
 ///
-/// A bad verdict is kept: failed or broken. The call doesn't allocate.
+/// The verdict is `body` if `body` is failed or broken, or if the cleanup exited with 0. Otherwise
+/// it is broken. The call doesn't allocate.
 pub fn with_cleanup(body: Verdict, end: CleanupEnd) -> Verdict
     ensures row { IsVerdictAfter body end result }
     ensures only { (verdict : Judged) → IsVerdictAfter body end verdict → result ≡ verdict }

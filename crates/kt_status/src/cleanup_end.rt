@@ -1,6 +1,6 @@
 use kt_base::Outcome;
 
-/// The outcome of a declared cleanup.
+/// A result of the cleanup that a test case declares: a failed start, or an outcome.
 #[derive(Clone, Copy)]
 pub enum CleanupEnd {
     /// The cleanup could not be started.

@@ -7,6 +7,8 @@ use kt_base::{Outcome, Phrase, Reason, Refused, Verdict};
 use kt_claim::Evidence;
 
 /// Returns the verdict on the case of a plain program, by its outcome (this profile).
+///
+/// The case passed if the program exited with 0. The call doesn't allocate.
 pub fn plain_verdict(ending: Outcome) -> Verdict
     ensures { result ≡ plain_verdict ending }
 {
@@ -23,8 +25,10 @@ pub fn plain_verdict(ending: Outcome) -> Verdict
     }
 }
 
-/// Returns the verdict on a body, by its evidence and its outcome (this profile). The call doesn't
-/// allocate.
+/// Returns the verdict on the body of a test case, by its evidence and its outcome (this profile).
+///
+/// The kind of the evidence selects the rules: those for ATF, TAP or plain programs. The call
+/// doesn't allocate.
 pub fn body_verdict(evidence: Evidence, ending: Outcome) -> Verdict
     ensures row { IsVerdict evidence ending result }
     ensures only { (verdict : Judged) → IsVerdict evidence ending verdict → result ≡ verdict }
@@ -36,8 +40,10 @@ pub fn body_verdict(evidence: Evidence, ending: Outcome) -> Verdict
     }
 }
 
-/// Returns the verdict on a case whose body, or the list of its program, could not be started (this
-/// profile). The call doesn't allocate.
+/// Returns the `broken` verdict on a case whose start failed with the error `refused`.
+///
+/// The start is that of the body, or of the program for its list (this profile). The call doesn't
+/// allocate.
 pub fn refused_verdict(refused: Refused) -> Verdict
     ensures row { IsVerdictOfRefusal refused result }
     ensures only { (verdict : Judged) → IsVerdictOfRefusal refused verdict → result ≡ verdict }

@@ -1,5 +1,5 @@
--- The verdict tables as functions. Each line of a definition is a row, and a row fits if no earlier
--- row does.
+-- The verdict tables as functions. Each line of a definition is a row, and the first row that fits
+-- decides.
 use Rattle.std.specs.Prelude.{ℕ, Bool, false, List, ◌++◌, codes, if◌then◌else◌, nat_eq, nat_lt, Option, Some, None}
 use Rattle.std.specs.Fmt.{decimal}
 use Rattle.kt_base.specs.declared.child.Outcome.{Outcome}
@@ -18,27 +18,29 @@ use Rattle.kt_status.specs.Tables.{claim_fault_text, tap_fault_text}
 use Rattle.kt_status.specs.declared.cleanup_end.CleanupEnd.{CleanupEnd}
 use Rattle.kt_status.specs.declared.cleanup_end.CleanupEnd.TheVariants as cleanup
 
--- `exits_with n ending`: the process exited with status `n`.
+-- `exits_with n ending`: a process with the outcome `ending` exited with status `n`.
 abbrev pub exits_with : ℕ → Outcome → Bool
 exits_with n (Exited code) = nat_eq code n
 exits_with n _ = false
 
--- `expected_exit due reason ending`: the verdict if an exit was expected, with status `due` or with
--- any.
+-- `expected_exit due reason ending`: the verdict if the result file claims an expected exit for
+-- `reason`, with the status `due` or with any status, and the outcome is `ending`.
 abbrev pub expected_exit : Option ℕ → List ℕ → Outcome → Judged
 expected_exit None reason (Exited _) = expected_failure reason
 expected_exit (Some due) reason (Exited code) =
     if nat_eq due code then expected_failure reason else failed (codes "Expected exit code " ++ decimal due ++ codes " but got " ++ decimal code)
 expected_exit _ _ ending = broken (codes "Expected clean exit but " ++ ending_text ending)
 
--- `expected_signal due reason ending`: the verdict if a signal was expected, `due` or any.
+-- `expected_signal due reason ending`: the verdict if the result file claims an expected signal for
+-- `reason`, the signal `due` or any signal, and the outcome is `ending`.
 abbrev pub expected_signal : Option ℕ → List ℕ → Outcome → Judged
 expected_signal None reason (Signaled _ _) = expected_failure reason
 expected_signal (Some due) reason (Signaled signal _) =
     if nat_eq due signal then expected_failure reason else failed (codes "Expected signal " ++ decimal due ++ codes " but got " ++ decimal signal)
 expected_signal _ _ ending = broken (codes "Expected signal but " ++ ending_text ending)
 
--- `atf_ended claim ending`: the verdict on an ATF case whose body exited or received a signal.
+-- `atf_ended claim ending`: the verdict on an ATF case with the claim `claim` whose body exited or
+-- received a signal. `ending` is the exit status or the signal.
 abbrev pub atf_ended : Claim → Outcome → Judged
 atf_ended Missing ending = broken (codes "Premature exit; test case " ++ ending_text ending)
 atf_ended Unreadable ending = broken (codes "Results file could not be read")
@@ -53,25 +55,27 @@ atf_ended (ExpectedExit due reason) ending = expected_exit due reason ending
 atf_ended (ExpectedSignal due reason) ending = expected_signal due reason ending
 atf_ended (ExpectedTimeout reason) ending = broken (codes "Expected timeout but " ++ ending_text ending)
 
--- `atf_late claim`: the verdict on an ATF case whose body timed out.
+-- `atf_late claim`: the verdict on an ATF case with the claim `claim` whose body timed out.
 abbrev pub atf_late : Claim → Judged
 atf_late (ExpectedTimeout reason) = expected_failure reason
 atf_late _ = broken (codes "Test case body timed out")
 
--- `atf_verdict claim ending`: the verdict on an ATF case.
+-- `atf_verdict claim ending`: the verdict on an ATF case with the claim `claim` whose body has the
+-- outcome `ending`.
 abbrev pub atf_verdict : Claim → Outcome → Judged
 atf_verdict claim WaitFailed = broken (codes "Test case could not be waited for")
 atf_verdict claim TimedOut = atf_late claim
 atf_verdict claim ending = atf_ended claim ending
 
--- `plain_verdict ending`: the verdict on a plain case.
+-- `plain_verdict ending`: the verdict on the case of a plain program with the outcome `ending`.
 abbrev pub plain_verdict : Outcome → Judged
 plain_verdict WaitFailed = broken (codes "Test case could not be waited for")
 plain_verdict TimedOut = broken (codes "Test case timed out")
 plain_verdict (Signaled signal _) = broken (codes "Received signal " ++ decimal signal)
 plain_verdict (Exited code) = if nat_eq code 0 then passed else failed (codes "Returned non-success exit status " ++ decimal code)
 
--- `tap_exited tap code`: the verdict on a TAP case whose program exited with status `code`.
+-- `tap_exited tap code`: the verdict on the case of a TAP program that printed the results `tap`
+-- and exited with status `code`.
 abbrev pub tap_exited : Tap → ℕ → Judged
 tap_exited BailedOut code = failed (codes "Bailed out")
 tap_exited (Invalid fault) code = broken (codes "TAP test program yielded invalid data: " ++ tap_fault_text fault)
@@ -81,30 +85,35 @@ tap_exited (Counted some all) code =
     else if nat_eq code 0 then passed
     else broken (codes "Dubious test program: reported all tests as passed but returned exit code " ++ decimal code)
 
--- `tap_verdict tap ending`: the verdict on a TAP case.
+-- `tap_verdict tap ending`: the verdict on the case of a TAP program that printed the results `tap`
+-- and has the outcome `ending`.
 abbrev pub tap_verdict : Tap → Outcome → Judged
 tap_verdict tap WaitFailed = broken (codes "Test case could not be waited for")
 tap_verdict tap TimedOut = broken (codes "Test case timed out")
 tap_verdict tap (Signaled signal _) = broken (codes "Received signal " ++ decimal signal)
 tap_verdict tap (Exited code) = tap_exited tap code
 
--- `verdict_of evidence ending`: the verdict on a body, by the table of its interface.
+-- `verdict_of evidence ending`: the verdict on a body with this `evidence` and the outcome
+-- `ending`, by the table for ATF, TAP or plain programs.
 abbrev pub verdict_of : Evidence → Outcome → Judged
 verdict_of (evidence.Atf claim) ending = atf_verdict claim ending
 verdict_of (evidence.Tap tap) ending = tap_verdict tap ending
 verdict_of evidence.Plain ending = plain_verdict ending
 
--- `verdict_of_refusal r`: the verdict on a case whose body or list could not be started.
+-- `verdict_of_refusal r`: the verdict on a case if its body, or the program for its list, failed to
+-- start with the error `r`.
 abbrev pub verdict_of_refusal : Refused → Judged
 verdict_of_refusal r = broken (reason_text (refused_reason r))
 
--- `cleaned body end`: the verdict on a case with the good verdict `body`, after its cleanup.
+-- `cleaned body end`: the verdict on a case whose body has the good verdict `body`, after a cleanup
+-- with the result `end`.
 abbrev pub cleaned : Judged → CleanupEnd → Judged
 cleaned body (cleanup.Ended (Exited code)) = if nat_eq code 0 then body else broken (codes "Test case cleanup did not terminate successfully")
 cleaned body (cleanup.Ended TimedOut) = broken (codes "Test case cleanup timed out")
 cleaned body (cleanup.Ended _) = broken (codes "Test case cleanup did not terminate successfully")
 cleaned body cleanup.Refused = broken (codes "Test case cleanup could not be started")
 
--- `verdict_after_cleanup body end`: the verdict on a case after its cleanup. A bad verdict is kept.
+-- `verdict_after_cleanup body end`: the verdict on a case whose body has the verdict `body`, after
+-- a cleanup with the result `end`. A bad verdict on the body is kept.
 abbrev pub verdict_after_cleanup : Judged → CleanupEnd → Judged
 verdict_after_cleanup body end = if good body.kind then cleaned body end else body
