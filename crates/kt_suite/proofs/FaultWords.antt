@@ -5,7 +5,7 @@ use Rattle.kt_script.specs.FaultWords.{script_words}
 use Rattle.kt_script.specs.declared.fault.ScriptFault.TheVariants as script
 use Rattle.kt_suite.specs.declared.cause.SuiteCause.TheVariants as cause
 
--- The message of a cause without a number is its fixed message.
+-- The message of each cause but `WrongSyntax` is its fixed message.
 pub fixed-cause : (c : SuiteCause) → ((n : ℕ) → c ≡ cause.WrongSyntax n → ⊥) → fixed_words c ≡ cause_words c
 fixed-cause (cause.WrongSyntax n) d = absurd (d n refl)
 fixed-cause c d = refl

@@ -24,7 +24,7 @@ module _ {T : Type 0} {asks : T → Asked → T → Type 0} where
       → Walked asks old new (MeaningGives r.reading at m) r (Err fault)
   step_stops (fails fault w) = w
 
-  -- A step to the next statement walks the whole statement.
+  -- A step to the next statement walks all marks of the statement.
   pub step_next : {old new : T} {r after : Registry} {at : Site} {m : Meaning} {step : LoadStep} → step ≡ Next after → Stepped asks old new r at m (Ok step)
       → Walked asks old new (MeaningGives r.reading at m) r (Ok after)
   step_next {old = old} {new = new} {r = r} {after = after} {at = at} {m = m} is s = gone_on (subst (λ (x : LoadStep). Stepped asks old new r at m (Ok x)) is s)
@@ -32,7 +32,7 @@ module _ {T : Type 0} {asks : T → Asked → T → Type 0} where
       gone_on : Stepped asks old new r at m (Ok (Next after)) → Walked asks old new (MeaningGives r.reading at m) r (Ok after)
       gone_on (goes _ w) = w
 
-  -- A step into a file, with the walk of the file, walks the whole statement.
+  -- A step into a file, and then the walk of the file, walk all marks of the statement.
   pub step_inner : {mid sub new : T} {r next : Registry} {at : Site} {m : Meaning} {path : List ℕ} {step : LoadStep} {result : Result Registry SuiteFault} → step ≡ Enter next path
       → Stepped asks mid sub r at m (Ok step) → Walked asks sub new (FileGives next.reading path) next result → Walked asks mid new (MeaningGives r.reading at m) r result
   step_inner {mid = mid} {sub = sub} {new = new} {r = r} {at = at} {m = m} {result = result} is s w = gone_in (subst (λ (x : LoadStep). Stepped asks mid sub r at m (Ok x)) is s) w

@@ -7,13 +7,14 @@ use Rattle.kt_suite.specs.declared.statement.Meaning.TheVariants as meaning
 use Rattle.kt_suite.proofs.Unfolding.{some_file, some_marks}
 use Rattle.kt_suite.proofs.Walking.{walked-as}
 
--- A fact that holds of a failed allocation and of another error holds of either.
+-- If `P` holds of a failed allocation and of the error `other`, `P` holds of an error that is
+-- either.
 pub blamed : (P : SuiteFault → Type 0) (other fault : SuiteFault) → (IsNoMemory fault → P fault) → P other → IsNoMemory fault ⊎ (fault ≡ other) → P fault
 blamed P other fault p q (inl n) = p n
 blamed P other fault p q (inr e) = subst P (sym e) q
 
 module _ {S : Type 0} (leads : S → Asked → S → Type 0) where
-  -- A missing program is rejected.
+  -- If no file is at the path of a program, `Adds` has the error `MissingProgram`.
   pub adds_missing : (old new : S) (at : Site) (r : Registry) (p : Program) (there : Bool) (fault : SuiteFault) → leads old (Exists p.path there) new → there ≡ false
       → IsNoMemory fault ⊎ (fault ≡ site_fault at MissingProgram) → Adds leads old new at r p (Err fault)
   adds_missing old new at r p there fault h e b =
@@ -22,7 +23,7 @@ module _ {S : Type 0} (leads : S → Asked → S → Type 0) where
       (short (Asks (Exists p.path false) ∷ []) (Fault (site_fault at MissingProgram) ∷ []) [] r fault (false, refl) (no_question _) (new, asked, refl) refl)
       (stops (Asks (Exists p.path false) ∷ []) [] (Fault (site_fault at MissingProgram)) r (site_fault at MissingProgram) (false, refl) (new, asked, refl) refl (is_fault (site_fault at MissingProgram))) b
 
-  -- A program that exceeds the limit is rejected.
+  -- If the limit of programs is reached, `Adds` has the error `TooMany`.
   pub adds_too_many : (old new : S) (at : Site) (r : Registry) (p : Program) (there : Bool) (fault : SuiteFault) → leads old (Exists p.path there) new → there ≡ true → program_limit ≤ length r.programs
       → IsNoMemory fault ⊎ (fault ≡ site_fault at TooMany) → Adds leads old new at r p (Err fault)
   adds_too_many old new at r p there fault h e n b =
@@ -43,7 +44,7 @@ module _ {S : Type 0} (leads : S → Asked → S → Type 0) where
   pub adds_unasked : (old : S) (at : Site) (r : Registry) (p : Program) (fault : SuiteFault) → IsNoMemory fault → Adds leads old old at r p (Err fault)
   adds_unasked old at r p fault n = short [] (Asks (Exists p.path true) ∷ Listed at p ∷ []) [] r fault (true, refl) (no_question _) refl refl n
 
--- An include is rejected with its cause.
+-- If the included file may not be entered, `Enters` has the error with this cause.
 pub enters_refused : (at : Site) (r : Registry) (path : List ℕ) (cause : SuiteCause) (fault : SuiteFault) → Some cause ≡ entry_fault r.reading path → IsNoMemory fault ⊎ (fault ≡ site_fault at cause) → Enters at r path (Err fault)
 enters_refused at r path cause fault e b = blamed (λ f. Enters at r path (Err f)) (site_fault at cause) fault (scant fault) (refuses cause (sym e)) b
 
@@ -91,7 +92,7 @@ module _ {S : Type 0} (leads : S → Asked → S → Type 0) where
   step_included old r at m name (Err fault) e ok err =
       subst (λ (x : Meaning). Stepped leads old old r at x (Err fault)) e (step_enter_at old r at name (Err fault) err)
 
-  -- The marks of a program are the marks of its statement.
+  -- A walk of a program's marks is a walk of the marks of its statement.
   walk_program : (old new : S) (r : Registry) (at : Site) (interface : Interface) (name own : List ℕ) (props : List Variable) (result : Result Registry SuiteFault)
       → Adds leads old new at r (record { interface = interface; path = beside at.file name; suite = own; props = props }) result
       → Walked leads old new (MeaningGives r.reading at (meaning.Program interface name own props)) r result

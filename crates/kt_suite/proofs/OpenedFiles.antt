@@ -11,7 +11,7 @@ module _ {T : Type 0} (asks : T → Asked → T → Type 0) where
       (record { parts = Says (Asks (Read file (Err Missing))) ∷ Says (Fault (read_fault file Missing)) ∷ []; says = unread Missing; unfolds = some_file (r.reading ++ file ∷ []) file })
       (thrown_away (Read file answer) (Read file (Err Missing)) (Fault (read_fault file Missing) ∷ []) refl) (new, h, refl) refl n
 
-  -- A file that was not opened has an error.
+  -- The error of a file that was not opened is the error of the file's walk.
   pub unopened_file : (old new : T) (r : Registry) (file : List ℕ) (fault : SuiteFault) → Opened asks old new file (Err fault) → Walked asks old new (FileGives r.reading file) r (Err fault)
   unopened_file old new r file _ (declines answer fault h s) =
       stops (Asks (Read file answer) ∷ []) [] (Fault fault) r fault (record { parts = _; says = s; unfolds = says _ _ _ _ (says _ _ _ _ (end _)) }) (new, h, refl) refl (is_fault fault)

@@ -50,7 +50,7 @@ nested [] (d ∷ other) (c ∷ path) e f = grind (arith, nat_tests, e, f)
 nested (o ∷ one) [] (c ∷ path) e f = grind (arith, nat_tests, e, f)
 nested (o ∷ one) (d ∷ other) (c ∷ path) e f = grind (arith, nat_tests, nested one other path, e, f)
 
--- `own_case case`: a name of a case that a filter with this case matches.
+-- `own_case case`: the name of a case that a filter with the case `case` matches.
 abbrev own_case : Option (List ℕ) → List ℕ
 own_case None = []
 own_case (Some own) = own

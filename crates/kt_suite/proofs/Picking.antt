@@ -8,12 +8,12 @@ is_unmatched_at items filters place = not (list_any (λ item. is_match filters i
 
 -- ---- filters by tests
 
--- A test that each element passes removes no element.
+-- A filter by a test that each element passes removes no element.
 pub kept_all : {A : Type 0} (test : A → Bool) → ((x : A) → test x ≡ true) → (xs : List A) → filter test xs ≡ xs
 kept_all test h [] = refl
 kept_all test h (x ∷ xs) = rw (h x) (ap (λ (ys : List _). x ∷ ys) (kept_all test h xs))
 
--- Two tests in turn are one test for both.
+-- Removing what passes either of two tests is removing what passes the first, then the second.
 pub kept_both : {A : Type 0} (first second : A → Bool) (xs : List A)
     → filter (λ x. not (first x || second x)) xs ≡ filter (λ x. not (second x)) (filter (λ x. not (first x)) xs)
 kept_both first second [] = refl
@@ -46,13 +46,13 @@ unmatched_from items all n (f ∷ rest) at =
     let later = unmatched_from items all (n + 1) rest (λ k. ap (λ (p : ℕ). slice_get all p) (next_place n k) ∙ at (suc k)) in
     rw (here, later) refl
 
--- All items leave the filters that match no item.
+-- The filters that no item of `items` matches by position are the unmatched filters.
 pub unmatched_of_all : (items : List Item) (filters : List Filter) (all : List ℕ) → all ≡ all_places filters → filter (is_unmatched_at items filters) all ≡ unmatched_places items filters
 unmatched_of_all items filters all e =
     ap (λ (ps : List ℕ). filter (is_unmatched_at items filters) ps) e
     ∙ unmatched_from items filters 0 filters (λ k. ap (λ (p : ℕ). slice_get filters p) (let z : 0 + k ≡ k = omega arith in z))
 
--- Removing the matches of one item and then of the others is removing the matches of all items.
+-- Removing the matches of one item, then of the items after it, removes the matches of all items.
 pub unmatched_after : (items : List Item) (filters : List Filter) (item : Item) (after : List Item) (unmatched left wanted : List ℕ) → items ≡ item ∷ after
     → left ≡ filter (is_miss filters item) unmatched → filter (is_unmatched_at items filters) unmatched ≡ wanted → filter (is_unmatched_at after filters) left ≡ wanted
 unmatched_after items filters item after unmatched left wanted e l w =

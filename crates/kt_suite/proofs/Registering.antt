@@ -4,7 +4,8 @@ use Rattle.kt_suite.proofs.Common.{append-nil, SuiteFault, Program, Registry, As
 use Rattle.kt_suite.proofs.Counting.{totals}
 use Rattle.kt_suite.proofs.Unfolding.{unfolds_to}
 
--- `root_counted`: the registry before the root is read.
+-- `root_counted`: the registry before the root is read: no file is open, and only the root is
+-- counted.
 abbrev pub root_counted : Registry
 root_counted = record { reading = []; files = 1; programs = [] }
 
@@ -23,7 +24,7 @@ undecided root after marks c =
     let little = t.few_programs (omega arith) in
     record { faultless = t.faultless; files = omega (arith, t.files, few); programs = omega (arith, ap (λ (ps : List Program). length ps) t.programs, little) }
 
--- `answered result`: the result for the tree, by the result of its root.
+-- `answered result`: the programs of the registry `result`, or its error.
 abbrev pub answered : Result Registry SuiteFault → Outcome
 answered (Ok r) = Ok r.programs
 answered (Err fault) = Err fault

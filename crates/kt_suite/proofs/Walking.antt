@@ -16,7 +16,7 @@ module _ {S : Type 0} {leads : S → Asked → S → Type 0} where
       short (a ++ front) back more last fault (subst B (sym (append_assoc a front back)) (both a (front ++ back) g h)) l
       (chain_then leads a front more old mid new c d) (counted-append r s last a front k n) m
 
-  -- A walk of marks with one description is a walk of marks with each weaker description.
+  -- A walk of marks for which `G` holds is a walk of marks for which a weaker `B` holds.
   pub walked-as : {old new : S} {G B : List Mark → Type 0} {r : Registry} {result : Result Registry SuiteFault} → Walked leads old new G r result
       → ((a : List Mark) → G a → B a) → Walked leads old new B r result
   walked-as (through marks after g c k) as_b = through marks after (as_b marks g) c k

@@ -8,7 +8,7 @@ use Rattle.kt_suite.specs.declared.call.Call.TheVariants as call
 use Rattle.kt_suite.specs.declared.table.Key.{Key}
 use Rattle.kt_suite.specs.declared.table.Key.TheVariants as key
 
--- `calls`: the kinds of calls with their names.
+-- `calls`: the names of the calls of a Kyuafile, each with its kind.
 abbrev pub calls : List (List ℕ × Call)
 calls =
     (codes "syntax", call.Syntax)
@@ -18,7 +18,7 @@ calls =
     ∷ (codes "tap_test_program", call.Program Tap)
     ∷ (codes "plain_test_program", call.Program Plain) ∷ []
 
--- `call_named name`: the kind of the call `name`.
+-- `call_named name`: the kind of a call of `name`, or `Unknown` for any other name.
 abbrev pub call_named : List ℕ → Call
 call_named name = unwrap_or (named calls name) call.Unknown
 

@@ -5,7 +5,7 @@ use Rattle.kt_suite.specs.Types.{Filter, FilterFault}
 use Rattle.kt_suite.specs.declared.filter.FilterFault.TheVariants.{Repeated, NotDisjoint}
 use Rattle.kt_suite.specs.Matching.{is_within, matches}
 
--- `is_same_filter filter other`: the filters are equal.
+-- `is_same_filter filter other`: `filter` and `other` are equal, part by part.
 abbrev pub is_same_filter : Filter → Filter → Bool
 is_same_filter filter other = bytes_eq filter.program other.program && option_eq bytes_eq filter.case_name other.case_name
 
@@ -27,13 +27,13 @@ overlap filter other = covers filter other || covers other filter
 abbrev pub ShareCase : Filter → Filter → Type 0
 ShareCase filter other = (path case_name : List ℕ) × IsTrue (matches filter path case_name) × IsTrue (matches other path case_name)
 
--- `clash position filter earlier`: the error of `filter` at `position`, which overlaps with
--- `earlier`.
+-- `clash position filter earlier`: the error of `filter` at `position`, which overlaps with the
+-- filter `earlier`.
 abbrev pub clash : ℕ → Filter → Filter → FilterFault
 clash position filter earlier = if is_same_filter filter earlier then Repeated position else NotDisjoint position
 
--- `overlap_fault filters position`: the error of the filter at `position`, by the first earlier
--- filter that it overlaps with.
+-- `overlap_fault filters position`: the error of the filter at `position`, or `None` if it overlaps
+-- with no earlier filter. The first earlier filter that it overlaps with decides the error.
 abbrev pub overlap_fault : List Filter → ℕ → Option FilterFault
 overlap_fault filters position =
     option_and_then (λ filter. option_map (clash position filter) (find (overlap filter) (take position filters))) (slice_get filters position)

@@ -17,7 +17,7 @@ no_memory refusal = fault_at [] 0 (NoMemory refusal)
 abbrev pub IsNoMemory : SuiteFault → Type 0
 IsNoMemory fault = (refusal : Refusal) × (fault ≡ no_memory refusal)
 
--- `read_fault file why`: the error of `file`, which can't be read because of `why`.
+-- `read_fault file why`: the error of the Kyuafile `file` whose read failed with the error `why`.
 abbrev pub read_fault : List ℕ → ReadFault → SuiteFault
 read_fault file (Memory refusal) = no_memory refusal
 read_fault file why = fault_at file 0 Unreadable

@@ -6,7 +6,7 @@ use Rattle.kt_suite.specs.declared.filter.FilterFault.TheVariants.{NoMemory, Emp
 use Rattle.kt_base.specs.Characters.{is_slash}
 use Rattle.kt_base.specs.Texts.{is_empty, before, after}
 
--- `counts component`: `component` is neither empty nor `.`.
+-- `counts component`: `component` is neither empty nor `.`, so a plain path keeps it.
 abbrev pub counts : List ℕ → Bool
 counts component = not (is_empty component) && not (bytes_eq component (codes "."))
 
@@ -14,17 +14,17 @@ counts component = not (is_empty component) && not (bytes_eq component (codes ".
 abbrev pub components : List ℕ → List (List ℕ)
 components path = filter counts (slice_split is_slash path)
 
--- `plain_path path`: `path` without components that are empty or `.`.
+-- `plain_path path`: `path` without the components that are empty or `.`, joined with slashes (47).
 abbrev pub plain_path : List ℕ → List ℕ
 plain_path path = join_with_byte 47 (components path)
 
--- `case_fault case_name`: the error if there is a case and its name is empty.
+-- `case_fault case_name`: `EmptyCase` if `case_name` is an empty name, else `None`.
 abbrev pub case_fault : Option (List ℕ) → Option FilterFault
 case_fault None = None
 case_fault (Some name) = if is_empty name then Some EmptyCase else None
 
--- `parts_fault path case_name`: the first error in the path and the case of a filter, as they are
--- written.
+-- `parts_fault path case_name`: the first error in the parts of a filter's text, if any: an empty
+-- path, an absolute path, or an empty name of the case.
 abbrev pub parts_fault : List ℕ → Option (List ℕ) → Option FilterFault
 parts_fault [] case_name = Some Empty
 parts_fault (c ∷ path) case_name = if c == 47 then Some Absolute else case_fault case_name
@@ -33,17 +33,19 @@ parts_fault (c ∷ path) case_name = if c == 47 then Some Absolute else case_fau
 abbrev pub Meaning : Type 0
 Meaning = Result Filter FilterFault
 
--- `filter_of path case_name`: the filter of `path`, which may not be empty, and `case_name`.
+-- `filter_of path case_name`: the filter with the path `path` and the case `case_name`, or the
+-- error `Empty` if `path` is empty.
 abbrev pub filter_of : List ℕ → Option (List ℕ) → Meaning
 filter_of [] case_name = Err Empty
 filter_of (c ∷ path) case_name = Ok (record { program = c ∷ path; case_name = case_name })
 
--- `unless_wrong fault meaning`: `fault` if there is an error, else `meaning`.
+-- `unless_wrong fault meaning`: the error `fault` if there is one, else `meaning`.
 abbrev pub unless_wrong : Option FilterFault → Meaning → Meaning
 unless_wrong None meaning = meaning
 unless_wrong (Some fault) meaning = Err fault
 
--- `filter_meaning text`: the filter that `text` represents, or its first error.
+-- `filter_meaning text`: the filter that `text` represents, or its first error. The first colon
+-- (58) separates the path from the case.
 abbrev pub filter_meaning : List ℕ → Meaning
 filter_meaning text =
     unless_wrong (parts_fault (before 58 text) (after 58 text)) (filter_of (plain_path (before 58 text)) (after 58 text))

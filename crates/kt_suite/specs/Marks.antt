@@ -30,19 +30,20 @@ pub data Mark : Type 0 where
   Listed : Site → Program → Mark
   Fault : SuiteFault → Mark
 
--- `Part`: a part of one file's events: a mark, or an include of the file at this path.
+-- `Part`: a part of the events of one file: a mark, or a statement that includes the file at this
+-- path.
 pub data Part : Type 0 where
   Says : Mark → Part
   Includes : Site → List ℕ → Part
 
--- `looked_up at program there`: the mark of a program that a statement registers; `there`: a file
--- is at its path.
+-- `looked_up at program there`: the mark of looking for `program`, which the statement at `at`
+-- registers. `there` is true if a file is at its path.
 abbrev pub looked_up : Site → Program → Bool → Mark
 looked_up at program true = Listed at program
 looked_up at program false = Fault (site_fault at MissingProgram)
 
--- `said at there meaning`: the parts of a statement with this meaning; `there`: a file is at the
--- path of its program.
+-- `said at there meaning`: the parts of a statement at `at` with the meaning `meaning`. `there` is
+-- true if a file is at the path of its program.
 abbrev pub said : Site → Bool → Meaning → List Part
 said at there (meaning.Wrong cause) = Says (Fault (site_fault at cause)) ∷ []
 said at there (meaning.Suite name) = []
@@ -66,7 +67,7 @@ pub data StatementsSay (file : List ℕ) : Option (List ℕ) → List Stmt → L
       → StatementsSay file suite (stmt ∷ rest)
       (said (record { file = file; line = stmt.line }) there (meaning_of suite stmt.action) ++ parts)
 
--- `FileSays file parts`: `file` has the parts `parts`, for some result of reading it.
+-- `FileSays file parts`: reading `file` has the parts `parts`, for some result of the read.
 pub data FileSays (file : List ℕ) : List Part → Type 0 where
   unread : (why : ReadFault)
       → FileSays file (Says (Asks (Read file (Err why))) ∷ Says (Fault (read_fault file why)) ∷ [])
@@ -81,15 +82,15 @@ pub data FileSays (file : List ℕ) : List Part → Type 0 where
       → Spells text (first ∷ rest) → opening_fault first.action ≡ None → StatementsSay file None rest parts
       → FileSays file (Says (Asks (Read file (Ok text))) ∷ parts)
 
--- `entry_fault files path`: the cause of the error if `path` is included while `files` are open: it
--- is one of them, or they are 32.
+-- `entry_fault files path`: the cause of the error if `path` is included while `files` are open.
+-- There is an error if `path` is one of `files`, or if `files` are 32.
 abbrev pub entry_fault : List (List ℕ) → List ℕ → Option SuiteCause
 entry_fault files path =
     if list_any (bytes_eq path) files then Some IncludeLoop
     else if nat_le depth_limit (length files) then Some TooDeep else None
 
--- `Unfolds files parts marks`: `marks` are `parts` while `files` are open, with each include
--- replaced by its error, or by a file and its marks.
+-- `Unfolds files parts marks`: `marks` are the marks of `parts` while `files` are open. Each
+-- include is replaced by its error, or by the mark of a file and the marks of this file.
 pub data Unfolds : List (List ℕ) → List Part → List Mark → Type 0 where
   end : (files : List (List ℕ)) → Unfolds files [] []
   says : (files : List (List ℕ)) (mark : Mark) (parts : List Part) (marks : List Mark)

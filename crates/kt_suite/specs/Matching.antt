@@ -9,8 +9,8 @@ is_within [] (c ∷ path) = c == 47
 is_within (d ∷ directory) [] = false
 is_within (d ∷ directory) (c ∷ path) = d == c && is_within directory path
 
--- `IsWithin directory path`: `path` is `directory`, or begins with `directory` and a slash, as a
--- fact.
+-- `IsWithin directory path`: `path` is `directory`, or begins with `directory` and a slash (47),
+-- stated without a computation.
 abbrev pub IsWithin : List ℕ → List ℕ → Type 0
 IsWithin directory path = (path ≡ directory) ⊎ ((rest : List ℕ) × (path ≡ directory ++ 47 ∷ rest))
 

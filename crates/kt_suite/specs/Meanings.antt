@@ -16,38 +16,41 @@ use Rattle.kt_suite.specs.Tables.{declared}
 use Rattle.kt_suite.specs.Paths.{has_directory, leads_down}
 use Rattle.kt_base.specs.Texts.{is_empty}
 
--- `version_fault arg`: the cause of the error in the argument `arg` of `syntax`.
+-- `version_fault arg`: the cause of the error if `arg` is the argument of `syntax`, or `None` for
+-- 2.
 abbrev pub version_fault : Arg → Option SuiteCause
 version_fault (Value (Number n)) = if n == 2 then None else Some (WrongSyntax n)
 version_fault other = Some BadValue
 
--- `first_call_fault call arg`: the cause of the error if a file begins with `call`.
+-- `first_call_fault call arg`: the cause of the error if a file begins with a call of the kind
+-- `call` with the argument `arg`, if any.
 abbrev pub first_call_fault : CallKind → Arg → Option SuiteCause
 first_call_fault call.Syntax arg = version_fault arg
 first_call_fault other arg = Some NoSyntax
 
--- `opening_fault action`: the cause of the error if a file begins with `action`; `syntax(2)` has
--- none.
+-- `opening_fault action`: the cause of the error if a file begins with `action`, or `None` for
+-- `syntax(2)`.
 abbrev pub opening_fault : Action → Option SuiteCause
 opening_fault (Call name arg) = first_call_fault (call_named name) arg
 opening_fault (Assign parts value) = Some NoSyntax
 
--- `suite_meaning arg`: the meaning of `test_suite` with the argument `arg`, whose text may not be
--- empty.
+-- `suite_meaning arg`: the meaning of `test_suite` with the argument `arg`, which must be a value
+-- whose text is not empty.
 abbrev pub suite_meaning : Arg → Meaning
 suite_meaning (Value v) = if is_empty (text_of v) then meaning.Wrong BadValue else meaning.Suite (text_of v)
 suite_meaning (Table pairs) = meaning.Wrong BadValue
 
--- `suited interface name file own props`: the meaning of a program with its own test suite, or else
--- the test suite of the file.
+-- `suited interface name file own props`: the meaning of the program `name` with the properties
+-- `props`. Its test suite is `own`, or else the test suite `file` of the file.
 abbrev pub suited : Interface → List ℕ → Option (List ℕ) → Option (List ℕ) → List Variable → Meaning
 suited interface name file (Some own) props =
     if is_empty own then meaning.Wrong BadValue else meaning.Program interface name own props
 suited interface name (Some suite) None props = meaning.Program interface name suite props
 suited interface name None None props = meaning.Wrong NoSuite
 
--- `named interface file own props name`: the meaning of a program, whose name may not be missing,
--- empty or lead out of its directory.
+-- `named interface file own props name`: the meaning of the program `name` with the properties
+-- `props` and the test suite `own`, or else `file`. The name may not be missing, empty or lead out
+-- of its directory.
 abbrev pub named : Interface → Option (List ℕ) → Option (List ℕ) → List Variable → Option (List ℕ) → Meaning
 named interface file own props None = meaning.Wrong BadValue
 named interface file own props (Some name) =
@@ -55,32 +58,34 @@ named interface file own props (Some name) =
     else if has_directory name then meaning.Wrong PathHasDirectory
     else suited interface name file own props
 
--- `declared_meaning interface file table`: the meaning of a program by the declarations of its
--- table.
+-- `declared_meaning interface file table`: the meaning of a program with the declarations `table`,
+-- or the cause of the table's error. `file` is the test suite of the file, if any.
 abbrev pub declared_meaning : Interface → Option (List ℕ) → Result ProgramTable SuiteCause → Meaning
 declared_meaning interface file (Err cause) = meaning.Wrong cause
 declared_meaning interface file (Ok table) = named interface file table.suite table.props table.name
 
--- `program_meaning interface file arg`: the meaning of a program's call with the argument `arg`.
+-- `program_meaning interface file arg`: the meaning of a call that registers a program, with the
+-- argument `arg`. `file` is the test suite of the file, if any.
 abbrev pub program_meaning : Interface → Option (List ℕ) → Arg → Meaning
 program_meaning interface file (Value v) = meaning.Wrong BadValue
 program_meaning interface file (Table pairs) = declared_meaning interface file (declared pairs)
 
--- `include_meaning arg`: the meaning of `include` with the argument `arg`.
+-- `include_meaning arg`: the meaning of `include` with the argument `arg`, which must be a value
+-- whose text leads down.
 abbrev pub include_meaning : Arg → Meaning
 include_meaning (Value v) = if leads_down (text_of v) then meaning.Include (text_of v) else meaning.Wrong BadInclude
 include_meaning (Table pairs) = meaning.Wrong BadInclude
 
--- `call_meaning file call arg`: the meaning of a call after the first statement; `file` is the test
--- suite so far.
+-- `call_meaning file call arg`: the meaning of a call of the kind `call` after the first statement,
+-- with the argument `arg`. `file` is the test suite so far.
 abbrev pub call_meaning : Option (List ℕ) → CallKind → Arg → Meaning
 call_meaning file call.TestSuite arg = suite_meaning arg
 call_meaning file call.Include arg = include_meaning arg
 call_meaning file (call.Program interface) arg = program_meaning interface file arg
 call_meaning file other arg = meaning.Wrong UnknownCall
 
--- `meaning_of file action`: the meaning of a statement after the first; `file` is the test suite so
--- far.
+-- `meaning_of file action`: the meaning of the statement `action` after the first statement. `file`
+-- is the test suite so far.
 abbrev pub meaning_of : Option (List ℕ) → Action → Meaning
 meaning_of file (Call name arg) = call_meaning file (call_named name) arg
 meaning_of file (Assign parts value) = meaning.Wrong UnknownCall

@@ -5,7 +5,7 @@ use Rattle.kt_suite.specs.Answers.{Asked, SameQuestion}
 use Rattle.kt_suite.specs.Faults.{IsNoMemory}
 use Rattle.kt_suite.specs.Marks.{Site, site_fault, Mark, Asks, File, Listed, Fault, TreeGives}
 
--- `file_limit`: the maximum number of files that are read.
+-- `file_limit`: the maximum number of Kyuafiles that are read for a tree.
 abbrev pub file_limit : ℕ
 file_limit = 10000
 
@@ -13,11 +13,11 @@ file_limit = 10000
 abbrev pub program_limit : ℕ
 program_limit = 10000
 
--- `Outcome`: the programs of a tree in order, or its first error.
+-- `Outcome`: the result of loading a tree: its programs in order, or its first error.
 abbrev pub Outcome : Type 0
 Outcome = Result (List Program) SuiteFault
 
--- `questions_in marks`: the calls among `marks`.
+-- `questions_in marks`: the calls of the tree among `marks`, in order.
 abbrev pub questions_in : List Mark → List Asked
 questions_in [] = []
 questions_in (Asks question ∷ marks) = question ∷ questions_in marks
@@ -29,13 +29,13 @@ files_in [] = 0
 files_in (File at ∷ marks) = 1 + files_in marks
 files_in (other ∷ marks) = files_in marks
 
--- `programs_in marks`: the programs among `marks`.
+-- `programs_in marks`: the registered programs among `marks`, in order.
 abbrev pub programs_in : List Mark → List Program
 programs_in [] = []
 programs_in (Listed at program ∷ marks) = program ∷ programs_in marks
 programs_in (other ∷ marks) = programs_in marks
 
--- `faults_in marks`: the errors among `marks`.
+-- `faults_in marks`: the errors among `marks`, in order.
 abbrev pub faults_in : List Mark → List SuiteFault
 faults_in [] = []
 faults_in (Fault fault ∷ marks) = fault ∷ faults_in marks
@@ -48,16 +48,16 @@ pub record IsUndecided (marks : List Mark) : Type 0 where
   pub files : files_in marks ≤ file_limit
   pub programs : length (programs_in marks) ≤ program_limit
 
--- `Decides files programs mark fault`: after this number of files and programs, `mark` decides that
--- the result is `fault`.
+-- `Decides files programs mark fault`: `mark` ends the reading with the error `fault`, after
+-- `files` files and `programs` programs.
 pub data Decides (files programs : ℕ) : Mark → SuiteFault → Type 0 where
   is_fault : (fault : SuiteFault) → Decides files programs (Fault fault) fault
   file_too_many : (at : Site) → file_limit ≤ files → Decides files programs (File at) (site_fault at TooMany)
   program_too_many : (at : Site) (program : Program) → program_limit ≤ programs
       → Decides files programs (Listed at program) (site_fault at TooMany)
 
--- `Registered asked root result`: the tree of `root` has the result `result`. `asked` are the calls
--- before the mark that decides, or all calls without such a mark.
+-- `Registered asked root result`: reading the tree with the root Kyuafile `root` has the result
+-- `result`. `asked` are the calls before the mark that decides, or all calls if no mark decides.
 pub data Registered (asked : List Asked) (root : List ℕ) : Outcome → Type 0 where
   all : (marks : List Mark) → TreeGives root marks → IsUndecided marks → asked ≡ questions_in marks
       → Registered asked root (Ok (programs_in marks))
@@ -66,14 +66,15 @@ pub data Registered (asked : List Asked) (root : List ℕ) : Outcome → Type 0 
       → Decides (files_in front) (length (programs_in front)) mark fault → asked ≡ questions_in front
       → Registered asked root (Err fault)
 
--- `IsNext marks asked`: `asked` has no call, or only the call that begins `marks`, with any result.
+-- `IsNext marks asked`: `asked` is empty, or only has the call that begins `marks`, with any
+-- result.
 pub data IsNext : List Mark → List Asked → Type 0 where
   no_question : (marks : List Mark) → IsNext marks []
   thrown_away : (question other : Asked) (marks : List Mark) → SameQuestion question other
       → IsNext (Asks other ∷ marks) (question ∷ [])
 
--- `Unfinished asked root outcome`: an allocation failed before a mark decided. `asked` is a prefix
--- of the calls, whose last call may have any result.
+-- `Unfinished asked root outcome`: `outcome` is the error of an allocation that failed before a
+-- mark decided. `asked` is a prefix of the calls for `root`, whose last call may have any result.
 pub record Unfinished (asked : List Asked) (root : List ℕ) (outcome : Outcome) : Type 0 where
   pub fault : SuiteFault
   pub no_memory : IsNoMemory fault

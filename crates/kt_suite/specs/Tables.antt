@@ -25,13 +25,12 @@ definitions (pair ∷ pairs) = definition pair ∷ definitions pairs
 abbrev pub is_property : Variable → Bool
 is_property pair = is_kyuafile_property pair.name
 
--- `value_cause fault`: the cause of the error in a table if the value of a property has the error
--- `fault`.
+-- `value_cause fault`: `BadValue` if `fault` is an error of a property, else `None`.
 abbrev pub value_cause : Option PropFault → Option SuiteCause
 value_cause None = None
 value_cause (Some fault) = Some BadValue
 
--- `key_fault key pair`: the cause of the error in `pair`, whose key is of the kind `key`.
+-- `key_fault key pair`: the cause of the error in `pair`, whose key is of the kind `key`, if any.
 abbrev pub key_fault : Key → Variable → Option SuiteCause
 key_fault key.Name pair = None
 key_fault key.TestSuite pair = None
@@ -42,12 +41,13 @@ key_fault key.Unknown pair = Some UnknownProperty
 abbrev pub pair_fault : Variable → Option SuiteCause
 pair_fault pair = key_fault (key_named pair.name) pair
 
--- `first_fault pairs`: the cause of the error in the first rejected pair.
+-- `first_fault pairs`: the cause of the error in the first rejected pair, if any.
 abbrev pub first_fault : List Variable → Option SuiteCause
 first_fault [] = None
 first_fault (pair ∷ pairs) = option_or (pair_fault pair) (first_fault pairs)
 
--- `table_of pairs`: the last name, the last test suite, and the last value of each property.
+-- `table_of pairs`: the table with the last name, the last test suite, and the last value of each
+-- property among `pairs`.
 abbrev pub table_of : List Variable → ProgramTable
 table_of pairs = record {
   name = value_of (codes "name") pairs;
@@ -55,12 +55,12 @@ table_of pairs = record {
   props = last_values (filter is_property pairs);
 }
 
--- `unless cause value`: `cause` if there is a cause, else `value`.
+-- `unless cause value`: the error `cause` if there is one, else `value`.
 abbrev pub unless : {T : Type 0} → Option SuiteCause → T → Result T SuiteCause
 unless None there = Ok there
 unless (Some cause) there = Err cause
 
--- `declared pairs`: the declarations of a table, or the cause of the error in its first rejected
+-- `declared pairs`: the table that `pairs` declare, or the cause of the error in the first rejected
 -- pair.
 abbrev pub declared : List Pair → Result ProgramTable SuiteCause
 declared pairs = unless (first_fault (definitions pairs)) (table_of (definitions pairs))

@@ -11,13 +11,13 @@ use kt_script::ScriptFault;
 use std::io::Write;
 use thiserror::Error;
 
-/// The text before the number of `WrongSyntax`.
+/// The text before the number in the message of `WrongSyntax`.
 const SYNTAX: &str = "syntax ";
 
-/// The text after the number of `WrongSyntax`.
+/// The text after the number in the message of `WrongSyntax`.
 const NOT_SUPPORTED: &str = " not supported";
 
-/// Causes of errors in a tree of Kyuafiles (kyuafile(5) and this profile).
+/// A cause of an error in a tree of Kyuafiles (kyuafile(5) and this profile).
 ///
 /// `Display` prints the message of the cause.
 #[derive(Clone, Copy, Debug, Error)]
@@ -35,14 +35,15 @@ pub enum SuiteCause {
     /// A key of a program's table is not `name`, `test_suite` or a property that a Kyuafile may
     /// set.
     UnknownProperty,
-    /// A call, a key or a property does not accept its value, or a program has no name.
+    /// A call, a key or a property does not accept its value, or a program has no name or an empty
+    /// name.
     BadValue,
-    /// Neither the program nor the file before it names a test suite.
+    /// Neither the program's table nor an earlier `test_suite` of the file names a test suite.
     NoSuite,
     /// The name of a program has a slash, or is `.` or `..`.
     PathHasDirectory,
-    /// The argument of `include` is not a relative path, or has a component that is empty, `.` or
-    /// `..`.
+    /// The argument of `include` is a table, is not a relative path, or has a component that is
+    /// empty, `.` or `..`.
     BadInclude,
     /// The included file is already open.
     IncludeLoop,
@@ -50,11 +51,11 @@ pub enum SuiteCause {
     TooDeep,
     /// No regular file is at the path of a program.
     MissingProgram,
-    /// A file could not be read.
+    /// A Kyuafile does not exist, or could not be read.
     Unreadable,
     /// The tree has more than 10,000 programs, or more than 10,000 files.
     TooMany,
-    /// A file is not a script.
+    /// A Kyuafile is not a script, for this reason.
     Script(ScriptFault),
 }
 

@@ -17,7 +17,7 @@ use thiserror::Error;
 pub enum FilterFault {
     /// An allocation failed.
     NoMemory(NoMemory),
-    /// The filter has no path of a program.
+    /// The filter has no path, or each component of its path is empty or `.`.
     Empty,
     /// The filter begins with a slash.
     Absolute,
@@ -62,15 +62,17 @@ pub struct Filter {
     ///
     /// After `parse`, no component is empty or `.`.
     pub program: Text,
-    /// The name of the case, if the filter matches one case of one program.
+    /// The name of the case, or `None` if the filter matches all cases of `program`.
     pub case_name: Option<Text>,
 }
 
 impl Filter {
     ghost use Rattle.kt_suite.specs.Common.{filter_meaning, Answers, matches, MayMatch};
 
-    /// Parses `text` as a filter, `PROGRAM` or `PROGRAM:CASE`, which is split at the first colon
-    /// (kyua(1)).
+    /// Parses `text` as a filter: `PROGRAM` or `PROGRAM:CASE` (kyua(1)).
+    ///
+    /// The case follows the first colon. The filter's path lacks the components of `PROGRAM` that
+    /// are empty or `.`.
     ///
     /// # Errors
     ///
@@ -117,7 +119,7 @@ impl Filter {
     }
 }
 
-/// Returns the error if the name of the case in a filter is empty.
+/// Returns `EmptyCase` if `case_name` is an empty name, or else `None`.
 fn case_fault(case_name: &Option<Text>) -> Option<FilterFault>
     ensures { result ≡ case_fault case_name.now }
 {
@@ -127,7 +129,9 @@ fn case_fault(case_name: &Option<Text>) -> Option<FilterFault>
     }
 }
 
-/// Returns the first error in the program path and the case name of a filter, as they are written.
+/// Returns the first error in the parts of a filter's text, `path` and `case_name`, if any.
+///
+/// The errors are an empty path, an absolute path, and an empty name of the case.
 fn parts_fault(path: &Text, case_name: &Option<Text>) -> Option<FilterFault>
     ensures { result ≡ parts_fault path.now case_name.now }
 {

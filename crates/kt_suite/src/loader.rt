@@ -9,11 +9,12 @@ use kt_base::{Items, NoMemory, Text};
 use kt_script::{ScriptFault, Stmt, parse};
 use std::alloc::Global;
 
-/// A state of the loader: the open files, the number of files, and the registered programs.
+/// A state of the loader: the open Kyuafiles, the number of Kyuafiles, and the registered programs.
 pub struct Registry {
-    /// The open files: the root first, then each file after the file that includes it.
+    /// The paths of the open Kyuafiles: the root first, then each file after the file that includes
+    /// it.
     pub reading: Items<Text>,
-    /// The number of files that were read or are read next, at most 10,000.
+    /// The number of Kyuafiles that were read or are read next, at most 10,000.
     pub files: usize,
     /// The registered programs in order, at most 10,000.
     pub programs: Items<Program>,
@@ -63,16 +64,16 @@ impl Registry {
     }
 }
 
-/// A next step of the loader, after a statement.
+/// A step that the loader takes after it executed a statement.
 #[derive(Drop)]
 pub enum LoadStep {
-    /// The next statement of the file.
+    /// Executes the next statement of the file.
     Next(Registry),
-    /// The file at this path, and then the next statement of the including file.
+    /// Reads the Kyuafile at this path, and then executes the next statement of the including file.
     Enter(Registry, Text),
 }
 
-/// Returns the error of a file that can't be read.
+/// Returns the error of `file`, whose read failed with the error `why`.
 fn unread(alloc: Global, file: &Text, why: ReadFault) -> SuiteFault
     ensures { IsNoMemory result ⊎ (result ≡ read_fault file.now why) }
 {
@@ -82,7 +83,7 @@ fn unread(alloc: Global, file: &Text, why: ReadFault) -> SuiteFault
     }
 }
 
-/// Returns the line of a script's error, or 0 if the error has no line.
+/// Returns the line of a script's error, from 1, or 0 if the error has no line.
 fn line_of(why: ScriptFault) -> u32
     ensures { result ≡ script_line why }
 {
@@ -93,7 +94,7 @@ fn line_of(why: ScriptFault) -> u32
     }
 }
 
-/// Returns the error of a file that is not a script.
+/// Returns the error of `file`, which is not a script because of the error `why`.
 fn unparsed(alloc: Global, file: &Text, why: ScriptFault) -> SuiteFault
     ensures { IsNoMemory result
         ⊎ (IsText why × (result ≡ fault_at file.now (script_line why) (Script why))) }
@@ -119,7 +120,12 @@ fn well_opened(alloc: Global, file: &Text, stmts: Items<Stmt>) -> Result<Items<S
 
 /// Reads a file, and returns its statements, which begin with `syntax(2)`.
 ///
-/// The bytes are dropped before a statement is executed.
+/// The bytes of the file are freed before the function returns.
+///
+/// # Errors
+///
+/// - [`SuiteFault`]: the file can't be read, is not a script, or does not begin with `syntax(2)`.
+/// - [`SuiteFault`] with the cause `NoMemory`: an allocation fails.
 pub fn open_file<T: Tree>(
     alloc: Global,
     tree: &mut T,
@@ -136,7 +142,7 @@ pub fn open_file<T: Tree>(
     }
 }
 
-/// Appends `file` to the open files, and returns the registry.
+/// Appends `file` to the open files of `registry`, and returns the registry.
 fn begin(registry: Registry, file: &Text) -> Result<Registry, NoMemory>
     ensures { IfOk result (λ next. next
         ≡ (record registry { reading = registry.reading ++ file.now ∷ [] })) }
@@ -146,9 +152,9 @@ fn begin(registry: Registry, file: &Text) -> Result<Registry, NoMemory>
     Ok(registry)
 }
 
-/// Reads a file and all files that it includes, at most 32 deep.
+/// Reads the Kyuafile `file` and all files that it includes, and registers their programs.
 ///
-/// The caller has counted the file.
+/// The caller has counted `file` in `registry`, and has checked that it is not open.
 fn read_file<T: Tree>(
     alloc: Global,
     tree: &mut T,
@@ -190,14 +196,14 @@ fn read_file<T: Tree>(
 /// Returns the programs that a tree of Kyuafiles registers, in the order of their statements
 /// (kyuafile(5)).
 ///
-/// `root` is the path of the root Kyuafile. The programs of an included file are in the position of
-/// the `include`. An included file begins without a test suite, and does not change the test suite
-/// of the including file. The limits are this profile's: at most 32 open files, the root included,
-/// 10,000 files and 10,000 programs.
+/// `root` is the path of the root Kyuafile. The programs of an included file take the position of
+/// the `include` statement. An included file begins without a test suite, and does not change the
+/// test suite of the including file. The limits are this profile's: at most 32 open files, the root
+/// included, 10,000 files and 10,000 programs.
 ///
 /// # Errors
 ///
-/// - [`SuiteFault`] with the first fault in the order of reading: [`SuiteCause`] has the condition
+/// - [`SuiteFault`] with the first error in the order of reading: [`SuiteCause`] has the condition
 ///   of each cause.
 /// - [`SuiteFault`] with the cause `NoMemory`: an allocation fails.
 pub fn load<T: Tree>(alloc: Global, tree: &mut T, root: &Text) -> Result<Items<Program>, SuiteFault>

@@ -5,6 +5,8 @@ use kt_base::{NoMemory, Text, has_slash};
 use std::alloc::Global;
 
 /// Splits `path` after its last slash.
+///
+/// The first part contains the slash. Without a slash, the first part is empty.
 fn split_after_slash(path: &str) -> (&str, &str)
     ensures directory { chars result.0.now ≡ directory_of (chars path.now) }
     ensures name { chars result.1.now ≡ name_in (chars path.now) }
@@ -15,7 +17,9 @@ fn split_after_slash(path: &str) -> (&str, &str)
     }
 }
 
-/// Returns the directory of `path`, with its last slash, and the name after it.
+/// Returns the part of `path` up to its last slash, with the slash, and the name after the slash.
+///
+/// The first part is empty if `path` has no slash.
 ///
 /// # Errors
 ///
@@ -31,7 +35,9 @@ pub fn split_path(alloc: Global, path: &Text) -> Result<(Text, Text), NoMemory>
     ))
 }
 
-/// Returns `path` up to its last slash, without the slash.
+/// Returns the part of `path` before its last slash.
+///
+/// The result is empty if `path` has no slash.
 fn parent(path: &str) -> &str
     ensures { chars result.now ≡ parent_of (chars path.now) }
 {
@@ -41,7 +47,7 @@ fn parent(path: &str) -> &str
     }
 }
 
-/// Returns the directory of `path`, without its last slash.
+/// Returns the part of `path` before its last slash.
 ///
 /// The result is empty for a path directly below `/`, and for a path without a slash.
 ///
@@ -55,6 +61,10 @@ pub fn parent_path(alloc: Global, path: &Text) -> Result<Text, NoMemory>
 }
 
 /// Returns the path of `name` in the directory of `file`.
+///
+/// # Errors
+///
+/// - `NoMemory`: an allocation fails.
 pub fn path_beside(alloc: Global, file: &Text, name: &Text) -> Result<Text, NoMemory>
     ensures { IfOk result (λ path. path ≡ beside file.now name.now) }
 {
@@ -72,7 +82,7 @@ pub fn leads_away(name: &Text) -> bool
     has_slash(name.as_str()) || name.is_word(".") || name.is_word("..")
 }
 
-/// Returns `true` if `part` is not empty, `.` or `..`.
+/// Returns `true` if `part` is neither empty, nor `.`, nor `..`.
 #[tactic(auto, unfolding(crate::proofs::Common::chars))]
 fn is_component(part: &Text) -> bool
     ensures { result ≡ is_component part.now }
@@ -81,6 +91,10 @@ fn is_component(part: &Text) -> bool
 }
 
 /// Returns `true` if `path` is a relative path without components that are empty, `.` or `..`.
+///
+/// # Errors
+///
+/// - `NoMemory`: an allocation fails.
 pub fn leads_down(path: &Text) -> Result<bool, NoMemory>
     ensures { IfOk result (λ down. down ≡ leads_down path.now) }
 {

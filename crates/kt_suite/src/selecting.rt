@@ -44,7 +44,7 @@ impl From<NoMemory> for SelectFault {
     }
 }
 
-/// A test case to select, by the path of its program and its name.
+/// A test case that filters may select: the path of its program, and its name.
 #[derive(Drop)]
 pub struct Item {
     /// The path of the program, relative to the directory of the root Kyuafile.
@@ -62,7 +62,7 @@ pub struct Selection {
     pub unmatched: Vec<usize>,
 }
 
-/// The maximum number of items.
+/// The maximum number of items that [`select`] accepts.
 const MOST_ITEMS: usize = 100_000;
 
 /// Returns `true` if `filter` matches `item`.
@@ -72,7 +72,7 @@ fn matches_item(item: &Item, filter: &Filter) -> bool
     filter.matches(&item.path, &item.case_name)
 }
 
-/// Returns the position of the first filter that matches `item`.
+/// Returns the position of the first filter that matches `item`, or `None` if no filter matches it.
 fn first_match(filters: &[Filter], item: &Item) -> Option<usize>
     ensures { result ≡ first_match filters.now item.now }
 {
@@ -116,7 +116,7 @@ fn drop_matches(unmatched: &mut Vec<usize>, filters: &[Filter], item: &Item, fir
 /// Returns `true` if `item` is selected, and removes the filters that match `item` from
 /// `unmatched`.
 ///
-/// A filter is compared at most once.
+/// Without filters, each item is selected. Each filter is compared with `item` at most once.
 fn compare_item(filters: &[Filter], item: &Item, unmatched: &mut Vec<usize>) -> bool
     ensures selected { result ≡ is_selected filters.now item.now }
     ensures unmatched { unmatched.new.items ≡ filter (is_miss filters.now item.now) unmatched.old.items }
@@ -130,7 +130,7 @@ fn compare_item(filters: &[Filter], item: &Item, unmatched: &mut Vec<usize>) -> 
     }
 }
 
-/// Returns the positions of all filters.
+/// Returns the positions of all filters, ascending, from 0.
 fn all_places(alloc: Global, filters: &[Filter]) -> Result<Vec<usize>, NoMemory>
     ensures { IfOk result (λ all. all.items ≡ all_places filters.now) }
 {
@@ -143,7 +143,9 @@ fn all_places(alloc: Global, filters: &[Filter]) -> Result<Vec<usize>, NoMemory>
     Ok(all)
 }
 
-/// Selects items in one pass; a filter is unmatched until an item matches it.
+/// Returns the positions of the selected items, and of the filters that match no item.
+///
+/// Reads `items` once. A filter is unmatched until an item matches it.
 #[tactic(auto, using(crate::proofs::Picking::unmatched_of_all))]
 fn compare_items(alloc: Global, items: &[Item], filters: &[Filter]) -> Result<Selection, NoMemory>
     ensures cases { IfOk result (λ s. s.cases.items ≡ selected_places items.now filters.now) }

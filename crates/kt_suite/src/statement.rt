@@ -10,22 +10,25 @@ use kt_metadata::Props;
 use kt_script::{Action, Arg, Literal};
 use std::alloc::Global;
 
-/// A meaning of a statement in a Kyuafile, which does not depend on the files of the tree.
+/// A meaning of a statement after the first statement of a Kyuafile: its effect, or its error.
+///
+/// The meaning does not depend on the files of the tree.
 #[derive(Drop)]
 pub enum Meaning {
     /// The test suite of the programs after the statement.
     Suite(Text),
-    /// The path of an included file, relative to the directory of the including file.
+    /// The path of the included file, relative to the directory of the including file.
     Include(Text),
-    /// A program: its interface, its name in the directory of the file, its test suite and its
-    /// properties.
+    /// A program to register: its interface, its name in the directory of the file, its test suite
+    /// and its properties.
     Program(Interface, Text, Text, Props),
     /// The cause of the error in the statement.
     Wrong(SuiteCause),
 }
 
-/// Returns the cause of the error if a file may not begin with this statement; `syntax(2)` has
-/// none.
+/// Returns the cause of the error if `action` is the first statement of a Kyuafile.
+///
+/// The result is `None` if `action` is `syntax(2)`.
 pub fn wrong_opening(action: &Action) -> Option<SuiteCause>
     ensures { result ≡ opening_fault action.now }
 {
@@ -40,7 +43,9 @@ pub fn wrong_opening(action: &Action) -> Option<SuiteCause>
     }
 }
 
-/// Returns the meaning of a call of `test_suite`.
+/// Returns the meaning of a call of `test_suite` with the argument `arg`.
+///
+/// The meaning is the error `BadValue` if `arg` is a table or has an empty text.
 fn read_suite(alloc: Global, arg: &Arg) -> Result<Meaning, NoMemory>
     ensures { IfOk result (λ found. found ≡ suite_meaning arg.now) }
 {
@@ -56,7 +61,10 @@ fn read_suite(alloc: Global, arg: &Arg) -> Result<Meaning, NoMemory>
     }
 }
 
-/// Returns the meaning of a call of `include`.
+/// Returns the meaning of a call of `include` with the argument `arg`.
+///
+/// The meaning is the error `BadInclude` if `arg` is a table, or if its text does not lead down. A
+/// path leads down if it is relative and no component is empty, `.` or `..`.
 fn read_include(alloc: Global, arg: &Arg) -> Result<Meaning, NoMemory>
     ensures { IfOk result (λ found. found ≡ include_meaning arg.now) }
 {
@@ -72,7 +80,13 @@ fn read_include(alloc: Global, arg: &Arg) -> Result<Meaning, NoMemory>
     }
 }
 
-/// Returns the meaning of a statement after the first, in a file whose test suite is `file`.
+/// Returns the meaning of a statement after the first statement of a Kyuafile.
+///
+/// `file` is the test suite that the statements before it set, if any.
+///
+/// # Errors
+///
+/// - `NoMemory`: an allocation fails.
 pub fn read_statement(
     alloc: Global,
     file: &Option<Text>,

@@ -13,10 +13,11 @@ use std::alloc::Global;
 /// The maximum number of programs that a tree may register.
 const PROGRAM_LIMIT: usize = 10_000;
 
-/// The maximum number of files that are read.
+/// The maximum number of Kyuafiles that a tree may have, where a file that is read twice counts
+/// twice.
 const FILE_LIMIT: usize = 10_000;
 
-/// The maximum number of files that are open at once, each included by the file before.
+/// The maximum number of Kyuafiles that are open at once, each included by the file before.
 const DEPTH_LIMIT: usize = 32;
 
 /// Returns `true` if `files` contains `path`.
@@ -27,6 +28,8 @@ fn is_among(files: &[Text], path: &Text) -> bool
 }
 
 /// Returns the cause of the error if the file at `path` may not be included while `files` are open.
+///
+/// The result is `None` if the file may be included.
 fn wrong_entry(files: &[Text], path: &Text) -> Option<SuiteCause>
     ensures { result ≡ entry_fault files.now path.now }
 {
@@ -39,7 +42,9 @@ fn wrong_entry(files: &[Text], path: &Text) -> Option<SuiteCause>
     }
 }
 
-/// Counts the file at `path` in the registry, or returns the error if the file may not be included.
+/// Counts the file at `path` in `registry`, or returns the error if the file may not be included.
+///
+/// The `include` is in line `line` of `file`.
 fn enter(
     alloc: Global,
     file: &Text,
@@ -60,7 +65,9 @@ fn enter(
     Ok(registry)
 }
 
-/// Returns the step into the file that an `include` names, or the error if it may not be included.
+/// Returns the step that reads the file `name`, or the error if this file may not be included.
+///
+/// The `include` is in line `line` of `file`.
 fn include(
     alloc: Global,
     file: &Text,
@@ -82,9 +89,10 @@ fn include(
     }
 }
 
-/// Registers a program whose path is still its name in the directory of `file`.
+/// Registers the program `named`, whose path is still its name in the directory of `file`.
 ///
-/// Fails if no regular file is at its path, or if 10,000 programs are registered.
+/// Fails if no regular file is at the path of the program, if 10,000 programs are already
+/// registered, or if an allocation fails.
 fn register<T: Tree>(
     alloc: Global,
     tree: &mut T,
@@ -117,7 +125,13 @@ fn register<T: Tree>(
 
 /// Executes a statement after the first of its file, and returns the next step.
 ///
-/// `suite` is the test suite of the programs after the statement.
+/// `suite` is the test suite of the next program, which the statement may set.
+///
+/// # Errors
+///
+/// - [`SuiteFault`] with the line of the statement: the statement is wrong, the included file may
+///   not be included, or its program can't be registered.
+/// - [`SuiteFault`] with the cause `NoMemory`: an allocation fails.
 pub fn step<T: Tree>(
     alloc: Global,
     tree: &mut T,

@@ -40,11 +40,12 @@ fn key_of(name: &Text) -> Key
     }
 }
 
-/// A table of a program: its name, its test suite and its properties, each if it is declared.
+/// A table of a program's call: the name, the test suite and the properties that it declares.
 pub struct ProgramTable {
-    /// The name of the program, which may be empty.
+    /// The name of the program, which may be empty, or `None` if the table has no key `name`.
     pub name: Option<Text>,
-    /// The test suite of the program, which may be empty.
+    /// The test suite of the program, which may be empty, or `None` if the table has no key
+    /// `test_suite`.
     pub suite: Option<Text>,
     /// The properties of the program.
     pub props: Props,
@@ -65,8 +66,9 @@ impl Drop for ProgramTable {
 impl ProgramTable {
     ghost use Rattle.kt_suite.specs.Meanings.{named};
 
-    /// Returns the program that the table declares, or its error, in a file whose test suite is
-    /// `file`.
+    /// Returns the meaning of the table: the program that it declares, or the cause of its error.
+    ///
+    /// `file` is the test suite of a program without its own test suite, if any.
     fn meaning(self, interface: Interface, file: &Option<Text>) -> Result<Meaning, NoMemory>
         ensures { IfOk result (λ meaning. meaning
             ≡ named interface file.now self.suite self.props self.name) }
@@ -94,7 +96,9 @@ impl ProgramTable {
     }
 }
 
-/// Sets the property `name` in a table, or returns the cause of the error.
+/// Returns the table `found` with the property `name` set to `value`.
+///
+/// The inner error is `BadValue`, if the property does not accept `value`.
 fn set_property(
     found: ProgramTable,
     name: &Text,
@@ -111,7 +115,9 @@ fn set_property(
     }
 }
 
-/// Adds a pair to a table, or returns the cause of the error in the pair.
+/// Returns the table `found` with the declaration of `pair`, or the cause of the error in `pair`.
+///
+/// The declaration replaces an earlier declaration of its key.
 fn take_pair(
     alloc: Global,
     found: ProgramTable,
@@ -154,7 +160,14 @@ fn read_table(alloc: Global, pairs: &[Pair]) -> Result<Result<ProgramTable, Suit
     Ok(Ok(found))
 }
 
-/// Returns the meaning of a call that registers a program, in a file whose test suite is `file`.
+/// Returns the meaning of a call that registers a program with the interface `interface`.
+///
+/// `arg` is the argument of the call. `file` is the test suite of a program without its own test
+/// suite, if any.
+///
+/// # Errors
+///
+/// - `NoMemory`: an allocation fails.
 pub fn read_program(
     alloc: Global,
     interface: Interface,

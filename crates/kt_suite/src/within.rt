@@ -27,7 +27,8 @@ fn ends_component(rest: &str) -> bool
 
 /// Returns `true` if `path` is `directory` or is below `directory`.
 ///
-/// The byte after the prefix is compared first, which rejects most other paths.
+/// The paths are compared as texts. The byte at the length of `directory` is compared first, since
+/// this rejects most paths.
 pub fn is_within(directory: &Text, path: &Text) -> bool
     ensures { result ≡ is_within directory.now path.now }
 {
@@ -59,14 +60,15 @@ fn overlap(filter: &Filter, other: &Filter) -> bool
     covers(filter, other) || covers(other, filter)
 }
 
-/// Returns the first of the filters `earlier` that overlaps with `filter`.
+/// Returns the first of the filters `earlier` that overlaps with `filter`, or `None` if no filter
+/// does.
 fn first_overlap<'a>(filter: &Filter, earlier: &'a [Filter]) -> Option<&'a Filter>
     ensures { option_copied result ≡ find (overlap filter.now) earlier.now }
 {
     earlier.iter().find(|other| overlap(filter, *other))
 }
 
-/// Returns the error if the filter at `position` overlaps with an earlier filter.
+/// Returns the error of the filter at `position`, or `None` if it overlaps with no earlier filter.
 fn overlap_fault(filters: &[Filter], position: usize) -> Option<FilterFault>
     ensures { result ≡ overlap_fault filters.now position }
 {
@@ -78,10 +80,10 @@ fn overlap_fault(filters: &[Filter], position: usize) -> Option<FilterFault>
     Some(FilterFault::NotDisjoint(position))
 }
 
-/// Checks that no case is matched by two filters.
+/// Checks that no two filters match the same case.
 ///
-/// The error is about the first filter that overlaps with an earlier filter: some case is matched
-/// by both. Allocates nothing.
+/// The error has the position of the first filter that overlaps with an earlier filter: both
+/// filters match some case. Allocates nothing.
 ///
 /// # Errors
 ///

@@ -1,4 +1,5 @@
--- Results of private functions, each a step of a larger walk.
+-- Results of private functions: the steps of reading a table, a path, a list of filters, and a
+-- file.
 use Rattle.std.specs.Prelude.{◌≡◌, ◌⊎◌, ℕ, Bool, true, false, not, Option, Result, Ok, Err, slice_get, List, [], ◌∷◌, ◌++◌, if◌then◌else◌}
 use Rattle.std.specs.List.{position}
 use Rattle.std.specs.Option.{option_map_or}
@@ -11,8 +12,8 @@ use Rattle.kt_suite.specs.Filters.{counts}
 use Rattle.kt_suite.specs.Selecting.{places, matches_item}
 use Rattle.kt_suite.specs.Tables.{value_cause, pair_fault, table_of, unless}
 
--- `props_with before pair`: the properties `before` with `pair` set, or the cause of the error in
--- `pair`.
+-- `props_with before pair`: the properties that the pairs `before` and then `pair` set, or the
+-- cause of the error in `pair`.
 abbrev pub props_with : List Variable → Variable → Result (List Variable) SuiteCause
 props_with before pair =
     unless (value_cause (definition_fault pair.name pair.value)) (last_values (before ++ pair ∷ []))
@@ -23,25 +24,27 @@ abbrev pub with_props : ProgramTable → Result (List Variable) SuiteCause → R
 with_props found (Ok props) = Ok (record found { props = props })
 with_props found (Err cause) = Err cause
 
--- `table_with before pair`: the table of `before` with `pair` appended, or the cause of the error
--- in `pair`.
+-- `table_with before pair`: the table of the pairs `before` and then `pair`, or the cause of the
+-- error in `pair`.
 abbrev pub table_with : List Variable → Variable → Result ProgramTable SuiteCause
 table_with before pair = unless (pair_fault pair) (table_of (before ++ pair ∷ []))
 
--- `joined path component`: `path` with `component` appended.
+-- `joined path component`: `path` with `component` appended, after a slash (47) unless `path` is
+-- empty.
 abbrev pub joined : List ℕ → List ℕ → List ℕ
 joined [] component = component
 joined (c ∷ path) component = c ∷ path ++ 47 ∷ component
 
--- `with_component path component`: `path` with `component` appended, unless it is empty or `.`.
+-- `with_component path component`: `joined path component`, or `path` if `component` is empty or
+-- `.`.
 abbrev pub with_component : List ℕ → List ℕ → List ℕ
 with_component path component = if counts component then joined path component else path
 
--- `all_places filters`: the positions of all filters.
+-- `all_places filters`: the positions of all filters, ascending, from 0.
 abbrev pub all_places : List Filter → List ℕ
 all_places filters = places (λ filter. true) 0 filters
 
--- `first_match filters item`: the position of the first filter that matches `item`.
+-- `first_match filters item`: the position of the first filter that matches `item`, if any.
 abbrev pub first_match : List Filter → Item → Option ℕ
 first_match filters item = position (matches_item item) filters
 
@@ -54,7 +57,7 @@ abbrev pub is_miss : List Filter → Item → ℕ → Bool
 is_miss filters item place = not (is_match filters item place)
 
 -- `Blames file line cause fault`: `fault` is the error with the cause `cause` in line `line` of
--- `file`, or of a failed allocation.
+-- `file`, or the error of a failed allocation.
 abbrev pub Blames : List ℕ → ℕ → SuiteCause → SuiteFault → Type 0
 Blames file line cause fault = IsNoMemory fault ⊎ (fault ≡ fault_at file line cause)
 

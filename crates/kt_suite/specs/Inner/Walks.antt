@@ -1,4 +1,5 @@
--- Results of the loader's private functions, each for its part of a tree.
+-- Results of the loader's private functions, each for its part of a tree: a mark, a statement or a
+-- file.
 use Rattle.std.specs.Prelude.{ℕ, Bool, true, List, [], ◌∷◌, ◌++◌, ◌≡◌, ◌<◌, ◌≤◌, ◌+◌, length, Some, None, Result, Ok, Err}
 use Rattle.kt_suite.specs.Types.{Meaning, NoSyntax, Program, ReadFault, Stmt, SuiteCause, SuiteFault, TooMany}
 use Rattle.kt_script.specs.Spelling.{Spells}
@@ -12,8 +13,8 @@ use Rattle.kt_suite.specs.Marks.{Site, site_fault, looked_up, Mark, Asks, File, 
 use Rattle.kt_suite.specs.Meanings.{opening_fault}
 use Rattle.kt_suite.specs.Registered.{file_limit, program_limit, questions_in, Decides, IsNext}
 
--- `Counted r marks after`: counting `marks` one by one leads from `r` to `after`, and no mark
--- decides.
+-- `Counted r marks after`: `after` is the registry `r` with the files and programs of `marks`
+-- added. No mark is an error or exceeds a limit.
 abbrev pub Counted : Registry → List Mark → Registry → Type 0
 Counted r [] after = after ≡ r
 Counted r (Asks question ∷ marks) after = Counted r marks after
@@ -22,8 +23,10 @@ Counted r (Listed at program ∷ marks) after =
     (length r.programs < program_limit) × Counted (record r { programs = r.programs ++ program ∷ [] }) marks after
 Counted r (Fault fault ∷ marks) after = ⊥
 
--- `Walked leads old new Gives r result`: marks with `Gives` were counted from `r` on, with calls
--- from `old` to `new`. Counting ends at the mark that decides, or at a failed allocation.
+-- `Walked leads old new Gives r result`: marks for which `Gives` holds were added to the registry
+-- `r`, one by one. `result` is the registry after the last mark, the error of the mark that
+-- decides, or the error of a failed allocation. The calls among the added marks lead from `old` to
+-- `new`, two states of the tree.
 pub data Walked {S : Type 0} (leads : S → Asked → S → Type 0) (old new : S) (Gives : List Mark → Type 0) (r : Registry)
     : Result Registry SuiteFault → Type 0 where
   through : (marks : List Mark) (after : Registry)
@@ -36,26 +39,27 @@ pub data Walked {S : Type 0} (leads : S → Asked → S → Type 0) (old new : S
       → Gives (front ++ back) → IsNext back more → Chain leads old (questions_in front ++ more) new → Counted r front mid
       → IsNoMemory fault → Walked leads old new Gives r (Err fault)
 
--- `FileGives files file marks`: `file`, read while `files` are open, has the marks `marks`.
+-- `FileGives files file marks`: `marks` are the marks of reading `file` while `files` are open.
 pub record FileGives (files : List (List ℕ)) (file : List ℕ) (marks : List Mark) : Type 0 where
   pub parts : List Part
   pub says : FileSays file parts
   pub unfolds : Unfolds (files ++ file ∷ []) parts marks
 
--- `MeaningGives files at meaning marks`: a statement at `at` with this meaning, read while `files`
--- are open, has the marks `marks`.
+-- `MeaningGives files at meaning marks`: `marks` are the marks of a statement at `at` with the
+-- meaning `meaning`, read while `files` are open.
 pub record MeaningGives (files : List (List ℕ)) (at : Site) (meaning : Meaning) (marks : List Mark) : Type 0 where
   pub there : Bool
   pub unfolds : Unfolds files (said at there meaning) marks
 
 module _ {S : Type 0} (leads : S → Asked → S → Type 0) (old new : S) where
-  -- `Adds at r program result`: `program` is looked up, and then added to `r` or rejected.
+  -- `Adds at r program result`: `result` is the registry `r` with `program` appended, or the error
+  -- if its file is missing or it exceeds the limit. The statement at `at` registers it.
   abbrev pub Adds : Site → Registry → Program → Result Registry SuiteFault → Type 0
   Adds at r program result =
       Walked leads old new (λ marks. (there : Bool) × (marks ≡ Asks (Exists program.path there) ∷ looked_up at program there ∷ [])) r result
 
--- `Enters at r path result`: the file at `path` is counted in `r`, or the include at `at` is
--- rejected.
+-- `Enters at r path result`: `result` is the registry `r` with the file at `path` counted, or the
+-- error if the include at `at` is rejected.
 pub data Enters (at : Site) (r : Registry) (path : List ℕ) : Result Registry SuiteFault → Type 0 where
   refuses : (cause : SuiteCause) → entry_fault r.reading path ≡ Some cause → Enters at r path (Err (site_fault at cause))
   exceeds : entry_fault r.reading path ≡ None → file_limit ≤ r.files → Enters at r path (Err (site_fault at TooMany))
@@ -63,12 +67,14 @@ pub data Enters (at : Site) (r : Registry) (path : List ℕ) : Result Registry S
       → Enters at r path (Ok (record r { files = r.files + 1 }))
   scant : (fault : SuiteFault) → IsNoMemory fault → Enters at r path (Err fault)
 
--- `Entered at r path step`: the file at `path` was counted in `r`, and `step` reads it next.
+-- `Entered at r path step`: `step` reads the file at `path` next, with the registry `r` in which
+-- this file is counted.
 abbrev pub Entered : Site → Registry → List ℕ → LoadStep → Type 0
 Entered at r path step = (next : Registry) × Enters at r path (Ok next) × (step ≡ Enter next path)
 
--- `Stepped leads old new r at meaning result`: the statement at `at` was executed, or executed as
--- far as the file that it includes.
+-- `Stepped leads old new r at meaning result`: the statement at `at` with the meaning `meaning` was
+-- executed in the registry `r`, with calls from `old` to `new`. `result` is the next step, which
+-- reads an included file, or the error.
 pub data Stepped {S : Type 0} (leads : S → Asked → S → Type 0) (old new : S) (r : Registry) (at : Site)
     (meaning : Meaning) : Result LoadStep SuiteFault → Type 0 where
   goes : (after : Registry) → Walked leads old new (MeaningGives r.reading at meaning) r (Ok after)
