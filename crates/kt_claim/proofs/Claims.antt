@@ -1,4 +1,4 @@
--- A file has only the claim that is read.
+-- A file has no other claim than `claim_of` of the file.
 use Rattle.std.proofs.Common.{◌≡◌, ℕ, ◌-◌, ◌≤◌, ◌<◌, true, false, eqb, ltb, List, [], ◌∷◌, ◌++◌, length, drop, Option, Some, Result, Ok, Err, refl, ap, sym, subst, ◌∙◌, append_assoc, inl, inr, arith, nat_eq, codes, MatchOption, IfOk}
 use Rattle.kt_claim.proofs.Common.{bytes_eq, prefix_len, ends_with, list_any, list_all, false≢true, lt-ltb, le-ltb, ne_eqb, length-append, is_digit, lossy, is_newline, newline, number, limit, IsReason, IsNumber, with_reason, with_number, Says, line, is, IsClaimOf, word_of, claim_with, numbered, reason_in, with_reason_in, value_of, number_in, with_number_in, claim_of_line, claim_of, Claim, ClaimFault, Word}
 use Rattle.std.proofs.Math.Seq.{take-append_seam, drop-append_seam}
@@ -76,7 +76,7 @@ said _ _ short (says.expected_exit_of n r isn isr) =
 said _ _ short (says.expected_signal_of n r isn isr) =
     numbered_file (codes "expected_signal") n r (claim.ExpectedSignal (Some (number n)) (lossy r)) isn isr short (digits_clean n (41 ∷ 58 ∷ 32 ∷ r) isn.1 isr.1) (numbered_line word.ExpectedSignal n r isn isr)
 
--- Each claim of a file is the claim that is read.
+-- Each claim of a file is equal to `claim_of` of the file.
 pub only_claim : (file : List ℕ) (c : Claim) → IsClaimOf file c → claim_of file ≡ c
 only_claim file c (inl h) = said file c h.0 h.1
 only_claim file c (inr h) = subst (λ (o : Option ClaimFault). MatchOption o ((length file ≤ limit) × Says file (claim_of file)) (λ g. claim_of file ≡ claim.Malformed g)) h.1 (read_file file) ∙ sym h.2

@@ -11,7 +11,8 @@ pub by_word : (t : Bool) (w x : List ℕ) (P : List ℕ → Type 0) → bytes_eq
 by_word true w x P e here next = subst P (sym ((bytes_eq-Decides w x).0 e)) here
 by_word false w x P e here next = next e
 
--- `Read rest w`: the claim that is read agrees with a line of the keyword `w` and `rest`.
+-- `Read rest w`: `after_known` gives the claim of a line of the keyword `w` and `rest`, or its
+-- error.
 abbrev pub Read : List ℕ → List ℕ → Type 0
 Read rest w = Agrees w rest (after_known (word_of w) rest)
 

@@ -28,11 +28,11 @@ pub length-map : (xs : List (List ℕ)) → length (map without_return xs) ≡ l
 length-map [] = refl
 length-map (y ∷ xs) = omega (arith, length-map xs)
 
--- `Ends line kind`: a line that ends in the state `line` is of this kind.
+-- `Ends line kind`: a line that ends in the state `line` is of the kind `kind`.
 abbrev pub Ends : LineState → LineKind → Type 0
 Ends line kind = (is_reason line.begun ≡ false → (kept : List ℕ) → facts_of_kind kind [] ≡ facts_with line.begun kept []) × (is_reason line.begun ≡ true → kind ≡ Plan 0)
 
--- The facts of a line at its end are those of its kind.
+-- If a line ends in the state `b`, its facts are the facts of its kind.
 pub ends_at : (b : Begun) (kept : List ℕ) (kind : LineKind) → KeepsFor b kept
     → (is_reason b ≡ false → (k : List ℕ) → facts_of_kind kind [] ≡ facts_with b k []) → (is_reason b ≡ true → kind ≡ Plan 0)
     → facts_with b kept [] ≡ facts_of_kind kind (trimmed kept)
@@ -49,7 +49,8 @@ pub line_is : (line : LineState) (kind : LineKind) (came : List ℕ) → Ends li
 line_is line kind came ends k =
     ap (λ (xs : List ℕ). facts_of (without_return xs)) (sym (append-nil came)) ∙ k.tells [] ∙ no_more line.held line.begun line.kept ∙ ends_at line.begun line.kept kind k.keeps ends.0 ends.1
 
--- `Adds old new kind reason`: `new` is the tally `old` with one more line of this kind and reason.
+-- `Adds old new kind reason`: `new` is the tally `old` with one more line of the kind `kind` and
+-- the reason `reason`.
 abbrev pub Adds : Tally → Tally → LineKind → List ℕ → Type 0
 Adds old new kind reason = (line : List ℕ) (ls : List (List ℕ)) → facts_of line ≡ facts_of_kind kind reason → length ls < 2 ^ 32 → IsTally old ls → IsTally new (ls ++ line ∷ [])
 

@@ -3,13 +3,13 @@ use Rattle.std.proofs.Common.{◌≡◌, ℕ, true, false, eqb, List, [], ◌∷
 use Rattle.kt_claim.proofs.Common.{false≢true, facts_of, facts_with, is_decided, KeepsFor, Knows, Released, without_return, Begun}
 use Rattle.kt_claim.specs.declared.begun.Begun.TheVariants as begun
 
--- Once a line is decided, the bytes that follow don't change its facts.
+-- In a decided state, the bytes that follow don't change the facts of a line.
 pub decided : (b : Begun) (kept xs ys : List ℕ) → is_decided b ≡ true → facts_with b kept xs ≡ facts_with b kept ys
 decided (begun.Decided k) kept xs ys e = refl
 decided _ kept xs ys e = absurd (false≢true e)
 
--- `TakesIn first state kept now part rest`: a loop over `part` keeps the facts while `rest` is
--- left.
+-- `TakesIn first state kept now part rest`: reading the bytes of `part` before `rest` leads from
+-- the state `first` to `state`, with equal facts. No byte was kept: `now` is `kept`.
 abbrev pub TakesIn : Begun → Begun → List ℕ → List ℕ → List ℕ → List ℕ → Type 0
 TakesIn first state kept now part rest = KeepsFor first kept → (now ≡ kept) × KeepsFor state now × ((more : List ℕ) → facts_with first kept (part ++ more) ≡ facts_with state now (rest ++ more))
 

@@ -40,7 +40,9 @@ stops c (b ∷ rest) after h = stops_at (is_newline b) b c rest after refl (stop
 
 -- ---- the loop over a piece
 
--- `Reaches first begun tally line rest piece`: the bytes of `piece` before `rest` were read.
+-- `Reaches first begun tally line rest piece`: reading the bytes of `piece` before `rest` leads to
+-- the tally `tally` and the open line `line`. It begins with the tally `first` and the open line
+-- `begun`.
 abbrev pub Reaches : Tally → LineState → Tally → LineState → List ℕ → List ℕ → Type 0
 Reaches first begun tally line rest piece = (fed : List ℕ) → length fed + length piece ≤ limit → HasLines first begun fed
     → (done : List ℕ) × (done ++ rest ≡ piece) × HasLines tally line (fed ++ done)

@@ -1,4 +1,4 @@
--- Reading from the left finds the claim of a file.
+-- The claim that is read from the left is a claim of the file.
 use Rattle.std.proofs.Common.{◌≡◌, ℕ, ◌-◌, ◌≤◌, true, false, not, List, [], ◌∷◌, ◌++◌, length, take, drop, Option, Some, None, refl, ap, sym, subst, ◌∙◌, append_assoc, inl, inr, arith, ◌==◌, nat_eq, nat_lt, MatchOption}
 use Rattle.kt_claim.proofs.Common.{prefix_len, ends_with, list_any, find, ltb-false, take-append-drop, bytes_eq-Decides, is_newline, newline, is_word_byte, limit, Says, line, fits_line, fault_of, IsClaimOf, after_word, word_of, after_known, claim_of_line, claim_of, ClaimFault, TooLong, Empty, NoNewline, SeveralLines, UnknownWord, BadNumber, UnexpectedReason, NoReason}
 use Rattle.kt_claim.specs.ResultFile.{word as first_word}
@@ -16,7 +16,8 @@ line_and_newline file e = ap (λ (xs : List ℕ). line file ++ xs) ((bytes_eq-De
 pub drop_clean : (n : ℕ) (xs : List ℕ) → list_any is_newline xs ≡ false → list_any is_newline (drop n xs) ≡ false
 drop_clean n xs none = any_right (take n xs) (drop n xs) (ap (list_any is_newline) (take-append-drop n xs) ∙ none)
 
--- The line of a file within the limit agrees with the claim that is read.
+-- If `Read` holds of the parts of a file's line, `after_known` gives the claim of the file, or its
+-- error.
 pub line_in_file : (file : List ℕ) → ends_with nat_eq file newline ≡ true → length file ≤ limit → Read (after_word file) (first_word file)
     → MatchOption (find (fits_line (first_word file) (after_word file)) (UnknownWord ∷ BadNumber ∷ UnexpectedReason ∷ NoReason ∷ []))
     ((length file ≤ limit) × Says file (after_known (word_of (first_word file)) (after_word file))) (λ g. after_known (word_of (first_word file)) (after_word file) ≡ claim.Malformed g)
@@ -46,6 +47,6 @@ pub claims_at : (o : Option ClaimFault) (file : List ℕ) → fault_of file ≡ 
 claims_at None file e h = inl h
 claims_at (Some g) file e h = inr (g, e, h)
 
--- The claim that is read is a claim of the file.
+-- `claim_of` of a file is a claim of the file.
 pub claims : (file : List ℕ) → IsClaimOf file (claim_of file)
 claims file = claims_at (fault_of file) file refl (read_file file)

@@ -1,4 +1,4 @@
--- The fault rows of a result file, and its reason.
+-- The errors of a result file in their order, and its reason.
 use Rattle.std.proofs.Common.{◌≡◌, ℕ, ◌<◌, Bool, true, false, not, cond, List, [], ◌∷◌, ◌++◌, length, drop, Option, Some, None, refl, ap, sym, subst, ◌∙◌, arith, ◌&&◌, nat_eq, nat_lt, MatchOption}
 use Rattle.kt_claim.proofs.Common.{list_any, false≢true, eqb-true, ltb-true, lossy, is_newline, newline, IsReason, with_reason, Says, has_reason, reason_in, with_reason_in, Claim, ClaimFault, NoReason}
 use Rattle.kt_claim.specs.declared.evidence.Claim.TheVariants as claim
@@ -6,7 +6,7 @@ use Rattle.std.proofs.lemmas.Bool.{and_parts}
 
 -- ---- rows
 
--- If a row doesn't fit, the next row decides.
+-- If an error doesn't fit, the next error of the list decides.
 pub row : (t : Bool) (f : ClaimFault) (o : Option ClaimFault) (c : Claim) (A : Claim → Type 0) → (t ≡ false → MatchOption o (A c) (λ g. c ≡ claim.Malformed g))
     → MatchOption (cond t (Some f) o) (A (cond t (claim.Malformed f) c)) (λ g. cond t (claim.Malformed f) c ≡ claim.Malformed g)
 row true f o c A h = refl
@@ -35,7 +35,8 @@ reason_parts (a ∷ b ∷ r) e =
 pub no_newline_after : (rest r : List ℕ) → rest ≡ 58 ∷ 32 ∷ r → list_any is_newline rest ≡ false → list_any is_newline r ≡ false
 no_newline_after rest r parts none = sym (ap (list_any is_newline) parts) ∙ none
 
--- `Wanted w make`: the keyword `w` with a reason spells the claim that `make` makes of the reason.
+-- `Wanted w make`: the keyword `w` with any reason spells the claim that `make` makes of the
+-- reason.
 abbrev pub Wanted : List ℕ → (List ℕ → Claim) → Type 0
 Wanted w make = (r : List ℕ) → IsReason r → Says (w ++ with_reason r) (make (lossy r))
 

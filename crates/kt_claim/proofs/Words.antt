@@ -10,11 +10,13 @@ use Rattle.std.proofs.lemmas.Bool.{and_parts, or_parts}
 
 -- ---- words without a number
 
--- `Agrees w rest c`: the keyword `w` and `rest` spell the claim `c`, or `c` is their first fault.
+-- `Agrees w rest c`: a line of the keyword `w` and `rest` spells the claim `c`, or `c` is the
+-- line's first error.
 abbrev pub Agrees : List ℕ → List ℕ → Claim → Type 0
 Agrees w rest c = MatchOption (find (fits_line w rest) (UnknownWord ∷ BadNumber ∷ UnexpectedReason ∷ NoReason ∷ [])) (Says (w ++ (rest ++ newline)) c) (λ g. c ≡ claim.Malformed g)
 
--- `Rows known number passed rest`: the first fault of a line, from these facts about its keyword.
+-- `Rows known number passed rest`: the first error of a line with `rest` after its keyword. The
+-- keyword is known if `known`, may have a number if `number`, and is `passed` if `passed`.
 abbrev pub Rows : Bool → Bool → Bool → List ℕ → Option ClaimFault
 Rows known number passed rest =
     cond (not known) (Some UnknownWord) (cond (has_bracket rest && not (number && has_number rest)) (Some BadNumber)
@@ -93,7 +95,7 @@ pub any_right : (xs ys : List ℕ) → list_any is_newline (xs ++ ys) ≡ false 
 any_right [] ys none = none
 any_right (x ∷ xs) ys none = any_right xs ys (or_parts (is_newline x) (list_any is_newline (xs ++ ys)) none).1
 
--- `WantedNumber w k`: the keyword `w` with a number and a reason spells the claim of `k`.
+-- `WantedNumber w k`: the text `w` with a number and a reason spells the claim of the keyword `k`.
 abbrev pub WantedNumber : List ℕ → Word → Type 0
 WantedNumber w k = (n r : List ℕ) → IsNumber n → IsReason r → Says (w ++ with_number n r) (numbered k (number n) (lossy r))
 

@@ -14,7 +14,7 @@ use Rattle.kt_claim.specs.declared.evidence.ClaimFault.TheVariants.{TooLong, Emp
 abbrev pub limit : ℕ
 limit = 65536
 
--- ---- files that make a claim
+-- ---- valid files
 
 -- `IsReason reason`: `reason` has one byte or more and no newline.
 abbrev pub IsReason : List ℕ → Type 0
@@ -25,15 +25,17 @@ IsReason reason = (0 < length reason) × (list_any is_newline reason ≡ false)
 abbrev pub IsNumber : List ℕ → Type 0
 IsNumber digits = (0 < length digits) × (list_all is_digit digits ≡ true) × (number digits < 256)
 
--- `with_reason reason`: the bytes after a keyword: a colon, a space, the reason and the newline.
+-- `with_reason reason`: the bytes after a keyword without a number: a colon, a space, the reason
+-- and the newline.
 abbrev pub with_reason : List ℕ → List ℕ
 with_reason reason = codes ": " ++ reason ++ newline
 
--- `with_number digits reason`: the same bytes after a number in round brackets.
+-- `with_number digits reason`: the bytes after a keyword with a number: the digits in round
+-- brackets, and then `with_reason reason`.
 abbrev pub with_number : List ℕ → List ℕ → List ℕ
 with_number digits reason = codes "(" ++ digits ++ codes ")" ++ with_reason reason
 
--- `Says file claim`: the file is one line that spells this claim.
+-- `Says file claim`: `file` is one line, with its newline, that spells `claim`.
 pub data Says : List ℕ → Claim → Type 0 where
   passed : Says (codes "passed" ++ newline) Passed
   failed : (r : List ℕ) → IsReason r → Says (codes "failed" ++ with_reason r) (Failed (lossy r))
@@ -46,21 +48,21 @@ pub data Says : List ℕ → Claim → Type 0 where
   expected_exit_of : (n r : List ℕ) → IsNumber n → IsReason r → Says (codes "expected_exit" ++ with_number n r) (ExpectedExit (Some (number n)) (lossy r))
   expected_signal_of : (n r : List ℕ) → IsNumber n → IsReason r → Says (codes "expected_signal" ++ with_number n r) (ExpectedSignal (Some (number n)) (lossy r))
 
--- ---- files that make none
+-- ---- files with an error
 
--- `line file`: a file without its last byte.
+-- `line file`: `file` without its last byte, which is the newline of a valid file.
 abbrev pub line : List ℕ → List ℕ
 line file = take (length file - 1) file
 
--- `word file`: the lower-case letters and underscores that the file's line begins with.
+-- `word file`: the letters from a to z and underscores that the line of `file` begins with.
 abbrev pub word : List ℕ → List ℕ
 word file = take (prefix_len is_word_byte (line file)) (line file)
 
--- `after_word file`: the bytes after that keyword on the line.
+-- `after_word file`: the bytes of the file's line after `word file`.
 abbrev pub after_word : List ℕ → List ℕ
 after_word file = drop (prefix_len is_word_byte (line file)) (line file)
 
--- `is expected found`: the two keywords are equal.
+-- `is expected found`: `found` is the keyword `expected`.
 abbrev pub is : List ℕ → List ℕ → Bool
 is expected found = bytes_eq found expected
 
@@ -84,19 +86,20 @@ abbrev pub closes : List ℕ → Bool
 closes [] = false
 closes (b ∷ rest) = b == 41
 
--- `digits rest`: the digits after the bracket that `rest` begins with.
+-- `digits rest`: the digits after the first byte of `rest`, which is a bracket.
 abbrev pub digits : List ℕ → List ℕ
 digits rest = take (prefix_len is_digit (drop 1 rest)) (drop 1 rest)
 
--- `after_digits rest`: the bytes after those digits.
+-- `after_digits rest`: the bytes of `rest` after its first byte and `digits rest`.
 abbrev pub after_digits : List ℕ → List ℕ
 after_digits rest = drop (prefix_len is_digit (drop 1 rest)) (drop 1 rest)
 
--- `has_number rest`: `rest` begins with a number less than 256 in round brackets.
+-- `has_number rest`: a number less than 256 and a closing bracket follow the first byte of `rest`,
+-- which is an opening bracket.
 abbrev pub has_number : List ℕ → Bool
 has_number rest = nat_lt 0 (length (digits rest)) && nat_lt (number (digits rest)) 256 && closes (after_digits rest)
 
--- `after_number rest`: `rest` without the number in round brackets, if it begins with a bracket.
+-- `after_number rest`: `rest` without the number in round brackets that it begins with, if any.
 abbrev pub after_number : List ℕ → List ℕ
 after_number rest = if has_bracket rest then drop 1 (after_digits rest) else rest
 
@@ -104,7 +107,8 @@ after_number rest = if has_bracket rest then drop 1 (after_digits rest) else res
 abbrev pub has_reason : List ℕ → Bool
 has_reason rest = starts_with nat_eq rest (codes ": ") && nat_lt 2 (length rest)
 
--- `fits_line w rest fault`: the row of this fault fits a line of the keyword `w` and `rest`.
+-- `fits_line w rest fault`: a line of the keyword `w` and the bytes `rest` has the error `fault`,
+-- if it has no earlier error of `rows`.
 abbrev pub fits_line : List ℕ → List ℕ → ClaimFault → Bool
 fits_line w rest UnknownWord = not (is_known w)
 fits_line w rest BadNumber = has_bracket rest && not (takes_number w && has_number rest)
@@ -112,7 +116,7 @@ fits_line w rest UnexpectedReason = is (codes "passed") w && nat_lt 0 (length re
 fits_line w rest NoReason = not (is (codes "passed") w) && not (has_reason (after_number rest))
 fits_line w rest _ = false
 
--- `fits file fault`: the row of this fault fits a file that no earlier row fits.
+-- `fits file fault`: `file` has the error `fault`, if it has no earlier error of `rows`.
 abbrev pub fits : List ℕ → ClaimFault → Bool
 fits file TooLong = nat_lt limit (length file)
 fits file Empty = length file == 0
@@ -120,17 +124,17 @@ fits file NoNewline = not (ends_with nat_eq file newline)
 fits file SeveralLines = list_any is_newline (line file)
 fits file fault = fits_line (word file) (after_word file) fault
 
--- `rows`: the faults in the order of their rows. The first row that fits counts.
+-- `rows`: the errors in their order. A file has the first error that fits it.
 abbrev pub rows : List ClaimFault
 rows = TooLong ∷ Empty ∷ NoNewline ∷ SeveralLines ∷ UnknownWord ∷ BadNumber ∷ UnexpectedReason ∷ NoReason ∷ []
 
--- `fault_of file`: the fault of the first row that fits.
+-- `fault_of file`: the first error of `rows` that fits `file`, or `None` if `file` is valid.
 abbrev pub fault_of : List ℕ → Option ClaimFault
 fault_of file = find (fits file) rows
 
--- ---- both
+-- ---- all files
 
--- `IsClaimOf file claim`: a file within the limit spells this claim, or the claim is its first
--- fault.
+-- `IsClaimOf file claim`: `file` has at most `limit` bytes and spells `claim`, or `claim` is
+-- `Malformed` with the first error of `file`.
 abbrev pub IsClaimOf : List ℕ → Claim → Type 0
 IsClaimOf file claim = ((length file ≤ limit) × Says file claim) ⊎ ((fault : ClaimFault) × (fault_of file ≡ Some fault) × (claim ≡ Malformed fault))

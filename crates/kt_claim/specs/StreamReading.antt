@@ -6,8 +6,9 @@ use Rattle.kt_claim.specs.Inner.LineStates.{LineState, held_before}
 use Rattle.kt_claim.specs.Inner.TapReading.{HasLines}
 use Rattle.kt_claim.specs.declared.tally.Tally.{Tally}
 
--- `StreamReading`: the counts of the whole lines, the state of the open line, the number of bytes,
--- and two failures.
+-- `StreamReading`: a reader as callers see it. It has the counts of the complete lines, the state
+-- of the open line, and the number of bytes. Two flags represent too many bytes and a failed
+-- allocation.
 pub record StreamReading : Type 0 where
   pub tally : Tally
   pub line : LineState
@@ -15,18 +16,18 @@ pub record StreamReading : Type 0 where
   pub too_long : Bool
   pub failed : Bool
 
--- `HoldsStream too_long reader fed`: the reader represents the bytes `fed`, or they are longer than
--- the limit.
+-- `HoldsStream too_long reader fed`: if `too_long` is true, `fed` is longer than the limit.
+-- Otherwise, `reader` has the length, the counts and the open line of `fed`.
 abbrev pub HoldsStream : Bool → StreamReading → List ℕ → Type 0
 HoldsStream true reader fed = limit < length fed
 HoldsStream false reader fed = (reader.length ≡ length fed) × (length fed ≤ limit) × HasLines reader.tally reader.line fed
 
--- `HasStream reader fed`: the reader has read the bytes `fed`.
+-- `HasStream reader fed`: `reader` has read the bytes `fed`, and no allocation failed.
 abbrev pub HasStream : StreamReading → List ℕ → Type 0
 HasStream reader fed = (reader.failed ≡ false) × HoldsStream reader.too_long reader fed
 
--- `KeepsLittle line fed`: of the open line, only the reason of a plan of no tests is kept, as far
--- as it was read.
+-- `KeepsLittle line fed`: `line` keeps no bytes of `fed`, or only the reason of a plan of no tests.
+-- That is the reason in the open line of `fed`, as far as it was read.
 abbrev pub KeepsLittle : LineState → List ℕ → Type 0
 KeepsLittle line fed =
     (line.kept ≡ [])

@@ -17,36 +17,37 @@ limit = 16777216
 
 -- ---- lines
 
--- `without_return line`: the line without a carriage return at its end.
+-- `without_return line`: `line` without a carriage return (13) at its end.
 abbrev pub without_return : List ℕ → List ℕ
 without_return [] = []
 without_return (b ∷ []) = if b == 13 then [] else b ∷ []
 without_return (b ∷ c ∷ rest) = b ∷ without_return (c ∷ rest)
 
--- `lines_of text`: the lines of a text, without their carriage returns.
+-- `lines_of text`: the lines of `text`, without newlines and without a carriage return at their
+-- ends.
 abbrev pub lines_of : List ℕ → List (List ℕ)
 lines_of text = map without_return (lines text)
 
 -- ---- words
 
--- `begins word text`: `text` begins with `word`.
+-- `begins word text`: `text` begins with the bytes `word`.
 abbrev pub begins : List ℕ → List ℕ → Bool
 begins [] text = true
 begins (c ∷ word) [] = false
 begins (c ∷ word) (b ∷ text) = b == c && begins word text
 
--- `says word text`: `text` begins with the lower-case `word`, in upper or lower case.
+-- `says word text`: `text` begins with `word`, in upper or lower case. `word` is in lower case.
 abbrev pub says : List ℕ → List ℕ → Bool
 says [] text = true
 says (c ∷ word) [] = false
 says (c ∷ word) (b ∷ text) = to_ascii_lowercase b == c && says word text
 
--- `past test text`: `text` from its first byte that fails the test.
+-- `past test text`: `text` without the bytes before the first byte that fails `test`.
 abbrev pub past : (ℕ → Bool) → List ℕ → List ℕ
 past test [] = []
 past test (b ∷ text) = if test b then past test text else b ∷ text
 
--- `front test text`: `text` up to its first byte that fails the test.
+-- `front test text`: the bytes of `text` before the first byte that fails `test`.
 abbrev pub front : (ℕ → Bool) → List ℕ → List ℕ
 front test [] = []
 front test (b ∷ text) = if test b then b ∷ front test text else []
@@ -55,14 +56,14 @@ front test (b ∷ text) = if test b then b ∷ front test text else []
 abbrev pub not_blank : ℕ → Bool
 not_blank b = not (is_blank b)
 
--- `trimmed text`: the text without the blanks at its end.
+-- `trimmed text`: `text` without the blanks at its end.
 abbrev pub trimmed : List ℕ → List ℕ
 trimmed [] = []
 trimmed (b ∷ rest) = if is_blank b && length (trimmed rest) == 0 then [] else b ∷ trimmed rest
 
--- ---- what a line is
+-- ---- kinds of lines
 
--- `is_bail line`: the line bails out.
+-- `is_bail line`: `line` bails out: it begins with `Bail out!`.
 abbrev pub is_bail : List ℕ → Bool
 is_bail line = begins (codes "Bail out!") line
 
@@ -75,43 +76,45 @@ is_gap (b ∷ rest) = is_blank b
 abbrev pub begins_with_word : List ℕ → List ℕ → Bool
 begins_with_word word line = begins word line && is_gap (drop (length word) line)
 
--- `is_not_ok line`: the line is a failed test.
+-- `is_not_ok line`: `line` is a failed test, with a directive or not.
 abbrev pub is_not_ok : List ℕ → Bool
 is_not_ok line = begins_with_word (codes "not ok") line
 
--- `is_test line`: the line is a test.
+-- `is_test line`: `line` is a test, passed or failed.
 abbrev pub is_test : List ℕ → Bool
 is_test line = begins_with_word (codes "ok") line || is_not_ok line
 
 -- ---- directives
 
--- `Directive`: true for a skip directive, and the bytes of the reason.
+-- `Directive`: true for a skip directive and false for a todo directive, and the bytes of the
+-- reason.
 abbrev pub Directive : Type 0
 Directive = Bool × List ℕ
 
--- `reason_of text`: the reason in the bytes after the four letters of a directive.
+-- `reason_of text`: the reason in `text`, the bytes after the four letters of a directive. The rest
+-- of the directive's word and the blanks around the reason are left out.
 abbrev pub reason_of : List ℕ → List ℕ
 reason_of text = trimmed (past is_blank (past not_blank text))
 
--- `directive_at text`: the directive that `text` begins with.
+-- `directive_at text`: the directive that `text` begins with, if any.
 abbrev pub directive_at : List ℕ → Option Directive
 directive_at text =
     if says (codes "todo") text then Some (false, reason_of (drop 4 text))
     else if says (codes "skip") text then Some (true, reason_of (drop 4 text))
     else None
 
--- `after_hash escaped b rest`: the directive after the byte `b`, if `b` is a hash that is not
--- escaped by a backslash.
+-- `after_hash escaped b rest`: the directive that `rest` begins with after blanks, if the byte `b`
+-- before it is a hash (35) and `escaped` is false.
 abbrev pub after_hash : Bool → ℕ → List ℕ → Option Directive
 after_hash escaped b rest = if b == 35 && not escaped then directive_at (past is_blank rest) else None
 
--- `directive_in escaped text`: the first directive of a text. `escaped` is true if a backslash
--- precedes the text.
+-- `directive_in escaped text`: the first directive in `text`, if any. `escaped` is true if a
+-- backslash precedes `text`.
 abbrev pub directive_in : Bool → List ℕ → Option Directive
 directive_in escaped [] = None
 directive_in escaped (b ∷ rest) = option_or (after_hash escaped b rest) (directive_in (b == 92) rest)
 
--- `directive line`: the first directive of a line.
+-- `directive line`: the first directive in `line`, if any.
 abbrev pub directive : List ℕ → Option Directive
 directive line = directive_in false line
 
@@ -126,44 +129,47 @@ abbrev pub is_plan_end : List ℕ → Bool
 is_plan_end [] = true
 is_plan_end (b ∷ rest) = b == 35
 
--- `below_limit n`: the number `n` of tests, if a plan may have it.
+-- `below_limit n`: `n` if it is less than 1,000,000,000, the limit of the tests in a plan.
 abbrev pub below_limit : ℕ → Option ℕ
 below_limit n = if nat_lt n 1000000000 then Some n else None
 
--- `value_from value digits`: the value of the digits read before and of `digits`, which are one or
--- more together.
+-- `value_from value digits`: the number of tests that earlier digits with the value `value` and
+-- then `digits` spell, if a plan may have it. `value` is `None` without earlier digits.
 abbrev pub value_from : Option ℕ → List ℕ → Option ℕ
 value_from None [] = None
 value_from None (d ∷ digits) = below_limit (decimal_from 0 (d ∷ digits))
 value_from (Some n) digits = below_limit (decimal_from n digits)
 
--- `planned_from value text`: the number of tests in digits, then blanks, then the end or a hash.
+-- `planned_from value text`: the number of tests in `text`, if it is digits, then blanks, then the
+-- end or a hash. `value` is the value of the digits before `text`, if any.
 abbrev pub planned_from : Option ℕ → List ℕ → Option ℕ
 planned_from value text = if is_plan_end (past is_blank (past is_digit text)) then value_from value (front is_digit text) else None
 
--- `planned line`: the number of tests that a line plans.
+-- `planned line`: the number of tests that `line` plans, if it is a plan.
 abbrev pub planned : List ℕ → Option ℕ
 planned line = if begins (codes "1..") line then planned_from None (drop 3 line) else None
 
--- `skips directive`: the reason of a skip directive, or no bytes for any other directive.
+-- `skips directive`: the reason of a skip directive, or no bytes without a skip directive.
 abbrev pub skips : Option Directive → List ℕ
 skips (Some (true, reason)) = reason
 skips _ = []
 
--- `skip_reason reason`: the reason of a skipped program, or a fixed text if the reason is empty.
+-- `skip_reason reason`: `reason` as a text, or `No reason given` if `reason` is empty.
 abbrev pub skip_reason : List ℕ → List ℕ
 skip_reason [] = codes "No reason given"
 skip_reason (b ∷ reason) = lossy (b ∷ reason)
 
--- `why n reason`: the reason of a plan of `n` tests, which is empty unless `n` is 0.
+-- `why n reason`: the reason of a plan of `n` tests: `skip_reason reason` if `n` is 0, else an
+-- empty text.
 abbrev pub why : ℕ → List ℕ → List ℕ
 why n reason = if n == 0 then skip_reason reason else []
 
--- `plan_for reason n`: a plan of `n` tests, with its reason.
+-- `plan_for reason n`: a plan: the number `n` of tests, and the reason, which is `reason` if `n` is
+-- 0.
 abbrev pub plan_for : List ℕ → ℕ → ℕ × List ℕ
 plan_for reason n = (n, why n reason)
 
--- `plan line`: the number of tests that a line plans, with its reason.
+-- `plan line`: the number of tests that `line` plans, and the plan's reason, if `line` is a plan.
 abbrev pub plan : List ℕ → Option (ℕ × List ℕ)
 plan line = option_map (plan_for (skips (directive line))) (planned line)
 
@@ -174,18 +180,21 @@ abbrev pub heard : List (List ℕ) → List (List ℕ)
 heard [] = []
 heard (line ∷ lines) = if is_bail line then [] else line ∷ heard lines
 
--- `count test lines`: the number of lines that pass a test.
+-- `count test lines`: the number of `lines` that pass `test`.
 abbrev pub count : (List ℕ → Bool) → List (List ℕ) → ℕ
 count test lines = length (filter test lines)
 
--- `compared planned reason tests failures`: the result, if the stream has one plan.
+-- `compared planned reason tests failures`: the result of a stream with one plan of `planned`
+-- tests, `tests` tests and `failures` failed tests without a directive. `reason` is the plan's
+-- reason.
 abbrev pub compared : ℕ → List ℕ → ℕ → ℕ → Tap
 compared planned reason tests failures =
     if not (planned == tests) then Invalid PlanDiffers
     else if tests == 0 then SkipAll reason
     else Counted failures tests
 
--- `by_plans plans tests failures`: the result, if no line bails out.
+-- `by_plans plans tests failures`: the result of a stream without a bail out, by its plans and the
+-- numbers of tests and failures.
 abbrev pub by_plans : List (ℕ × List ℕ) → ℕ → ℕ → Tap
 by_plans [] tests failures = Invalid NoPlan
 by_plans ((planned, reason) ∷ []) tests failures = compared planned reason tests failures
@@ -197,6 +206,6 @@ tap_of_lines lines =
     if list_any is_bail lines then BailedOut
     else by_plans (filter_map plan (heard lines)) (count is_test (heard lines)) (count is_unexcused (heard lines))
 
--- `tap_of text`: the result of a stream.
+-- `tap_of text`: the result of the TAP stream `text`.
 abbrev pub tap_of : List ℕ → Tap
 tap_of text = if nat_lt limit (length text) then Invalid TooLong else tap_of_lines (lines_of text)

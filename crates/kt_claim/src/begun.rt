@@ -1,9 +1,9 @@
 /// A kind of line of a TAP stream.
 #[derive(Clone, Copy)]
 pub enum LineKind {
-    /// The line doesn't count.
+    /// A line without an effect on the result of the stream.
     Other,
-    /// The line bails out.
+    /// A line that begins with `Bail out!`.
     Bail,
     /// A test that passed, or a failed test with a directive.
     Test,
@@ -13,7 +13,7 @@ pub enum LineKind {
     Plan(u64),
 }
 
-/// The first letters of a directive, in upper or lower case.
+/// The letters of `TODO` or `SKIP` that were read, in upper or lower case.
 #[derive(Clone, Copy)]
 pub enum Letters {
     T,
@@ -24,7 +24,7 @@ pub enum Letters {
     Ski,
 }
 
-/// A reason to look for a directive.
+/// A reason to look for a directive in a line.
 #[derive(Clone, Copy)]
 pub enum Purpose {
     /// A directive excuses a failed test.
@@ -33,7 +33,7 @@ pub enum Purpose {
     Explain,
 }
 
-/// A text at the beginning of a line that counts: `Bail out!`, `ok`, `not ok` or `1..`.
+/// A beginning of the lines that affect the result: `Bail out!`, `ok`, `not ok` or `1..`.
 #[derive(Clone, Copy)]
 pub enum Opening {
     BailOut,
@@ -42,20 +42,21 @@ pub enum Opening {
     Plan,
 }
 
-/// A state of the reader within a line, by the bytes of the line that were read.
+/// A state of the reader within a TAP line, after the bytes of the line that were read.
 #[derive(Clone, Copy)]
 pub enum Begun {
     /// No byte was read.
     Nothing,
-    /// The beginning of an opening, of which these bytes are missing.
+    /// A part of an opening, of which these bytes are missing.
     Opened(Opening, &'static [u8]),
-    /// The digits of a plan, with their value, or `None` before the first digit.
+    /// `1..` and the digits of a plan. The number is their value, or `None` before the first digit.
     Digits(Option<u64>),
-    /// Blanks after the digits of a plan, with their value.
+    /// `1..`, the digits of a plan, and one or more blanks. The number is the value of the digits.
     Blanks(u64),
-    /// A directive may follow. The flag is `true` if the last byte was a backslash.
+    /// Bytes without a directive, which may follow. The flag is `true` if the last byte is a
+    /// backslash.
     Looking(Purpose, bool),
-    /// A hash, and blanks if any.
+    /// A hash, and blanks if any. A directive may follow.
     Hash(Purpose),
     /// A hash, blanks if any, and the first letters of a directive.
     Lettered(Purpose, Letters),
@@ -63,15 +64,16 @@ pub enum Begun {
     Word,
     /// Blanks after the word of a skip directive.
     Gap,
-    /// The reason of a skip directive.
+    /// The first bytes of the reason of a skip directive.
     Reason,
     /// The kind of the line is known. The rest of the line is ignored.
     Decided(LineKind),
 }
 
-/// A line that was not read to its end. Only a plan's reason is kept of its bytes.
+/// A TAP line that was not read to its end. Of its bytes, only the reason of a plan is kept.
 #[derive(Drop)]
 pub struct OpenLine {
+    /// The state of the reader within the line.
     pub begun: Begun,
     /// The reason of a plan of no tests, as far as it was read.
     pub kept: Vec<u8>,

@@ -10,7 +10,9 @@ use std::marker::Model;
 /// The greatest length of a result file, in bytes.
 pub const LIMIT: usize = 65_536;
 
-/// A reader of a result file that is read in pieces. It keeps at most 65,536 bytes.
+/// A reader of a result file that is read in pieces.
+///
+/// The reader keeps at most 65,536 bytes of the file.
 #[derive(Drop)]
 pub struct ClaimReader {
     alloc: Global,
@@ -81,6 +83,8 @@ impl ClaimReader {
     }
 
     /// Returns the claim of the result file that was read (this profile).
+    ///
+    /// A file that is not valid has the claim `Malformed`, which is not an error of this call.
     ///
     /// # Errors
     ///

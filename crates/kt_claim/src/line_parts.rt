@@ -7,7 +7,7 @@ use crate::begun::{Begun, LineKind, OpenLine, Opening, Purpose};
 use crate::line_steps::{LIMIT, is_blank, step};
 use kt_base::NoMemory;
 
-/// Returns a text without the blanks at its end.
+/// Returns `text` without the spaces and tabs at its end.
 pub fn trimmed(text: &[u8]) -> &[u8]
     ensures { result.now ≡ trimmed text.now }
 {
@@ -34,6 +34,8 @@ fn lone(opening: Opening) -> LineKind
 }
 
 /// Returns the kind of a TAP line that ends within its opening or directly after it.
+///
+/// `lacks` are the missing bytes of the opening.
 fn opened(opening: Opening, lacks: &'static [u8]) -> LineKind
     ensures { (kept : List ℕ) → facts_of_kind result []
         ≡ facts_with (Begun.Opened opening lacks.entry) kept [] }
@@ -58,7 +60,9 @@ fn planned(tests: u64) -> LineKind
     }
 }
 
-/// Returns the kind of a TAP line that ends after the digits of a plan, if any.
+/// Returns the kind of a TAP line that ends after `1..` and the digits of a plan.
+///
+/// `value` is the value of the digits. Without digits, it is `None`, and the line is not a plan.
 fn counted(value: Option<u64>) -> LineKind
     ensures { (kept : List ℕ) → facts_of_kind result [] ≡ facts_with (Begun.Digits value) kept [] }
 {
@@ -69,6 +73,8 @@ fn counted(value: Option<u64>) -> LineKind
 }
 
 /// Returns the kind of a TAP line that ends without a directive.
+///
+/// It is a failed test for `Excuse`, and a plan of no tests for `Explain`.
 fn undirected(purpose: Purpose) -> LineKind
     ensures { facts_of_kind result [] ≡ directed purpose None }
 {
@@ -78,7 +84,9 @@ fn undirected(purpose: Purpose) -> LineKind
     }
 }
 
-/// Returns the kind of a TAP line that ends in this state. The kept reason is not part of the kind.
+/// Returns the kind of a TAP line that ends in the state `begun`.
+///
+/// The kind of a plan of no tests does not contain the plan's reason.
 pub fn ended(begun: Begun) -> LineKind
     ensures plain { is_reason begun ≡ false → (kept : List ℕ)
         → facts_of_kind result [] ≡ facts_with begun kept [] }
@@ -99,7 +107,7 @@ pub fn ended(begun: Begun) -> LineKind
     }
 }
 
-/// Returns `true` if, in this state, the byte `b` belongs to a reason.
+/// Returns `true` if the byte `b` belongs to a reason after the state `begun`.
 fn is_kept(begun: Begun, b: u8) -> bool
     ensures { result ≡ is_kept begun b }
 {
@@ -110,7 +118,7 @@ fn is_kept(begun: Begun, b: u8) -> bool
     }
 }
 
-/// Returns `true` if the kind of a TAP line is known.
+/// Returns `true` if the kind of a TAP line in the state `begun` is known.
 fn is_decided(begun: Begun) -> bool
     ensures { result ≡ is_decided begun }
 {
@@ -142,8 +150,9 @@ fn take_in(begun: Begun, kept: &mut Vec<u8>, part: &[u8]) -> Result<Begun, NoMem
     Ok(state)
 }
 
-/// Reads the carriage return that was held back, since more of the TAP line follows. Returns the
-/// new state.
+/// Reads the carriage return that was held back, if `held` is `true`, and returns the new state.
+///
+/// The caller has more bytes of the TAP line, so the carriage return is not at its end.
 fn release(begun: Begun, kept: &mut Vec<u8>, held: bool) -> Result<Begun, NoMemory>
     ensures { IfOk result (λ after. (came : List ℕ) → Knows begun kept.old.items held came
         → Released after kept.new.items came) }
@@ -157,7 +166,11 @@ fn release(begun: Begun, kept: &mut Vec<u8>, held: bool) -> Result<Begun, NoMemo
 
 /// Reads the next part of a TAP line, which contains no newline.
 ///
-/// A carriage return at the end of the part is held back.
+/// A carriage return at the end of the part is held back, since it may be at the end of the line.
+///
+/// # Errors
+///
+/// - `NoMemory`: an allocation fails.
 pub fn go_on(line: &mut OpenLine, part: &[u8]) -> Result<(), NoMemory>
     ensures { OnOk result ((came : List ℕ)
         → Knows line.old.begun line.old.kept.items line.old.held came

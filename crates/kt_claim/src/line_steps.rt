@@ -6,7 +6,7 @@ ghost use Rattle.kt_claim.specs.Common.{is_digit, is_blank, directive_in, planne
 use crate::begun::{Begun, Letters, LineKind, Opening, Purpose};
 use kt_base::is_digit;
 
-/// The number of tests that a plan must be less than.
+/// The least number of tests that a plan may not have: a line with this number is not a plan.
 pub const LIMIT: u64 = 1_000_000_000;
 
 /// Returns `true` for a space or a tab.
@@ -16,7 +16,7 @@ pub fn is_blank(b: u8) -> bool
     matches!(b, b' ' | b'\t')
 }
 
-/// Returns the state of a TAP line after its first byte.
+/// Returns the state of a TAP line after its first byte, `b`.
 fn first(b: u8) -> Begun
     ensures facts { (kept more : List ℕ) → facts_with result kept more ≡ facts_of (b ∷ more) }
     ensures plain { is_reason result ≡ false }
@@ -30,7 +30,8 @@ fn first(b: u8) -> Begun
     }
 }
 
-/// Returns the state of a TAP line after the four letters of a directive.
+/// Returns the state of a TAP line after the four letters of a directive, `SKIP` if `is_skip`, else
+/// `TODO`.
 fn found(purpose: Purpose, is_skip: bool) -> Begun
     ensures facts { (kept more : List ℕ) → facts_with result kept more
         ≡ directed purpose (Some (is_skip, reason_of more)) }
@@ -43,7 +44,10 @@ fn found(purpose: Purpose, is_skip: bool) -> Begun
     }
 }
 
-/// Returns the state of a TAP line after the byte `b`, where a directive may begin with a hash.
+/// Returns the state of a TAP line after the byte `b`, where a hash may begin a directive.
+///
+/// `escaped` is `true` if the byte before `b` is a backslash. Then a hash does not begin a
+/// directive.
 fn looking(purpose: Purpose, escaped: bool, b: u8) -> Begun
     ensures facts { (kept more : List ℕ) → facts_with result kept more
         ≡ directed purpose (directive_in escaped (b ∷ more)) }
@@ -72,7 +76,7 @@ fn after_hash(purpose: Purpose, b: u8) -> Begun
     }
 }
 
-/// Returns the next letter of a directive, in lower case.
+/// Returns the letter of a directive that follows `letters`, in lower case.
 fn next_letter(letters: Letters) -> u8
     ensures { result ≡ next_letter letters }
 {
@@ -85,7 +89,7 @@ fn next_letter(letters: Letters) -> u8
     }
 }
 
-/// Returns the state of a TAP line after one more letter of a directive.
+/// Returns the state of a TAP line after `letters` and the next letter of their directive.
 fn more_letters(purpose: Purpose, letters: Letters) -> Begun
     ensures facts { (kept more : List ℕ) → facts_with result kept more ≡ with_letter purpose letters more }
     ensures plain { is_reason result ≡ false }
@@ -100,7 +104,8 @@ fn more_letters(purpose: Purpose, letters: Letters) -> Begun
     }
 }
 
-/// Returns the state of a TAP line after the first letters of a directive and the byte `b`.
+/// Returns the state of a TAP line after `letters`, the first letters of a directive, and the byte
+/// `b`.
 fn after_letters(purpose: Purpose, letters: Letters, b: u8) -> Begun
     ensures facts { (kept more : List ℕ) → facts_with result kept more
         ≡ facts_with (Begun.Lettered purpose letters) kept (b ∷ more) }
@@ -132,7 +137,7 @@ fn hash_of_plan(tests: u64) -> Begun
     }
 }
 
-/// Returns the state of a TAP line after the digits of a plan, blanks if any, and the byte `b`.
+/// Returns the state of a TAP line after a plan of `tests` tests, blanks if any, and the byte `b`.
 fn after_blanks(tests: u64, b: u8) -> Begun
     ensures facts { (kept more : List ℕ) → facts_with result kept more
         ≡ facts_with (Begun.Blanks tests) kept (b ∷ more) }
@@ -147,9 +152,9 @@ fn after_blanks(tests: u64, b: u8) -> Begun
     }
 }
 
-/// Returns the state of a TAP line after one more digit of a plan.
+/// Returns the state of a TAP line after the digits of a plan with the value `value`, and `digit`.
 ///
-/// With 1,000,000,000 tests or more before this digit, the line is not a plan.
+/// If `value` is 1,000,000,000 or more, the line is not a plan.
 fn one_digit_more(value: u64, digit: u64) -> Begun
     requires { digit < 2 ^ 8 }
     ensures facts { (b : ℕ) → is_digit b ≡ true → digit ≡ b - 48 → (kept more : List ℕ)
@@ -164,6 +169,8 @@ fn one_digit_more(value: u64, digit: u64) -> Begun
 }
 
 /// Returns the state of a TAP line after the digit `b` of a plan.
+///
+/// `value` is the value of the digits before `b`, or `None` if `b` is the first digit.
 fn with_digit(value: Option<u64>, b: u8) -> Begun
     ensures facts { is_digit b ≡ true → (kept more : List ℕ)
         → facts_with result kept more ≡ facts_with (Begun.Digits value) kept (b ∷ more) }
@@ -177,6 +184,8 @@ fn with_digit(value: Option<u64>, b: u8) -> Begun
 }
 
 /// Returns the state of a TAP line after `1..`, digits if any, and the byte `b`.
+///
+/// `value` is the value of the digits, or `None` without digits.
 fn after_plan_digits(value: Option<u64>, b: u8) -> Begun
     ensures facts { (kept more : List ℕ) → facts_with result kept more
         ≡ facts_with (Begun.Digits value) kept (b ∷ more) }
@@ -191,7 +200,7 @@ fn after_plan_digits(value: Option<u64>, b: u8) -> Begun
     }
 }
 
-/// Returns the state of a TAP line after a whole opening and the byte `b`.
+/// Returns the state of a TAP line after the complete opening `opening` and the byte `b`.
 fn after_opening(opening: Opening, b: u8) -> Begun
     ensures facts { (kept more : List ℕ) → facts_with result kept more
         ≡ after_opening opening (b ∷ more) }
@@ -206,8 +215,9 @@ fn after_opening(opening: Opening, b: u8) -> Begun
     }
 }
 
-/// Returns the state of a TAP line after the byte `b`, if the bytes `lacks` of the opening are
-/// missing.
+/// Returns the state of a TAP line after a part of its opening and the byte `b`.
+///
+/// `lacks` are the bytes of the opening that are missing before `b`.
 fn opened(opening: Opening, lacks: &'static [u8], b: u8) -> Begun
     ensures facts { (kept more : List ℕ) → facts_with result kept more
         ≡ facts_with (Begun.Opened opening lacks.entry) kept (b ∷ more) }
@@ -220,7 +230,9 @@ fn opened(opening: Opening, lacks: &'static [u8], b: u8) -> Begun
     }
 }
 
-/// Returns the state of a TAP line after one more byte. The caller handles the bytes of a reason.
+/// Returns the state of a TAP line after the byte `b`, if its state before `b` is `begun`.
+///
+/// The caller keeps the bytes of a reason, so `Reason` does not change.
 pub fn step(begun: Begun, b: u8) -> Begun
     ensures facts { is_kept begun b ≡ false → (kept more : List ℕ)
         → facts_with result kept more ≡ facts_with begun kept (b ∷ more) }

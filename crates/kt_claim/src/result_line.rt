@@ -1,4 +1,4 @@
-//! Parses a result file, from left to right.
+//! Parses an ATF result file, from left to right.
 
 ghost use Rattle.std.specs.Prelude.{◌≡◌, ◌≤◌, length, IfOk, option_map};
 ghost use Rattle.std.specs.List.{prefix_len};
@@ -23,7 +23,7 @@ pub enum Word {
     ExpectedSignal,
 }
 
-/// The keywords of result files.
+/// The keywords of result files, with their spellings (atf-test-case(4)).
 const WORDS: [(&str, Word); 8] = [
     ("passed", Word::Passed),
     ("failed", Word::Failed),
@@ -52,7 +52,7 @@ impl Word {
     }
 }
 
-/// Returns the number of lower-case letters and underscores that a text begins with.
+/// Returns the number of letters from a to z and underscores that `text` begins with.
 fn word_length(text: &[u8]) -> usize
     ensures value { result ≡ prefix_len is_word_byte text.now }
     ensures within { result ≤ length text.now }
@@ -62,9 +62,10 @@ fn word_length(text: &[u8]) -> usize
         .count()
 }
 
-/// Parses the number after an opening bracket, if it is at most 255 and a closing bracket follows.
+/// Parses the decimal number that `rest` begins with, and the closing round bracket after it.
 ///
-/// Returns the number and the bytes after the closing bracket.
+/// Returns the number and the bytes after the bracket. The result is `None` if there is no digit,
+/// if the number is greater than 255, or if another byte follows the digits.
 #[tactic(auto, unfolding(crate::specs::Inner::ResultReading::number_in))]
 fn number(rest: &[u8]) -> Option<(u8, &[u8])>
     ensures { option_map (λ x. (x.0, x.1.now)) result ≡ number_in rest.now }
@@ -82,7 +83,9 @@ fn number(rest: &[u8]) -> Option<(u8, &[u8])>
     }
 }
 
-/// Returns the reason after a colon and a space, if there is one.
+/// Returns the reason in `rest`, if `rest` is a colon, a space and a reason.
+///
+/// A reason has one byte or more.
 fn reason(rest: &[u8]) -> Option<&[u8]>
     ensures { option_map (λ x. x.now) result ≡ reason_in rest.now }
 {
@@ -93,7 +96,9 @@ fn reason(rest: &[u8]) -> Option<&[u8]>
     }
 }
 
-/// Creates the claim of a keyword that has no number.
+/// Creates the claim of the keyword `word` with the reason `reason` and without a number.
+///
+/// `Passed` has no reason, so `reason` is dropped.
 fn claim_with(word: Word, reason: Text) -> Claim
     ensures { result ≡ claim_with word reason }
 {
@@ -109,7 +114,9 @@ fn claim_with(word: Word, reason: Text) -> Claim
     }
 }
 
-/// Creates the claim of a keyword that has a number.
+/// Creates the claim of the keyword `word` with the number `number` and the reason `reason`.
+///
+/// The claim is `Malformed(BadNumber)` if the keyword may not have a number.
 fn numbered(word: Word, number: u8, reason: Text) -> Claim
     ensures { result ≡ numbered word number reason }
 {
@@ -120,7 +127,7 @@ fn numbered(word: Word, number: u8, reason: Text) -> Claim
     }
 }
 
-/// Parses the bytes of a result file after a keyword and an opening bracket.
+/// Returns the claim of a line that consists of the keyword `word`, an opening bracket and `rest`.
 fn after_bracket(alloc: Global, word: Word, rest: &[u8]) -> Result<Claim, NoMemory>
     ensures { IfOk result (λ claim. claim ≡ after_bracket word rest.now) }
 {
@@ -137,6 +144,10 @@ fn after_bracket(alloc: Global, word: Word, rest: &[u8]) -> Result<Claim, NoMemo
 }
 
 /// Returns the claim of a result file of at most 65,536 bytes.
+///
+/// # Errors
+///
+/// - `NoMemory`: an allocation fails.
 #[tactic(auto, unfolding(crate::specs::Inner::ResultReading::claim_of, crate::specs::Inner::ResultReading::claim_of_line))]
 pub fn claim_of(alloc: Global, file: &[u8]) -> Result<Claim, NoMemory>
     requires { length file.now ≤ limit }

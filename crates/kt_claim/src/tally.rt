@@ -7,22 +7,22 @@ use crate::{Tap, TapFault};
 use kt_base::{NoMemory, Text, lossy};
 use std::alloc::Global;
 
-/// The counts of the lines of a TAP stream before its first bail out.
+/// A tally of the lines of a TAP stream before its first bail out.
 #[derive(Drop)]
 pub struct Tally {
     /// `true` if a line bails out.
     pub bailed: bool,
-    /// The first plan: the number of tests, and the reason if that number is 0.
+    /// The first plan: the number of tests, and the reason, which is empty unless that number is 0.
     pub plan: Option<(u64, Text)>,
     /// `true` if there is a second plan.
     pub second: bool,
-    /// The number of tests.
+    /// The number of lines that report a test.
     pub tests: u64,
     /// The number of failed tests without a directive.
     pub failures: u64,
 }
 
-/// Returns the reason of a skipped program, or a fixed text if `reason` is empty.
+/// Returns `reason` as a text, or `No reason given` if `reason` is empty.
 fn skip_reason(alloc: Global, reason: &[u8]) -> Result<Text, NoMemory>
     ensures { IfOk result (λ text. text ≡ skip_reason reason.now) }
 {
@@ -32,7 +32,7 @@ fn skip_reason(alloc: Global, reason: &[u8]) -> Result<Text, NoMemory>
     lossy(alloc, reason)
 }
 
-/// Returns the reason of a plan of `tests` tests, which is empty unless `tests` is 0.
+/// Returns the text of `reason` for a plan of no tests, or an empty text for any other plan.
 fn why(alloc: Global, tests: u64, reason: &[u8]) -> Result<Text, NoMemory>
     ensures { IfOk result (λ text. text ≡ why tests reason.now) }
 {
@@ -86,7 +86,7 @@ impl Tally {
         }
     }
 
-    /// Returns the tally with one more failure.
+    /// Returns the tally with one more failed test, which is not added to the number of tests.
     fn with_failure(self) -> Tally
         ensures { self.failures < 2 ^ 32 → result ≡ record self { failures = self.failures + 1 } }
     {
@@ -96,7 +96,9 @@ impl Tally {
         }
     }
 
-    /// Returns the tally with one more plan. Only the first plan is kept.
+    /// Returns the tally with one more plan.
+    ///
+    /// Of a second plan, the tally has only the fact that it exists.
     fn with_plan(self, alloc: Global, tests: u64, reason: &[u8]) -> Result<Tally, NoMemory>
         ensures { IfOk result (λ after. after ≡ with_plan self tests (why tests reason.now)) }
     {
@@ -111,9 +113,13 @@ impl Tally {
         Ok(Tally { plan, ..self })
     }
 
-    /// Returns the tally with one more line of this kind. Lines after a bail out don't count.
+    /// Returns the tally with one more line of the kind `kind`. Lines after a bail out don't count.
     ///
     /// `reason` is the reason of a plan of no tests.
+    ///
+    /// # Errors
+    ///
+    /// - `NoMemory`: an allocation fails.
     pub fn add(self, alloc: Global, kind: LineKind, reason: &[u8]) -> Result<Tally, NoMemory>
         ensures { IfOk result (λ after. (line : List ℕ) (lines : List (List ℕ))
             → facts_of line ≡ facts_of_kind kind reason.now → length lines < 2 ^ 32
@@ -131,7 +137,7 @@ impl Tally {
         }
     }
 
-    /// Returns the result of the lines that were counted.
+    /// Returns the result of a TAP stream with the lines of the tally.
     pub fn tap(self) -> Tap
         ensures { (lines : List (List ℕ)) → IsTally self lines → result ≡ tap_of_lines lines }
     {

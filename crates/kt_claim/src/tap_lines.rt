@@ -11,7 +11,7 @@ use crate::tally::Tally;
 use kt_base::{NoMemory, line_length};
 use std::alloc::Global;
 
-/// Reads the next part of the open line of a TAP stream.
+/// Reads `part`, the next bytes of the open line `line` of a TAP stream.
 fn take_part(line: &mut OpenLine, part: &[u8]) -> Result<(), NoMemory>
     ensures { OnOk result (list_any is_newline part.now ≡ false → (tally : Tally) (fed : List ℕ)
         → HasLines tally (state_of line.old) fed
@@ -21,7 +21,8 @@ fn take_part(line: &mut OpenLine, part: &[u8]) -> Result<(), NoMemory>
     Ok(())
 }
 
-/// Counts the open line of a TAP stream, whose newline was read, and begins the next line.
+/// Adds the open line of a TAP stream, whose newline was read, to the tally, and begins the next
+/// line.
 fn end_line(alloc: Global, tally: Tally, line: &mut OpenLine) -> Result<Tally, NoMemory>
     ensures { IfOk result (λ after. (fed : List ℕ) → length fed < limit
         → HasLines tally (state_of line.old) fed
@@ -34,7 +35,13 @@ fn end_line(alloc: Global, tally: Tally, line: &mut OpenLine) -> Result<Tally, N
     Ok(after)
 }
 
-/// Returns the result of a TAP stream that has ended, after its open line was counted.
+/// Returns the result of a TAP stream that has ended, of which `line` is the last line.
+///
+/// `tally` has the counts of the lines before it.
+///
+/// # Errors
+///
+/// - `NoMemory`: an allocation fails.
 pub fn tap_at_end(alloc: Global, tally: Tally, line: &OpenLine) -> Result<Tap, NoMemory>
     ensures { IfOk result (λ tap. (fed : List ℕ) → length fed ≤ limit
         → HasLines tally (state_of line.now) fed → tap ≡ tap_of_lines (lines_of fed)) }
@@ -43,7 +50,13 @@ pub fn tap_at_end(alloc: Global, tally: Tally, line: &OpenLine) -> Result<Tap, N
     Ok(tally.tap())
 }
 
-/// Counts the lines of a TAP stream that end in a piece, and keeps the state of the open line.
+/// Reads the next piece of a TAP stream, and returns the tally with the lines that end in it.
+///
+/// `line` is the open line before and after the piece.
+///
+/// # Errors
+///
+/// - `NoMemory`: an allocation fails.
 pub fn read(
     alloc: Global,
     tally: Tally,

@@ -1,4 +1,4 @@
--- The facts of an open line, as a function of the bytes that follow.
+-- The facts of an open TAP line, as a function of the bytes that follow.
 use Rattle.std.specs.Prelude.{◌≡◌, ℕ, Bool, true, false, not, ◌&&◌, if◌then◌else◌, List, [], ◌∷◌, ◌++◌, length, drop, codes, Option, Some, None, is_some, option_map}
 use Rattle.kt_claim.specs.Bytes.{is_blank}
 use Rattle.std.specs.Option.{option_or}
@@ -14,18 +14,19 @@ use Rattle.kt_claim.specs.declared.begun.Opening.TheVariants as opening
 use Rattle.kt_claim.specs.declared.begun.Purpose.{Purpose}
 use Rattle.kt_claim.specs.declared.begun.Purpose.TheVariants.{Excuse, Explain}
 
--- `Facts`: the facts of a line that affect the result of a stream.
+-- `Facts`: the facts of a line that affect the result of a stream. It may bail out, be a test, be a
+-- failed test without a directive, and have a plan.
 pub record Facts : Type 0 where
   pub bails : Bool
   pub tests : Bool
   pub fails : Bool
   pub plans : Option (ℕ × List ℕ)
 
--- `facts_of line`: the facts of a whole line.
+-- `facts_of line`: the facts of the line `line`, without its newline and carriage return.
 abbrev pub facts_of : List ℕ → Facts
 facts_of line = record { bails = is_bail line; tests = is_test line; fails = is_unexcused line; plans = plan line }
 
--- `nothing`: the facts of a line that is neither a test nor a plan.
+-- `nothing`: the facts of a line that is neither a bail out, nor a test, nor a plan.
 abbrev pub nothing : Facts
 nothing = record { bails = false; tests = false; fails = false; plans = None }
 
@@ -33,16 +34,17 @@ nothing = record { bails = false; tests = false; fails = false; plans = None }
 abbrev pub bailing : Facts
 bailing = record { bails = true; tests = false; fails = false; plans = None }
 
--- `testing tests fails`: the facts of a line that may be a test, and may be a failure.
+-- `testing tests fails`: the facts of a line that is a test if `tests`, and a failed test without a
+-- directive if `fails`.
 abbrev pub testing : Bool → Bool → Facts
 testing tests fails = record { bails = false; tests = tests; fails = fails; plans = None }
 
--- `planning plans`: the facts of a line that may be a plan.
+-- `planning plans`: the facts of a line with the plan `plans`, if any.
 abbrev pub planning : Option (ℕ × List ℕ) → Facts
 planning plans = record { bails = false; tests = false; fails = false; plans = plans }
 
--- `facts_of_kind kind reason`: the facts of a line of this kind. A plan of no tests has this
--- reason.
+-- `facts_of_kind kind reason`: the facts of a line of the kind `kind`. A plan of no tests has the
+-- reason `reason`.
 abbrev pub facts_of_kind : LineKind → List ℕ → Facts
 facts_of_kind kind.Other reason = nothing
 facts_of_kind kind.Bail reason = bailing
@@ -50,20 +52,22 @@ facts_of_kind kind.Test reason = testing true false
 facts_of_kind kind.Failure reason = testing true true
 facts_of_kind (kind.Plan n) reason = planning (Some (plan_for reason n))
 
--- `after_opening o more`: the facts of a line of the opening `o` and `more`.
+-- `after_opening o more`: the facts of a line that consists of the opening `o` and the bytes
+-- `more`.
 abbrev pub after_opening : Opening → List ℕ → Facts
 after_opening opening.BailOut more = bailing
 after_opening opening.Ok more = testing (is_gap more) false
 after_opening opening.NotOk more = testing (is_gap more) (is_gap more && not (is_some (directive_in false more)))
 after_opening opening.Plan more = planning (option_map (plan_for (skips (directive_in false more))) (planned_from None more))
 
--- `opened o whole more`: the facts of a line with the opening `o`, if the opening is `whole`.
+-- `opened o whole more`: the facts of a line of the opening `o` and the bytes `more` if `whole` is
+-- true. Otherwise, the opening is incomplete, and the line has no facts.
 abbrev pub opened : Opening → Bool → List ℕ → Facts
 opened o false more = nothing
 opened o true more = after_opening o more
 
--- `directed purpose found`: the facts of a failed test, or of a plan of no tests, with this
--- directive.
+-- `directed purpose found`: the facts of a failed test (`Excuse`) or of a plan of no tests
+-- (`Explain`) with the directive `found`, if any.
 abbrev pub directed : Purpose → Option Directive → Facts
 directed Excuse found = testing true (not (is_some found))
 directed Explain found = planning (Some (0, skip_reason (skips found)))
@@ -84,12 +88,12 @@ is_skip Sk = true
 is_skip Ski = true
 is_skip _ = false
 
--- `begun_directive l more`: the directive of the letters `l` and `more`, if they spell a directive.
+-- `begun_directive l more`: the directive that the letters `l` and then `more` begin with, if any.
 abbrev pub begun_directive : Letters → List ℕ → Option Directive
 begun_directive l more = if says (lacking l) more then Some (is_skip l, reason_of (drop (length (lacking l)) more)) else None
 
--- `facts_with begun kept more`: the facts of an open line if the bytes `more` follow. `kept` is the
--- reason read so far.
+-- `facts_with begun kept more`: the facts of a line in the state `begun` that ends after the
+-- further bytes `more`. `kept` is the reason read so far.
 abbrev pub facts_with : Begun → List ℕ → List ℕ → Facts
 facts_with begun.Nothing kept more = facts_of more
 facts_with (begun.Opened o lacks) kept more = opened o (begins lacks.now more) (drop (length lacks.now) more)
@@ -104,18 +108,18 @@ facts_with begun.Gap kept more = planning (Some (0, skip_reason (trimmed (past i
 facts_with begun.Reason kept more = planning (Some (0, skip_reason (trimmed (kept ++ more))))
 facts_with (begun.Decided k) kept more = facts_of_kind k []
 
--- `is_kept begun b`: in this state, the byte `b` belongs to a reason.
+-- `is_kept begun b`: the byte `b` belongs to a reason after the state `begun`.
 abbrev pub is_kept : Begun → ℕ → Bool
 is_kept begun.Reason b = true
 is_kept begun.Gap b = not (is_blank b)
 is_kept _ b = false
 
--- `is_reason begun`: in this state, the reason of a plan of no tests is being read.
+-- `is_reason begun`: bytes of the reason of a plan of no tests were read in the state `begun`.
 abbrev pub is_reason : Begun → Bool
 is_reason begun.Reason = true
 is_reason _ = false
 
--- `is_decided begun`: in this state, the bytes that follow don't count.
+-- `is_decided begun`: the bytes after the state `begun` don't affect the facts of the line.
 abbrev pub is_decided : Begun → Bool
 is_decided (begun.Decided k) = true
 is_decided _ = false
@@ -125,28 +129,30 @@ abbrev pub KeepsIf : Bool → List ℕ → Type 0
 KeepsIf true kept = Unit {0}
 KeepsIf false kept = kept ≡ []
 
--- `KeepsFor begun kept`: bytes are kept only of the reason of a plan of no tests.
+-- `KeepsFor begun kept`: `kept` is empty, unless bytes of a reason were read in the state `begun`.
 abbrev pub KeepsFor : Begun → List ℕ → Type 0
 KeepsFor begun kept = KeepsIf (is_reason begun) kept
 
--- `held_before held more`: `more`, after a carriage return if one was held back.
+-- `held_before held more`: `more`, after a carriage return if `held` is true.
 abbrev pub held_before : Bool → List ℕ → List ℕ
 held_before false more = more
 held_before true more = 13 ∷ more
 
--- `LineState`: the state of an open line.
+-- `LineState`: the state of an open line: the state of the reader, the kept bytes of a reason, and
+-- whether a carriage return is held back.
 pub record LineState : Type 0 where
   pub begun : Begun
   pub kept : List ℕ
   pub held : Bool
 
--- `Knows begun kept held came`: the state represents a line of which the bytes `came` were read.
+-- `Knows begun kept held came`: the state `begun`, `kept` and `held` gives the facts of a line of
+-- which the bytes `came` were read, for any bytes that follow.
 pub record Knows (begun : Begun) (kept : List ℕ) (held : Bool) (came : List ℕ) : Type 0 where
   pub keeps : KeepsFor begun kept
   pub tells : (more : List ℕ) → facts_of (without_return (came ++ more)) ≡ facts_with begun kept (without_return (held_before held more))
 
--- `Released begun kept came`: the state represents the bytes `came` with none held back, and more
--- of the line follows.
+-- `Released begun kept came`: the state `begun` and `kept` gives the facts of a line of which the
+-- bytes `came` were read, if more bytes follow. No carriage return is held back.
 pub record Released (begun : Begun) (kept came : List ℕ) : Type 0 where
   pub keeps : KeepsFor begun kept
   pub tells : (b : ℕ) (more : List ℕ) → facts_of (without_return (came ++ b ∷ more)) ≡ facts_with begun kept (without_return (b ∷ more))
@@ -160,8 +166,8 @@ next_letter S = 107
 next_letter Sk = 105
 next_letter Ski = 112
 
--- `with_letter purpose l more`: the facts after the letters `l` and their next letter, if `more`
--- follows.
+-- `with_letter purpose l more`: the facts of a line after the letters `l` and their next letter, if
+-- the line ends after `more`.
 abbrev pub with_letter : Purpose → Letters → List ℕ → Facts
 with_letter purpose T more = directed purpose (option_or (begun_directive To more) (directive_in false more))
 with_letter purpose To more = directed purpose (option_or (begun_directive Tod more) (directive_in false more))

@@ -1,4 +1,4 @@
--- The state of a reader of a TAP stream.
+-- The tally and the open line of a reader of a TAP stream.
 use Rattle.std.specs.Prelude.{◌≡◌, ℕ, ◌+◌, ◌≤◌, Bool, true, false, if◌then◌else◌, List, [], ◌∷◌, ◌++◌, map, length, Option, Some, None, is_some}
 use Rattle.std.specs.List.{list_any, filter_map}
 use Rattle.kt_base.specs.Lines.{is_newline, lines}
@@ -12,17 +12,18 @@ abbrev pub one : Bool → ℕ
 one true = 1
 one false = 0
 
--- `first list`: the first item of a list, if there is one.
+-- `first list`: the first item of `list`, or `None` if `list` is empty.
 abbrev pub first : {T : Type 0} → List T → Option T
 first [] = None
 first (x ∷ xs) = Some x
 
--- `has_second list`: a list has two items or more.
+-- `has_second list`: `list` has two items or more.
 abbrev pub has_second : {T : Type 0} → List T → Bool
 has_second (x ∷ y ∷ xs) = true
 has_second _ = false
 
--- `IsTally tally lines`: `tally` has the counts of `lines`.
+-- `IsTally tally lines`: `tally` has the counts and plans of `lines` before the first bail out, and
+-- the fact whether a line bails out.
 pub record IsTally (tally : Tally) (lines : List (List ℕ)) : Type 0 where
   pub bailed : tally.bailed ≡ list_any is_bail lines
   pub planned : tally.plan ≡ first (filter_map plan (heard lines))
@@ -30,12 +31,12 @@ pub record IsTally (tally : Tally) (lines : List (List ℕ)) : Type 0 where
   pub tests : tally.tests ≡ count is_test (heard lines)
   pub failures : tally.failures ≡ count is_unexcused (heard lines)
 
--- `state_of line`: the state of an open line as a reader stores it.
+-- `state_of line`: the state of the open line `line`, with its kept bytes as a list.
 abbrev pub state_of : OpenLine → LineState
 state_of line = record { begun = line.begun; kept = line.kept.items; held = line.held }
 
--- `HasLines tally line fed`: `fed` is whole lines with the counts of `tally`, then an open line in
--- the state `line`.
+-- `HasLines tally line fed`: `fed` is complete lines with the counts of `tally`, then an open line
+-- in the state `line`.
 pub record HasLines (tally : Tally) (line : LineState) (fed : List ℕ) : Type 0 where
   pub whole : List (List ℕ)
   pub open_line : List ℕ
@@ -45,6 +46,7 @@ pub record HasLines (tally : Tally) (line : LineState) (fed : List ℕ) : Type 0
   pub fits : length whole + length open_line ≤ length fed
   pub known : Knows line.begun line.kept line.held open_line
 
--- `with_plan tally tests reason`: `tally` with one more plan. Only the first plan is kept.
+-- `with_plan tally tests reason`: `tally` with one more plan, of `tests` tests with the reason
+-- `reason`. A plan after the first only sets `second`.
 abbrev pub with_plan : Tally → ℕ → List ℕ → Tally
 with_plan tally tests reason = if is_some tally.plan then record tally { second = true } else record tally { plan = Some (tests, reason) }
