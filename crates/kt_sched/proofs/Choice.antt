@@ -60,7 +60,7 @@ module _ {plan : List Job} {n : ℕ} {fed : Fed} {b : SchedState} (h : Stands pl
           let u = upcoming h job.position r s (h.puts.failed ∙ f, at_turn h b.turn job g, room.0, room.1) in
           absurd (cc (ap is_some (ap (λ (j : Job). j.decided) (same_Some job u.0.job (sym g ∙ u.0.turn)) ∙ u.3), d))
 
-  -- The next put is that of the ready case, or else of the first open case.
+  -- The next put is the put of the ready case, or else of the first open case.
   put_at : (rest : List ℕ) → has_failed fed ≡ false → option_to_list b.ready ++ positions (opened plan n fed.trace b.turn) ≡ rest
       → slice_get (recorded plan n fed.trace) fed.stored ≡ slice_get rest 0
   put_at rest f e = slice_get-drop (recorded plan n fed.trace) fed.stored ∙ ap (λ (xs : List ℕ). slice_get xs 0) (h.puts.ready f ∙ e)

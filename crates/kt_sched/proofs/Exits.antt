@@ -43,7 +43,7 @@ module _ {L S : Type 0} {l : launcher.Ghosts L} {s : sink.Ghosts S} {plan : List
   f : Follows plan n fed next.Done
   f = after_done plan n fed k.stands
 
-  -- The entries that the sink gained, and the facts of the exit, make `Ran`.
+  -- If `EndsAs` holds of the entries that the sink gained, `Ran` holds.
   ran : {fault : Option SinkFault} (g : Gained s plan n fed totals fault before after) (result : Result Totals RunFault)
       → EndsAs s.puts plan n T g.gained before after result → Ran l s plan n old mid before after result
   ran g result ends = record {

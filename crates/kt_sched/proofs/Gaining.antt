@@ -39,7 +39,7 @@ due_put k jobs j p g = ap (λ (q : Due). q.after) (sym (mapped_at (due_of k) job
 abbrev added : List Job → ℕ → Trace → Event → List Due
 added plan n T e = put_at (event_count (Then T e)) (finished_by plan T e) ++ put_at (event_count (Then T e)) (filter (opens_now plan n T e) (turns plan))
 
--- An event `e` of a case whose history isn't whole.
+-- Lemmas for an event `e` of a case whose history isn't whole.
 module _ (plan : List Job) (T : Trace) (e : Event) (h : NotWhole plan T (position_of e)) where
   entry_stays : (p : ℕ) (x : Entry) → IsEntryOf plan T p x → (p ≡ position_of e) ⊎ (p ≢ position_of e) → IsEntryOf plan (Then T e) p x
   entry_stays p x w (inl q) = absurd (cc (h w.job (ap (slice_get plan) (sym q) ∙ w.place), ap (λ j. is_whole w.job (history j T)) (sym q) ∙ w.whole))
@@ -68,8 +68,9 @@ abbrev pub GainsUpTo : {S : Type 0} → (S → Entry → Result (Unit {0}) SinkF
 GainsUpTo puts plan n fed gained None before after = (fed.stopped ≡ None) × Gains puts gained before after × AreDue plan n fed
 GainsUpTo puts plan n fed gained (Some fault) before after = (f : FailedPut puts plan n fed.trace gained fault before after) × (fed.stopped ≡ Some f.next.after)
 
--- `Gained s plan n fed totals fault before after`: the sink gained these entries so far, with these
--- totals.
+-- `Gained s plan n fed totals fault before after`: the puts of `fed` led the sink from `before` to
+-- `after`. `totals` counts the gained entries, and `fault` is the error of the last put, if it
+-- failed.
 pub record Gained {S : Type 0} (s : sink.Ghosts S) (plan : List Job) (n : ℕ) (fed : Fed) (totals : Totals) (fault : Option SinkFault)
     (before after : S) : Type 0 where
   pub gained : List Entry
@@ -151,7 +152,7 @@ four_calls plan T p h b i = elim (cases_lt i (length plan)) [
   | inr l ↦ omega (arith, ap (λ (es : List Event). length es) (b i l))
 ]
 
--- If every history is whole and every decided case was open, each case is named once.
+-- If every history is whole and every decided case was open, the record order has each case once.
 pub named_once : {plan : List Job} (n : ℕ) (T : Trace) → IsPlan plan → list_all (has_whole_history T) plan ≡ true → WereOpen plan n T → Recorded plan n T
     → NamesEachOnce plan (recorded plan n T)
 named_once {plan} n T p w o r = names_once n T p r done

@@ -20,8 +20,8 @@ pub record AtTurn (plan : List Job) (fed : Fed) (b : SchedState) (i : ℕ) : Typ
   pub fresh : is_fresh case.stage ≡ true
   pub kept : case.job ≡ job
 
--- `Located plan T i was had`: case `i` has this job in the plan, and its stage `was` represents its
--- events.
+-- `Located plan T i was had`: case `i` is in the plan, and its stage `was` represents its events in
+-- the trace `T`. `had` is its job unless its entry was taken.
 pub record Located (plan : List Job) (T : Trace) (i : ℕ) (was : Stage) (had : Job) : Type 0 where
   pub job : Job
   pub place : slice_get plan i ≡ Some job
@@ -94,11 +94,11 @@ module _ {plan : List Job} {n : ℕ} {fed : Fed} {b : SchedState} (h : Stands pl
       each : (i : ℕ) (job : Job) (c : Case) → slice_get plan i ≡ Some job → slice_get b.cases i ≡ Some c → is_active fed.trace job ≡ is_active_stage c.stage
       each i job c g k = (says_at i job g).active ∙ ap (λ (d : Case). is_active_stage d.stage) (same_Some _ _ (sym (h.cases.each i job g).found ∙ k))
 
-  -- If that number is 0, no case is active.
+  -- If the state's number of active cases is 0, no case is active.
   pub inactive : (k : ℕ) (c : Case) → b.active ≡ 0 → slice_get b.cases k ≡ Some c → is_active_stage c.stage ≡ false
   inactive k c a g = counted_none (λ (d : Case). is_active_stage d.stage) b.cases k c (sym h.cases.active ∙ a) g
 
-  -- If a case is active, that number is positive.
+  -- If a case is active, the state's number of active cases is positive.
   pub some_active : (i : ℕ) (c : Case) → slice_get b.cases i ≡ Some c → is_active_stage c.stage ≡ true → 0 < b.active
   some_active i c g e = omega (arith, h.cases.active, counted_one (λ (d : Case). is_active_stage d.stage) b.cases i c g e)
 

@@ -13,8 +13,9 @@ use Rattle.kt_sched.proofs.Once.{recorded_first, recorded_most}
 use Rattle.std.proofs.lemmas.Option.{same_Some}
 use Rattle.kt_base.proofs.Lists.{same_number}
 
--- `Loop l s plan n old before sched new after totals fault`: the scheduler, the launcher and the
--- sink represent the same responses.
+-- `Loop l s plan n old before sched new after totals fault`: the invariant of the run loop. The
+-- scheduler `sched`, the launcher (from `old` to `new`) and the sink (from `before` to `after`)
+-- represent equal responses.
 pub record Loop {L S : Type 0} (l : launcher.Ghosts L) (s : sink.Ghosts S) (plan : List Job) (n : ℕ) (old : L) (before : S) (sched : SchedState) (new : L)
     (after : S) (totals : Totals) (fault : Option SinkFault) : Type 0 where
   pub fed : Fed

@@ -82,7 +82,7 @@ count_all : {X : Type 0} (xs : List X) → count_by (λ (x : X). true) xs ≡ le
 count_all [] = refl
 count_all {X} (x ∷ xs) = omega (arith, count-cons (λ (y : X). true) x xs, count_all xs)
 
--- There are at most as many records as cases.
+-- The record order has at most as many positions as the plan has cases.
 pub recorded_most : (plan : List Job) (n : ℕ) (T : Trace) → Recorded plan n T → length (recorded plan n T) ≤ length plan
 recorded_most plan n T r = omega (arith, count_all (recorded plan n T), r (λ i. true), count_by-le-length (λ (job : Job). true && is_done plan n T job) plan)
 

@@ -79,7 +79,7 @@ module _ {plan : List Job} {n : ℕ} {fed : Fed} {b : SchedState} {i : ℕ} (h :
       run : opened plan n fed.trace b.turn ≡ a.job ∷ opened plan n fed.trace (b.turn + 1)
       run = ap (filter (is_open plan n fed.trace)) (drop_at (turns plan) b.turn a.job a.turn) ∙ rw ripe.2 refl
 
--- The state represents the responses with that of the put.
+-- The state after the response to a put represents the responses with this response.
 pub put : {plan : List Job} {n : ℕ} {fed : Fed} {b : SchedState} → Stands plan n fed b → (i : ℕ) → b.asked ≡ next.Put i → (failed : Bool)
     → Stands plan n (after_put fed failed) (record b { ready = None; asked = next.Done; failed = failed })
 put h i q true = record {

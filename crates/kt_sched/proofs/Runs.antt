@@ -13,7 +13,7 @@ child_at plan k = option_map child_of (slice_get plan k)
 abbrev pub running_of : List Job → Trace → ℕ → Role → Option Child
 running_of plan T k r = if runs k r T then child_at plan k else None
 
--- `history_before role`: the history of a case before the start of this role.
+-- `history_before role`: the history of a case before the start of its child in the role `role`.
 abbrev pub history_before : Role → List Mark
 history_before Body = []
 history_before Cleanup = BodyStarted ∷ BodyEnded ∷ []
@@ -27,7 +27,8 @@ while_runs Body (BodyStarted ∷ []) h = refl
 while_runs Cleanup (BodyStarted ∷ BodyEnded ∷ CleanupStarted ∷ []) h = refl
 while_runs role w h = absurd (cc)
 
--- `runs_by plan i r w`: the child of case `i` that runs in the role `r`, by the history `w`.
+-- `runs_by plan i r w`: the child of case `i` that runs in the role `r` after the history `w`, if
+-- any.
 abbrev runs_by : List Job → ℕ → Role → List Mark → Option Child
 runs_by plan i r w = if role_runs r w then child_at plan i else None
 
@@ -118,7 +119,7 @@ runs_true plan T i r child g = by (runs i r T) (slice_get plan i) refl refl g
     by true (Some job) e q h = (e, (job, q, cc))
     by b o e q h = absurd (cc)
 
--- `up_to stopped T`: the events up to a failed put, or all events.
+-- `up_to stopped T`: the first `stopped` events of `T`, or all events if no put failed.
 abbrev pub up_to : Option ℕ → Trace → Trace
 up_to None T = T
 up_to (Some k) T = first k T
@@ -171,8 +172,8 @@ pub record Going {L : Type 0} (l : launcher.Ghosts L) (plan : List Job) (n : ℕ
   pub owes : (k : ℕ) → l.pending new k ≡ is_owed (owed plan T) k
   pub rules : Each (Fair plan n) T
 
--- `Startable running pending plan n fed i role`: the facts if the start of case `i` in this role is
--- next.
+-- `Startable running pending plan n fed i role`: the start of case `i` in the role `role`, the next
+-- step after `fed`, meets the launcher's conditions and the rules of the schedule.
 pub record Startable (running : ℕ → Role → Option Child) (pending : ℕ → Bool) (plan : List Job) (n : ℕ) (fed : Fed) (i : ℕ) (role : Role) : Type 0 where
   pub may : MayStart running pending i role
   pub now : MayStartNow plan fed.trace i role

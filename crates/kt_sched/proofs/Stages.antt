@@ -125,7 +125,7 @@ cleanup_runs : (r : Role) (b : EndedBody) → stage_runs r (Cleaning b) ≡ true
 cleanup_runs Body b h = absurd (cc)
 cleanup_runs Cleanup b h = refl
 
--- The cleanup owed after an event is that of the event's case.
+-- The cleanup owed after an event is the cleanup of the event's case.
 pub owed_moves : (plan : List Job) (T : Trace) (job : Job) (was : Stage) (e : Event) (now : Stage) → slice_get plan (position_of e) ≡ Some job
     → IsAfter job.cleanup was e now → owed plan (Then T e) ≡ owing_at now (position_of e)
 owed_moves plan T job Waiting (Start i Body (start.Started m)) (Running k) g h = refl

@@ -10,7 +10,8 @@ use Rattle.kt_sched.proofs.Upcoming.{upcoming}
 use Rattle.kt_sched.proofs.EventSteps.{After, AskedFor, OwedBy, after_event, event_taken}
 use Rattle.std.proofs.lemmas.Option.{same_Some}
 
--- `StartFits b role was`: a case in the stage `was` can be started in this role, and counted.
+-- `StartFits b role was`: a case in the stage `was` can be started in the role `role`, and its
+-- start can be counted in the state `b`.
 pub record StartFits (b : SchedState) (role : Role) (was : Stage) : Type 0 where
   pub can : can_start role was ≡ true
   pub ran : is_active_stage was ≡ same_role role Cleanup

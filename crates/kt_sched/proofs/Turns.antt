@@ -62,7 +62,7 @@ turn_covers plan h i job g =
     let e : w.1.position ≡ job.position = grind (arith, nat_tests, w.3) in
     (w.0, w.2 ∙ (sym (turn_inside plan h w.0 w.1 w.2) ∙ (ap (slice_get plan) (e ∙ h i job g) ∙ g)))
 
--- An event is added to the events of its case, and to those of no other case.
+-- An event is added to the events of its case, and to the events of no other case.
 pub of_same : (i : ℕ) (T : Trace) (e : Event) → position_of e ≡ i → of i (Then T e) ≡ of i T ++ e ∷ []
 of_same i T e h = rw (h, same_number i) refl
 

@@ -26,7 +26,7 @@ module _ {plan : List Job} {n : ℕ} {fed : Fed} {b : SchedState} (h : Stands pl
       h.turn.starts
       ∙ ap positions (sym (ap (λ k. take k (undecided_turns plan)) as_many ∙ (ap (take (length begun)) in_parts ∙ take-append_seam begun left)))
 
-  -- The next body to start is that of the first undecided case from the turn on.
+  -- The next body to start is the body of the first undecided case from the turn on.
   pub next_is : next_to_start plan fed.trace ≡ slice_get left 0
   next_is =
       ap (slice_get (undecided_turns plan)) as_many ∙ (ap (λ (zs : List Job). slice_get zs (length begun)) in_parts

@@ -1,4 +1,5 @@
--- The running children of a launcher, and its pending cleanups.
+-- The running children of a launcher, and its pending cleanups: those whose start is to be
+-- requested.
 use Rattle.std.specs.Prelude.{ℕ, Bool, true, false, ◌==◌, ◌&&◌, ◌≡◌, Option, Some, None, ⊤, if◌then◌else◌}
 use Rattle.kt_sched.specs.Types.{Body, Cleanup, Ended, Job, Refused, Role, StartAnswer, Started}
 use Rattle.kt_base.specs.declared.child.Interface.{Interface}
@@ -6,17 +7,17 @@ use Rattle.kt_base.specs.declared.child.Interface.TheVariants as interface
 use Rattle.kt_claim.specs.declared.evidence.Evidence.{Evidence}
 use Rattle.kt_claim.specs.declared.evidence.Evidence.TheVariants as evidence
 
--- `Child`: the facts that a launcher shows of a running child.
+-- `Child`: a running child: the interface of its program, and whether its case declares a cleanup.
 pub record Child : Type 0 where
   pub interface : Interface
   pub cleanup : Bool
 
--- `child_of job`: the facts that a launcher shows of a job's child.
+-- `child_of job`: the child of `job`.
 abbrev pub child_of : Job → Child
 child_of job = record { interface = job.interface; cleanup = job.cleanup }
 
--- `IsEvidence interface role evidence`: a body of this interface leaves this kind of evidence. A
--- cleanup leaves `Plain`.
+-- `IsEvidence interface role evidence`: `evidence` is of the kind that a body of the interface
+-- `interface` leaves. A cleanup leaves `Plain`.
 abbrev pub IsEvidence : Interface → Role → Evidence → Type 0
 IsEvidence interface.Atf Body (evidence.Atf claim) = ⊤
 IsEvidence interface.Tap Body (evidence.Tap tap) = ⊤
@@ -24,41 +25,43 @@ IsEvidence interface.Plain Body evidence.Plain = ⊤
 IsEvidence kind Cleanup evidence.Plain = ⊤
 IsEvidence kind role other = ⊥
 
--- `same_role role other`: the two roles are equal.
+-- `same_role role other`: `role` and `other` are equal.
 abbrev pub same_role : Role → Role → Bool
 same_role Body Body = true
 same_role Cleanup Cleanup = true
 same_role one other = false
 
--- `MayStart running pending i role`: a body may start if its case neither runs nor is pending, and
--- a cleanup if its case is pending.
+-- `MayStart running pending i role`: the child of case `i` in the role `role` may start. A body may
+-- start if its case neither runs nor is pending, and a cleanup if its case is pending.
 abbrev pub MayStart : (ℕ → Role → Option Child) → (ℕ → Bool) → ℕ → Role → Type 0
 MayStart running pending i Body = (running i Body ≡ None) × (running i Cleanup ≡ None) × (pending i ≡ false)
 MayStart running pending i Cleanup = pending i ≡ true
 
--- `running_after_start running job role answer k r`: the child that runs after this start. A
--- started child runs.
+-- `running_after_start running job role answer k r`: the running child of case `k` in the role `r`,
+-- if any, after the response `answer` to the start of `job` in the role `role`. `running` are the
+-- running children before.
 abbrev pub running_after_start : (ℕ → Role → Option Child) → Job → Role → StartAnswer → ℕ → Role → Option Child
 running_after_start running job role (Started moment) k r = if k == job.position && same_role r role then Some (child_of job) else running k r
 running_after_start running job role (Refused cause) k r = running k r
 
--- `pending_after_start pending i role k`: after this start, the cleanup of case `k` is pending. A
--- cleanup is not pending after its start, even if that was refused.
+-- `pending_after_start pending i role k`: the cleanup of case `k` is pending after a start of case
+-- `i` in the role `role`. A cleanup is not pending after its start, even if the launcher refused
+-- it.
 abbrev pub pending_after_start : (ℕ → Bool) → ℕ → Role → ℕ → Bool
 pending_after_start pending i Body k = pending k
 pending_after_start pending i Cleanup k = if k == i then false else pending k
 
--- `running_after_end running e k r`: the child that runs after the end `e`. The child that ended
--- doesn't run.
+-- `running_after_end running e k r`: the running child of case `k` in the role `r`, if any, after
+-- the end `e`. The child that ended doesn't run.
 abbrev pub running_after_end : (ℕ → Role → Option Child) → Ended → ℕ → Role → Option Child
 running_after_end running e k r = if k == e.position && same_role r e.role then None else running k r
 
--- `with_cleanup_declared child`: the child declares a cleanup.
+-- `with_cleanup_declared child`: `child` exists, and its case declares a cleanup.
 abbrev pub with_cleanup_declared : Option Child → Bool
 with_cleanup_declared None = false
 with_cleanup_declared (Some child) = child.cleanup
 
--- `pending_after_end running pending e k`: after the end `e`, the cleanup of case `k` is pending.
+-- `pending_after_end running pending e k`: the cleanup of case `k` is pending after the end `e`.
 -- The end of a body makes its declared cleanup pending.
 abbrev pub pending_after_end : (ℕ → Role → Option Child) → (ℕ → Bool) → Ended → ℕ → Bool
 pending_after_end running pending e k =

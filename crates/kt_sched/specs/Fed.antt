@@ -6,8 +6,8 @@ use Rattle.kt_sched.specs.declared.next.Answer.TheVariants as answer
 use Rattle.kt_sched.specs.Trace.{Start, End, Trace, NoEvent, Then, event_count}
 use Rattle.kt_sched.specs.History.{Mark, BodyStarted, BodyEnded, CleanupStarted, history}
 
--- `Fed`: the responses so far: those of the launcher, the number of stored entries, and the number
--- of events before a failed put.
+-- `Fed`: the responses so far: the trace of the launcher, and the number of stored entries. If a
+-- put failed, `stopped` is the number of events before this put.
 pub record Fed : Type 0 where
   pub trace : Trace
   pub stored : ℕ
@@ -17,11 +17,11 @@ pub record Fed : Type 0 where
 abbrev pub nothing_fed : Fed
 nothing_fed = record { trace = NoEvent; stored = 0; stopped = None }
 
--- `has_failed fed`: a put failed.
+-- `has_failed fed`: one of the responses `fed` is a failed put.
 abbrev pub has_failed : Fed → Bool
 has_failed fed = is_some fed.stopped
 
--- `fed_after fed asked answer`: the responses `fed` with one more, to the step `asked`.
+-- `fed_after fed asked answer`: the responses `fed` with the response `answer` to the step `asked`.
 abbrev pub fed_after : Fed → Next → Answer → Fed
 fed_after fed (next.Start i role) (answer.Started moment) = record fed { trace = Then fed.trace (Start i role (Started moment)) }
 fed_after fed (next.Start i role) (answer.Refused cause) = record fed { trace = Then fed.trace (Start i role (Refused cause)) }
@@ -30,18 +30,19 @@ fed_after fed (next.Put i) answer.Stored = record fed { stored = fed.stored + 1 
 fed_after fed (next.Put i) answer.StoreFailed = record fed { stopped = Some (event_count fed.trace) }
 fed_after fed asked other = fed
 
--- `role_runs role history`: after this history of a case, its child in this role runs.
+-- `role_runs role history`: the child of a case in the role `role` runs after the history
+-- `history`.
 abbrev pub role_runs : Role → List Mark → Bool
 role_runs Body (BodyStarted ∷ []) = true
 role_runs Cleanup (BodyStarted ∷ BodyEnded ∷ CleanupStarted ∷ []) = true
 role_runs role other = false
 
--- `runs i role T`: after the events `T`, the child of case `i` in this role runs.
+-- `runs i role T`: the child of case `i` in the role `role` runs after the events `T`.
 abbrev pub runs : ℕ → Role → Trace → Bool
 runs i role T = role_runs role (history i T)
 
--- `IsAnswerTo T asked answer`: the response fits the step `asked`. An end is the end of a running
--- child.
+-- `IsAnswerTo T asked answer`: `answer` is a possible response to the step `asked` after the events
+-- `T`. An end is the end of a running child.
 abbrev pub IsAnswerTo : Trace → Next → Answer → Type 0
 IsAnswerTo T (next.Start i role) (answer.Started moment) = ⊤
 IsAnswerTo T (next.Start i role) (answer.Refused cause) = ⊤

@@ -1,10 +1,11 @@
--- Histories: the kinds of the events of one case, and the histories that are whole.
+-- Histories: the kinds of the events of one case, in order.
 use Rattle.std.specs.Prelude.{ℕ, Bool, true, false, List, [], ◌∷◌, ◌&&◌, not, map, count_by, is_some, is_none}
 use Rattle.std.specs.List.{list_any}
 use Rattle.kt_sched.specs.Types.{Body, Cleanup, Job, Refused, Role, Started}
 use Rattle.kt_sched.specs.Trace.{Event, Start, End, Trace, of}
 
--- `Mark`: the kind of an event.
+-- `Mark`: the kind of an event of a case: a start, a refused start or an end, of its body or its
+-- cleanup.
 pub data Mark : Type 0 where
   BodyStarted : Mark
   BodyRefused : Mark
@@ -13,12 +14,12 @@ pub data Mark : Type 0 where
   CleanupRefused : Mark
   CleanupEnded : Mark
 
--- `end_mark role`: the kind of the end of a child in this role.
+-- `end_mark role`: the kind of the end of a child in the role `role`.
 abbrev pub end_mark : Role → Mark
 end_mark Body = BodyEnded
 end_mark Cleanup = CleanupEnded
 
--- `mark_of event`: the kind of this event.
+-- `mark_of event`: the kind of `event`.
 abbrev pub mark_of : Event → Mark
 mark_of (Start i Body (Started moment)) = BodyStarted
 mark_of (Start i Body (Refused cause)) = BodyRefused
@@ -26,12 +27,12 @@ mark_of (Start i Cleanup (Started moment)) = CleanupStarted
 mark_of (Start i Cleanup (Refused cause)) = CleanupRefused
 mark_of (End ended) = end_mark ended.role
 
--- `history i T`: the kinds of the events of case `i`, in order.
+-- `history i T`: the kinds of the events of case `i` in the trace `T`, in order.
 abbrev pub history : ℕ → Trace → List Mark
 history i T = map mark_of (of i T)
 
--- `is_whole job history`: the history of the job's case is whole: no more events of the case
--- follow.
+-- `is_whole job history`: `history` is a whole history of the job's case: no more events of the
+-- case follow.
 abbrev pub is_whole : Job → List Mark → Bool
 is_whole job [] = is_some job.decided
 is_whole job (BodyRefused ∷ []) = is_none job.decided
@@ -40,7 +41,7 @@ is_whole job (BodyStarted ∷ BodyEnded ∷ CleanupRefused ∷ []) = is_none job
 is_whole job (BodyStarted ∷ BodyEnded ∷ CleanupStarted ∷ CleanupEnded ∷ []) = is_none job.decided && job.cleanup
 is_whole job other = false
 
--- `is_body_started mark`: the event is the start of a body.
+-- `is_body_started mark`: `mark` is the start of a body.
 abbrev pub is_body_started : Mark → Bool
 is_body_started BodyStarted = true
 is_body_started other = false
@@ -49,11 +50,11 @@ is_body_started other = false
 abbrev pub has_whole_history : Trace → Job → Bool
 has_whole_history T job = is_whole job (history job.position T)
 
--- `is_active T job`: the job's body was started and the case's history isn't whole. An owed or
--- running cleanup keeps the case active.
+-- `is_active T job`: the job's body was started in the trace `T`, and the case's history isn't
+-- whole. An owed or running cleanup keeps the case active.
 abbrev pub is_active : Trace → Job → Bool
 is_active T job = list_any is_body_started (history job.position T) && not (has_whole_history T job)
 
--- `active plan T`: the number of active cases after the events `T`.
+-- `active plan T`: the number of the plan's active cases after the events `T`.
 abbrev pub active : List Job → Trace → ℕ
 active plan T = count_by (is_active T) plan

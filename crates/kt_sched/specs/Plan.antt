@@ -4,20 +4,19 @@ use Rattle.kt_sched.specs.Types.{Job}
 use Rattle.kt_base.specs.Limits.{longest_timeout, largest_width}
 use Rattle.kt_base.specs.declared.child.Interface.TheVariants.{Atf}
 
--- `IsFit job`: the job can be started: its timeout is in the range, and only an ATF case declares a
--- cleanup.
+-- `IsFit job`: `job` can be started: its timeout is 1 to 1,000,000 seconds, and only an ATF case
+-- declares a cleanup.
 pub record IsFit (job : Job) : Type 0 where
   pub timed : 1 ≤ job.timeout
   pub limited : job.timeout ≤ longest_timeout
   pub cleanup : job.cleanup ≡ true → job.interface ≡ Atf
 
--- `IsPlan plan`: each job is at its position and can be started.
+-- `IsPlan plan`: each job of `plan` is at its position and can be started.
 pub record IsPlan (plan : List Job) : Type 0 where
   pub placed : (i : ℕ) (job : Job) → slice_get plan i ≡ Some job → job.position ≡ i
   pub fit : (i : ℕ) (job : Job) → slice_get plan i ≡ Some job → IsFit job
 
--- `IsWidth n`: the width `n` is in the range. It limits the number of cases that are active at
--- once.
+-- `IsWidth n`: the width `n`, the greatest number of active cases, is 1 to 256.
 pub record IsWidth (n : ℕ) : Type 0 where
   pub positive : 1 ≤ n
   pub limited : n ≤ largest_width

@@ -1,4 +1,4 @@
--- The scheduler's state, and the responses that it represents.
+-- The scheduler's state, and its relation to the responses so far.
 use Rattle.std.specs.Prelude.{ℕ, Bool, true, false, List, [], ◌∷◌, ◌++◌, ◌==◌, ◌≡◌, ◌≢◌, ◌<◌, ◌≤◌, ◌⊎◌, Option, Some, None, map, take, drop, filter, count_by, sum_by, length, slice_get, is_some, is_none, ⊤}
 use Rattle.std.specs.Option.{option_map, option_to_list}
 use Rattle.kt_sched.specs.Types.{Answer, Body, Case, CaseRecord, Cleaning, Cleanup, Decided, Ended, EndedBody, Entry, Finished, Job, Judged, Next, Owing, Running, Stage, Started, Taken, Waiting}
@@ -13,7 +13,7 @@ use Rattle.kt_sched.specs.EntryOf.{entry, IsEntry, no_output}
 use Rattle.kt_sched.specs.Plan.{IsPlan}
 use Rattle.kt_sched.specs.Fed.{Fed, has_failed, IsAnswerTo}
 
--- `SchedState`: a state of the scheduler.
+-- `SchedState`: a state of the scheduler, with the fields of `Sched`.
 pub record SchedState : Type 0 where
   pub cases : List Case
   pub order : List ℕ
@@ -25,20 +25,20 @@ pub record SchedState : Type 0 where
   pub asked : Next
   pub failed : Bool
 
--- `is_fresh stage`: the case waits for its turn.
+-- `is_fresh stage`: a case in the stage `stage` waits for its turn.
 abbrev pub is_fresh : Stage → Bool
 is_fresh Waiting = true
 is_fresh Decided = true
 is_fresh _ = false
 
--- `is_active_stage stage`: the case is active.
+-- `is_active_stage stage`: a case in the stage `stage` is active.
 abbrev pub is_active_stage : Stage → Bool
 is_active_stage (Running m) = true
 is_active_stage (Owing b) = true
 is_active_stage (Cleaning b) = true
 is_active_stage _ = false
 
--- `stage_work stage`: the number of steps that are left for a case in this stage, at most.
+-- `stage_work stage`: the greatest number of steps that may follow for a case in the stage `stage`.
 abbrev pub stage_work : Stage → ℕ
 stage_work Waiting = 5
 stage_work Decided = 1
@@ -48,38 +48,39 @@ stage_work (Cleaning b) = 2
 stage_work (Finished t) = 1
 stage_work Taken = 0
 
--- `work cases`: the number of steps that are left for all cases, at most.
+-- `work cases`: the greatest number of steps that may follow for all `cases`.
 abbrev pub work : List Case → ℕ
 work cases = sum_by (λ c. stage_work c.stage) cases
 
--- `Works next old new`: the effect of a response on the work left: the response to a put keeps it,
--- each other response reduces it.
+-- `Works next old new`: the response to the step `next` changes the work left from `old` to `new`.
+-- The response to a put keeps it, and each other response reduces it.
 abbrev pub Works : Next → ℕ → ℕ → Type 0
 Works (next.Put i) old new = new ≡ old
 Works (next.Start i role) old new = new < old
 Works next.Wait old new = new < old
 Works next.Done old new = ⊤
 
--- `decided_record verdict`: the record of a decided case.
+-- `decided_record verdict`: the record of a case with the verdict `verdict` that was not started.
 abbrev pub decided_record : Judged → CaseRecord
 decided_record verdict = record { verdict = verdict; started = 0; millis = 0; body = no_output; cleanup = no_output }
 
--- `record_in job stage`: the record of a case, if the case is over or decided.
+-- `record_in job stage`: the record of the job's case in the stage `stage`, if the case is over or
+-- decided.
 abbrev pub record_in : Job → Stage → Option CaseRecord
 record_in job (Finished t) = Some t
 record_in job Decided = option_map decided_record job.decided
 record_in job _ = None
 
--- `entry_with job record`: the entry of a job with this record.
+-- `entry_with job record`: the entry of `job` with the record `record`.
 abbrev pub entry_with : Job → CaseRecord → Entry
 entry_with job t = entry job t.verdict t.started t.millis t.body t.cleanup
 
--- `ended_body verdict started e`: the data kept of a body that started at this timestamp and ended
--- with `e`.
+-- `ended_body verdict started e`: the data kept of a body with the verdict `verdict` that started
+-- at the timestamp `started` and ended with `e`.
 abbrev pub ended_body : Judged → ℕ → Ended → EndedBody
 ended_body verdict started e = record { started = started; ended = e.moment; verdict = verdict; output = e.output }
 
--- `IsStage i job stage events`: the stage represents these events of case `i`.
+-- `IsStage i job stage events`: `stage` is the stage of case `i` after its events `events`.
 abbrev pub IsStage : ℕ → Job → Stage → List Event → Type 0
 IsStage i job Waiting es = (es ≡ []) × (job.decided ≡ None)
 IsStage i job Decided es = (es ≡ []) × (is_some job.decided ≡ true)
@@ -93,7 +94,8 @@ IsStage i job (Cleaning b) es =
 IsStage i job (Finished t) es = (is_whole job (map mark_of es) ≡ true) × IsEntry job es (entry_with job t)
 IsStage i job Taken es = is_whole job (map mark_of es) ≡ true
 
--- `CaseStands T i job cases`: the case at position `i` represents its events in the trace `T`.
+-- `CaseStands T i job cases`: the element `i` of `cases` has the stage of case `i` after the events
+-- `T`, and the job `job` unless its entry was taken.
 pub record CaseStands (T : Trace) (i : ℕ) (job : Job) (cases : List Case) : Type 0 where
   pub case : Case
   pub found : slice_get cases i ≡ Some case
@@ -104,7 +106,8 @@ pub record CaseStands (T : Trace) (i : ℕ) (job : Job) (cases : List Case) : Ty
 abbrev pub HasExclusive : List Case → ℕ → Bool → Type 0
 HasExclusive cases i flag = (c : Case) × (slice_get cases i ≡ Some c) × (c.job.exclusive ≡ flag)
 
--- `is_decided_stage stage`: the case is decided, and waits for its turn.
+-- `is_decided_stage stage`: a case in the stage `stage` is decided, and waits for its turn to be
+-- put.
 abbrev pub is_decided_stage : Stage → Bool
 is_decided_stage Decided = true
 is_decided_stage _ = false
@@ -114,16 +117,17 @@ is_decided_stage _ = false
 abbrev pub HasDecided : List Case → ℕ → Bool → Type 0
 HasDecided cases i flag = (c : Case) × (slice_get cases i ≡ Some c) × (is_decided_stage c.stage ≡ flag)
 
--- `HasTurn b i`: case `i` is at the turn, no put failed, and there is a free slot: fewer cases are
--- active than the width, and none is if case `i` is exclusive.
+-- `HasTurn b i`: case `i` is at the turn, no put failed, and there is a free slot. Fewer cases are
+-- active than the width, and none if case `i` is exclusive.
 abbrev pub HasTurn : SchedState → ℕ → Type 0
 HasTurn b i = (b.failed ≡ false) × (slice_get b.order b.turn ≡ Some i) × (b.active < b.width) × (b.active ≡ 0 ⊎ HasExclusive b.cases i false)
 
--- `IsSettled b`: no decided case is to be made ready.
+-- `IsSettled b`: if no case is ready in the state `b`, the case at the turn is not a decided case
+-- with a free slot.
 abbrev pub IsSettled : SchedState → Type 0
 IsSettled b = b.ready ≡ None → (i : ℕ) → HasTurn b i → HasDecided b.cases i false
 
--- `IsAsked b next`: the step `next`, which was asked last, fits the state.
+-- `IsAsked b next`: the state `b` is a state after the scheduler requested the step `next`.
 abbrev pub IsAsked : SchedState → Next → Type 0
 IsAsked b (next.Start i Body) = (b.ready ≡ None) × (b.pending ≡ None) × HasTurn b i × IsSettled b
 IsAsked b (next.Start i Cleanup) = (b.ready ≡ None) × (b.pending ≡ Some i) × IsSettled b
@@ -139,40 +143,43 @@ HasRecord cases i = (c : Case) × (t : CaseRecord) × (slice_get cases i ≡ Som
 abbrev pub CanLend : List Case → ℕ → Type 0
 CanLend cases i = (c : Case) × (slice_get cases i ≡ Some c) × (c.stage ≢ Taken)
 
--- `is_decided job`: the job's verdict is decided.
+-- `is_decided job`: the verdict of `job` is decided before the run.
 abbrev pub is_decided : Job → Bool
 is_decided job = is_some job.decided
 
--- `is_undecided job`: the job's verdict is not decided.
+-- `is_undecided job`: the verdict of `job` is not decided before the run.
 abbrev pub is_undecided : Job → Bool
 is_undecided job = is_none job.decided
 
--- `opened plan n T turn`: the decided cases from the turn on that can be put.
+-- `opened plan n T turn`: the decided cases from the turn `turn` on whose entries may be put after
+-- the events `T`.
 abbrev pub opened : List Job → ℕ → Trace → ℕ → List Job
 opened plan n T turn = filter (is_open plan n T) (drop turn (turns plan))
 
--- `positions jobs`: the positions of these jobs.
+-- `positions jobs`: the positions of `jobs`, in order.
 abbrev pub positions : List Job → List ℕ
 positions jobs = map (λ (job : Job). job.position) jobs
 
--- `AreGone plan n T turn`: each decided case before the turn was open. A case from the turn on was
--- open only if it is open now.
+-- `AreGone plan n T turn`: the entry of each decided case before the turn could be put by now
+-- (`was_open`). The entry of a case from the turn on could be put only if it can be put now
+-- (`is_open`).
 pub record AreGone (plan : List Job) (n : ℕ) (T : Trace) (turn : ℕ) : Type 0 where
   pub gone : (k : ℕ) (job : Job) → k < turn → slice_get (turns plan) k ≡ Some job → is_decided job ≡ true → was_open plan n T job ≡ true
   pub due : (k : ℕ) (job : Job) → turn ≤ k → slice_get (turns plan) k ≡ Some job → was_open plan n T job ≡ is_open plan n T job
 
--- `is_owing_stage stage`: the case owes its cleanup.
+-- `is_owing_stage stage`: a case in the stage `stage` owes its cleanup.
 abbrev pub is_owing_stage : Stage → Bool
 is_owing_stage (Owing b) = true
 is_owing_stage _ = false
 
--- `is_owed pending k`: case `k` is the pending case.
+-- `is_owed pending k`: `pending` is the position `k`.
 abbrev pub is_owed : Option ℕ → ℕ → Bool
 is_owed None k = false
 is_owed (Some i) k = k == i
 
--- `CasesStand plan n T cases a width pending`: the cases represent a trace. `pending` owes its
--- cleanup. `a` cases are active, at most the width, and only one if an exclusive case is active.
+-- `CasesStand plan n T cases a width pending`: `cases` are the plan's cases after the events `T`.
+-- `pending` owes its cleanup. `a` cases are active, at most the width, and only one if an exclusive
+-- case is active.
 pub record CasesStand (plan : List Job) (n : ℕ) (T : Trace) (cases : List Case) (a width : ℕ) (pending : Option ℕ) : Type 0 where
   pub is_plan : IsPlan plan
   pub room : 0 < n
@@ -187,8 +194,8 @@ pub record CasesStand (plan : List Job) (n : ℕ) (T : Trace) (cases : List Case
   pub owing : (k : ℕ) (c : Case) → slice_get cases k ≡ Some c → is_owing_stage c.stage ≡ is_owed pending k
   pub owed_within : (k : ℕ) → pending ≡ Some k → k < length cases
 
--- `TurnStands plan T cases order turn`: the turn represents a trace: exactly the undecided cases
--- before the turn were started.
+-- `TurnStands plan T cases order turn`: `turn` is the turn after the events `T`: exactly the
+-- undecided cases before it in the turn order `order` were started.
 pub record TurnStands (plan : List Job) (T : Trace) (cases : List Case) (order : List ℕ) (turn : ℕ) : Type 0 where
   pub walk : order ≡ positions (turns plan)
   pub within : turn ≤ length order
@@ -196,8 +203,8 @@ pub record TurnStands (plan : List Job) (T : Trace) (cases : List Case) (order :
   pub met : (k i : ℕ) (c : Case) → slice_get order k ≡ Some i → slice_get cases i ≡ Some c
       → (turn ≤ k → is_fresh c.stage ≡ true) × (k < turn → c.stage ≢ Waiting)
 
--- `PutsStand plan n fed order turn next stop`: the puts left are those of the ready case `next` and
--- of the open cases from the turn on.
+-- `PutsStand plan n fed order turn next stop`: the puts left after `fed` are the put of the ready
+-- case `next`, if any, and of the open cases from the turn on. `stop` is true if a put failed.
 pub record PutsStand (plan : List Job) (n : ℕ) (fed : Fed) (order : List ℕ) (turn : ℕ) (next : Option ℕ) (stop : Bool) : Type 0 where
   pub failed : stop ≡ has_failed fed
   pub stopped : stop ≡ true → next ≡ None
@@ -206,7 +213,8 @@ pub record PutsStand (plan : List Job) (n : ℕ) (fed : Fed) (order : List ℕ) 
   pub ready : has_failed fed ≡ false → drop fed.stored (recorded plan n fed.trace) ≡ option_to_list next ++ positions (opened plan n fed.trace turn)
   pub ripe : (i m : ℕ) → next ≡ Some i → slice_get order m ≡ Some i → m < turn
 
--- `Stands plan n fed b`: the state represents the plan, the width and the responses so far.
+-- `Stands plan n fed b`: `b` is the state of the scheduler of `plan` with the width `n` after the
+-- responses `fed`.
 pub record Stands (plan : List Job) (n : ℕ) (fed : Fed) (b : SchedState) : Type 0 where
   pub cases : CasesStand plan n fed.trace b.cases b.active b.width b.pending
   pub turn : TurnStands plan fed.trace b.cases b.order b.turn
@@ -214,20 +222,21 @@ pub record Stands (plan : List Job) (n : ℕ) (fed : Fed) (b : SchedState) : Typ
   pub has_record : (i : ℕ) → b.ready ≡ Some i → b.asked ≡ next.Done → HasRecord b.cases i
   pub asked : IsAsked b b.asked
 
--- `Implies b P`: `P` holds for each plan, width and responses that the state represents.
+-- `Implies b P`: `P` holds for each plan, width and responses of which `b` is the state.
 abbrev pub Implies : SchedState → (List Job → ℕ → Fed → Type 0) → Type 0
 Implies b P = (plan : List Job) (n : ℕ) (fed : Fed) → Stands plan n fed b → P plan n fed
 
--- `IsStanding b`: the state represents some plan, width and responses.
+-- `IsStanding b`: `b` is the state of a scheduler, for some plan, width and responses.
 abbrev pub IsStanding : SchedState → Type 0
 IsStanding b = (plan : List Job) × (n : ℕ) × (fed : Fed) × Stands plan n fed b
 
--- `IsAnswer b answer`: the response fits the step that was asked last.
+-- `IsAnswer b answer`: `answer` is a possible response to the step that was requested last in the
+-- state `b`.
 abbrev pub IsAnswer : SchedState → Answer → Type 0
 IsAnswer b answer = (plan : List Job) × (n : ℕ) × (fed : Fed) × Stands plan n fed b × IsAnswerTo fed.trace b.asked answer
 
--- `Takes old event new`: the event leads the scheduler from `old` to `new`, which represents one
--- more event and has less work left.
+-- `Takes old event new`: `event` leads the scheduler from the state `old` to the state `new`, which
+-- represents one more event and has less work left.
 pub record Takes (old : SchedState) (e : Event) (new : SchedState) : Type 0 where
   pub stands : Implies old (λ plan n fed. Stands plan n (record fed { trace = Then fed.trace e }) new)
   pub less : work new.cases < work old.cases

@@ -1,4 +1,4 @@
--- The rules of the schedule, as facts on each event and the events before it.
+-- The rules of the schedule. Most are conditions on an event and the events before it.
 use Rattle.std.specs.Prelude.{ℕ, Bool, true, false, List, [], ◌&&◌, ◌||◌, ◌≡◌, ◌<◌, ◌⊎◌, Option, Some, None, map, take, length, slice_get, IfSome, MatchOption, if◌then◌else◌, ⊤}
 use Rattle.std.specs.List.{list_all}
 use Rattle.kt_sched.specs.Types.{Body, Cleanup, Job, Role}
@@ -7,32 +7,34 @@ use Rattle.kt_sched.specs.Trace.{Event, Start, End, Trace, NoEvent, Then, of, fi
 use Rattle.kt_sched.specs.History.{has_whole_history, is_active, active}
 use Rattle.kt_sched.specs.TurnOrder.{body_starts, undecided_turns, next_to_start}
 
--- `Each P T`: `P` holds for each event of `T` and the events before it.
+-- `Each P T`: `P` holds for each event of `T`, with the events before it.
 abbrev pub Each : (Trace → Event → Type 0) → Trace → Type 0
 Each P NoEvent = ⊤
 Each P (Then T e) = Each P T × P T e
 
--- `Order plan T`: the bodies start in turn order.
+-- `Order plan T`: the bodies in the trace `T` start in turn order.
 abbrev pub Order : List Job → Trace → Type 0
 Order plan T = body_starts T ≡ map (λ job. job.position) (take (length (body_starts T)) (undecided_turns plan))
 
--- `WidthAt plan n T event`: a body starts only while fewer than `n` cases are active.
+-- `WidthAt plan n T event`: if `event` starts a body, fewer than `n` cases are active after the
+-- events `T`.
 abbrev pub WidthAt : List Job → ℕ → Trace → Event → Type 0
 WidthAt plan n T (Start i Body answer) = active plan T < n
 WidthAt plan n T other = ⊤
 
--- `IsQuiet plan T`: no case is active, and the history of each ordinary case is whole.
+-- `IsQuiet plan T`: after the events `T`, no case is active, and the history of each ordinary case
+-- is whole.
 abbrev pub IsQuiet : List Job → Trace → Type 0
 IsQuiet plan T = (active plan T ≡ 0) × (list_all (λ (job : Job). job.exclusive || has_whole_history T job) plan ≡ true)
 
--- `IsExclusiveAtStart plan T i role`: an exclusive body starts only if `IsQuiet` holds. While an
--- exclusive case is active, only its own cleanup starts.
+-- `IsExclusiveAtStart plan T i role`: exclusiveness allows the start of case `i` in the role `role`
+-- after the events `T`. An exclusive body starts only if `IsQuiet` holds. While an exclusive case
+-- is active, only its own cleanup starts.
 pub record IsExclusiveAtStart (plan : List Job) (T : Trace) (i : ℕ) (role : Role) : Type 0 where
   pub quiet : (job : Job) → slice_get plan i ≡ Some job → job.exclusive ≡ true → role ≡ Body → IsQuiet plan T
   pub own : (job : Job) (k : ℕ) → slice_get plan k ≡ Some job → job.exclusive ≡ true → is_active T job ≡ true → (k ≡ i) × (role ≡ Cleanup)
 
--- `ExclusiveAt plan T event`: the event keeps `IsExclusiveAtStart` if it is a start. An end is not
--- restricted.
+-- `ExclusiveAt plan T event`: if `event` is a start, exclusiveness allows it after the events `T`.
 abbrev pub ExclusiveAt : List Job → Trace → Event → Type 0
 ExclusiveAt plan T (Start i role answer) = IsExclusiveAtStart plan T i role
 ExclusiveAt plan T (End ended) = ⊤
@@ -41,7 +43,8 @@ ExclusiveAt plan T (End ended) = ⊤
 abbrev pub declares : List Job → ℕ → Bool
 declares plan i = elim (slice_get plan i) [ None ↦ false | Some job ↦ job.cleanup ]
 
--- `owed plan T`: the case with a declared cleanup whose body ended with the last event.
+-- `owed plan T`: the case with a declared cleanup whose body ended with the last event of `T`, if
+-- any.
 abbrev pub owed : List Job → Trace → Option ℕ
 owed plan NoEvent = None
 owed plan (Then T (Start i role answer)) = None
@@ -52,22 +55,25 @@ abbrev pub IsCleanupStart : Event → ℕ → Type 0
 IsCleanupStart (Start i role answer) owing = (i ≡ owing) × (role ≡ Cleanup)
 IsCleanupStart (End ended) owing = ⊥
 
--- `PromptAt plan T event`: after the end of a body with a declared cleanup, the start of that
--- cleanup follows.
+-- `PromptAt plan T event`: if the last event of `T` ended a body with a declared cleanup, `event`
+-- is the start of this cleanup.
 abbrev pub PromptAt : List Job → Trace → Event → Type 0
 PromptAt plan T e = IfSome (owed plan T) (IsCleanupStart e)
 
--- `IsBusy plan n T`: no body may be started.
+-- `IsBusy plan n T`: no body may be started after the events `T`. Either `n` cases are active, no
+-- body is left, or the next body is exclusive and a case is active.
 abbrev pub IsBusy : List Job → ℕ → Trace → Type 0
 IsBusy plan n T =
     (active plan T ≡ n) ⊎ MatchOption (next_to_start plan T) ⊤ (λ job. (job.exclusive ≡ true) × (0 < active plan T))
 
--- `BusyAt plan n T event`: a wait comes only while no body may be started.
+-- `BusyAt plan n T event`: if `event` is an end, no body may be started after the events `T`, so
+-- the scheduler waits.
 abbrev pub BusyAt : List Job → ℕ → Trace → Event → Type 0
 BusyAt plan n T (Start i role answer) = ⊤
 BusyAt plan n T (End ended) = IsBusy plan n T
 
--- `Legal plan n T`: the rules that each finished trace keeps.
+-- `Legal plan n T`: `T` is the trace of a run without a failed put. Each case has a whole history.
+-- The rules of order, width, exclusiveness, cleanups and waits hold.
 pub record Legal (plan : List Job) (n : ℕ) (T : Trace) : Type 0 where
   pub whole : list_all (has_whole_history T) plan ≡ true
   pub order : Order plan T
@@ -76,8 +82,9 @@ pub record Legal (plan : List Job) (n : ℕ) (T : Trace) : Type 0 where
   pub prompt : Each (PromptAt plan) T
   pub busy : Each (BusyAt plan n) T
 
--- `Stopped plan n T k`: the rules that a trace keeps if a put failed after `k` events. Each case
--- that has an event has a whole history.
+-- `Stopped plan n T k`: `T` is the trace of a run whose put failed after `k` events. No body starts
+-- after these, each case that has an event has a whole history, and the rules of `Legal` hold. The
+-- rule of waits holds for the first `k` events only.
 pub record Stopped (plan : List Job) (n : ℕ) (T : Trace) (k : ℕ) : Type 0 where
   pub starts : body_starts T ≡ body_starts (first k T)
   pub whole : (job : Job) (i : ℕ) → slice_get plan i ≡ Some job → (of i T ≡ []) ⊎ (has_whole_history T job ≡ true)

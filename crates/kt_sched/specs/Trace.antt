@@ -3,12 +3,13 @@ use Rattle.std.specs.Prelude.{ℕ, List, [], ◌∷◌, ◌++◌, ◌==◌, ◌�
 use Rattle.kt_sched.specs.Types.{Ended, Job, Refused, Role, StartAnswer, Started}
 use Rattle.kt_base.specs.Moments.{IsMoment}
 
--- `Event`: one response of a launcher.
+-- `Event`: one response of a launcher: the response to a start, or the end of a child.
 pub data Event : Type 0 where
   Start : (position : ℕ) (role : Role) (answer : StartAnswer) → Event
   End : (ended : Ended) → Event
 
--- `HasMoment answer`: the timestamp of a start, if there is one, is in the range.
+-- `HasMoment answer`: the timestamp of the start, if `answer` has one, is in the range of
+-- timestamps.
 abbrev pub HasMoment : StartAnswer → Type 0
 HasMoment (Started moment) = IsMoment moment
 HasMoment (Refused cause) = ⊤
@@ -20,19 +21,19 @@ pub data Trace : Type 0 where
 
 -- For a launcher with these relations of starts and waits.
 module _ {L : Type 0} (starts : L → Job → Role → StartAnswer → L → Type 0) (waits : L → Ended → L → Type 0) (plan : List Job) where
-  -- `Leads T old new`: the responses `T` lead the launcher from `old` to `new`. Each start was
-  -- called with the plan's job.
+  -- `Leads T old new`: the responses `T` lead the launcher from the state `old` to the state `new`.
+  -- Each start was called with the plan's job.
   abbrev pub Leads : Trace → L → L → Type 0
   Leads NoEvent old new = new ≡ old
   Leads (Then T (Start i role answer)) old new = (mid : L) × (job : Job) × Leads T old mid × (slice_get plan i ≡ Some job) × starts mid job role answer new
   Leads (Then T (End ended)) old new = (mid : L) × Leads T old mid × waits mid ended new
 
--- `event_count T`: the number of events.
+-- `event_count T`: the number of events in `T`.
 abbrev pub event_count : Trace → ℕ
 event_count NoEvent = 0
 event_count (Then T e) = event_count T + 1
 
--- `first k T`: the first `k` events.
+-- `first k T`: the first `k` events of `T`.
 abbrev pub first : ℕ → Trace → Trace
 first k NoEvent = NoEvent
 first k (Then T e) = if nat_le (event_count T + 1) k then Then T e else first k T
@@ -42,7 +43,7 @@ abbrev pub position_of : Event → ℕ
 position_of (Start i role answer) = i
 position_of (End ended) = ended.position
 
--- `of i T`: the events of case `i`, in order.
+-- `of i T`: the events of case `i` in the trace `T`, in order.
 abbrev pub of : ℕ → Trace → List Event
 of i NoEvent = []
 of i (Then T e) = if position_of e == i then of i T ++ e ∷ [] else of i T

@@ -3,25 +3,26 @@ use Rattle.std.specs.Prelude.{ℕ, List, [], ◌∷◌, ◌++◌, not, filter, l
 use Rattle.kt_sched.specs.Types.{Body, Job}
 use Rattle.kt_sched.specs.Trace.{Event, Start, Trace, NoEvent, Then}
 
--- `body_start_of event`: the position of the case whose body the event starts, if it does.
+-- `body_start_of event`: a list of the position of the case whose body `event` starts, or an empty
+-- list. A refused start counts, too.
 abbrev pub body_start_of : Event → List ℕ
 body_start_of (Start i Body answer) = i ∷ []
 body_start_of other = []
 
--- `body_starts T`: the positions of the cases whose bodies were started, in order. Refused starts
--- count, too.
+-- `body_starts T`: the positions of the cases whose bodies were started in the trace `T`, in order.
+-- Refused starts count, too.
 abbrev pub body_starts : Trace → List ℕ
 body_starts NoEvent = []
 body_starts (Then T e) = body_starts T ++ body_start_of e
 
--- `turns plan`: the turn order: all ordinary cases, then all exclusive cases.
+-- `turns plan`: the plan's jobs in turn order: all ordinary cases, then all exclusive cases.
 abbrev pub turns : List Job → List Job
 turns plan = filter (λ job. not job.exclusive) plan ++ filter (λ job. job.exclusive) plan
 
--- `undecided_turns plan`: the cases that are to be started, in turn order.
+-- `undecided_turns plan`: the jobs of the cases that are to be started, in turn order.
 abbrev pub undecided_turns : List Job → List Job
 undecided_turns plan = filter (λ job. is_none job.decided) (turns plan)
 
--- `next_to_start plan T`: the next case whose body is to be started.
+-- `next_to_start plan T`: the job of the next body to be started after the events `T`, if any.
 abbrev pub next_to_start : List Job → Trace → Option Job
 next_to_start plan T = slice_get (undecided_turns plan) (length (body_starts T))

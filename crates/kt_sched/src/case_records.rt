@@ -5,7 +5,7 @@ use crate::stage::CaseRecord;
 use kt_base::{Bytes, Output, Verdict};
 use std::alloc::Global;
 
-/// Returns the output of a child that did not run. The call doesn't allocate.
+/// Returns the empty output of a child that did not run. The call doesn't allocate.
 pub fn no_output(alloc: Global) -> Output
     ensures { result ≡ no_output }
 {

@@ -6,7 +6,8 @@ use kt_base::{Entry, Text, Variables};
 use std::alloc::Global;
 use std::mem;
 
-/// Removes the entry from a case that is over, and returns it.
+/// Removes the entry from the case at position `i`, which is over or decided, and returns the
+/// entry.
 ///
 /// Names, reason and outputs are moved, not copied.
 pub fn take_entry(alloc: Global, cases: &mut Vec<Case>, i: u32) -> Entry

@@ -1,7 +1,7 @@
 use kt_base::{Interface, Outcome, Output, Refused, Role, Text, Variables, Verdict};
 use kt_claim::Evidence;
 
-/// The greatest number of cases that may be active at once (this profile).
+/// The greatest width, which is the number of cases that may be active at once (this profile).
 pub const MAX_WIDTH: u32 = 256;
 
 /// The greatest timeout of a case, in seconds (this profile).
@@ -9,7 +9,7 @@ pub const MAX_TIMEOUT: u32 = 1_000_000;
 
 /// A job of the scheduler: one test case of a plan.
 pub struct Job {
-    /// The position in the plan, counted from 0.
+    /// The position of the job in the plan, from 0.
     pub position: u32,
     /// The interface of the test program.
     pub interface: Interface,
@@ -17,7 +17,7 @@ pub struct Job {
     pub program: Text,
     /// The name of the test case.
     pub case_name: Text,
-    /// The configuration variables of the case's test suite, in order.
+    /// The configuration variables of the case's test suite, as names with values.
     pub vars: Variables,
     /// The timeout of the case's body, in seconds, 1 to 1,000,000.
     pub timeout: u32,
@@ -26,14 +26,15 @@ pub struct Job {
     /// `true` if the case declares a cleanup (`has.cleanup` of atf-test-case(4)).
     pub cleanup: bool,
     /// The verdict of a case that is not started, since a requirement is not met or the list of its
-    /// program failed.
+    /// program failed. `None` if the case is to be started.
     pub decided: Option<Verdict>,
-    /// The properties that the case declares, as names with values. The case's entry contains them,
-    /// too.
+    /// The properties that the case or its program declares, as names with values. The entry of the
+    /// case contains them, too.
     pub meta: Variables,
 }
 
-/// Written out instead of derived, so that a drop is one call.
+/// Implemented manually for the prover: a drop is one call, and only this function takes the fields
+/// apart.
 impl Drop for Job {
     fn drop(self) {
         let Job {
@@ -54,9 +55,9 @@ impl Drop for Job {
 /// A response of a launcher to a start.
 #[derive(Clone, Copy)]
 pub enum StartAnswer {
-    /// The child was started at this timestamp, in milliseconds since 1970 in UTC.
+    /// The launcher started the child at this timestamp, in milliseconds since 1970 in UTC.
     Started(u64),
-    /// The child was not started, for this cause.
+    /// The launcher did not start the child, for this cause.
     Refused(Refused),
 }
 
@@ -69,7 +70,8 @@ pub struct Ended {
     pub role: Role,
     /// The outcome of the child, such as its exit status.
     pub outcome: Outcome,
-    /// The evidence for the interface of the job. For a cleanup it is `Plain`, and is not used.
+    /// The evidence that a body of the job's interface leaves. For a cleanup, it is `Plain`, and is
+    /// not used.
     pub evidence: Evidence,
     /// The standard output and the standard error of the child.
     pub output: Output,

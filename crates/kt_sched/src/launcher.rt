@@ -3,8 +3,8 @@ use kt_base::Role;
 
 /// An interface to start children and to wait for them.
 ///
-/// Each response leads a launcher from one state to the next. The specification has no history of
-/// calls.
+/// The ghost relations describe each call by its states before and after and by its response. A
+/// launcher has no history of calls in its contract.
 pub trait Launcher {
     ghost use Rattle.std.specs.Prelude.{ℕ, Bool, ◌≡◌, Option, Some};
     ghost use Rattle.kt_base.specs.declared.child.Role.{Role};
@@ -16,23 +16,25 @@ pub trait Launcher {
     ghost use Rattle.kt_sched.specs.Trace.{HasMoment};
     ghost use Rattle.kt_sched.specs.Plan.{IsFit};
 
-    /// The facts of the child that runs at a position in a role, if there is one.
+    /// The interface and the declared cleanup of the running child of the case at a position, in a
+    /// role. `None` if no such child runs.
     ghost running: { Self → ℕ → Role → Option Child };
 
-    /// `true` if the body at a position ended, and the start of its declared cleanup was not
-    /// requested yet.
+    /// `true` if the body of the case at a position ended, and the start of its declared cleanup
+    /// was not requested yet.
     ghost pending: { Self → ℕ → Bool };
 
-    /// The relation of the states before and after a start with this job, role and response.
+    /// The relation of the states before and after the start of a job in a role, with its response.
     ghost starts: { Self → Job → Role → StartAnswer → Self → Type 0 };
 
-    /// The relation of the states before and after a wait that returns this end.
+    /// The relation of the states before and after a wait, with the end that it returns.
     ghost waits: { Self → Ended → Self → Type 0 };
 
-    /// Starts the body or the cleanup of a case, and returns the timestamp or the cause of the
-    /// refusal.
+    /// Starts the body or the cleanup of a case, and returns the timestamp of the start or the
+    /// cause of the refusal.
     ///
-    /// If the start of a body is refused, its cleanup is not requested.
+    /// A body may start if no child of its case runs or is pending. A cleanup may start only once,
+    /// after its body ended.
     fn start(&mut self, job: &Job, role: Role) -> StartAnswer
         requires fit { IsFit job.now }
         requires may { MayStart (running self.old) (pending self.old) job.now.position role }
@@ -44,6 +46,8 @@ pub trait Launcher {
             ≡ pending_after_start (pending self.old) job.now.position role k };
 
     /// Waits until a running child has ended or can't be waited for, and returns its end.
+    ///
+    /// At least one child must run.
     fn wait(&mut self) -> Ended
         requires { (i : ℕ) × (role : Role) × (child : Child)
             × (running self.old i role ≡ Some child) }

@@ -1,14 +1,14 @@
 use crate::Ended;
 use kt_base::{Refused, Role};
 
-/// A step that the scheduler requests. Positions are those of the plan.
+/// A step that the scheduler requests from its caller. Positions are those in the plan, from 0.
 #[derive(Clone, Copy)]
 pub enum Next {
     /// Start the body or the cleanup of the case at this position.
     Start(u32, Role),
     /// Wait for the end of a child.
     Wait,
-    /// Put the entry of the case at this position.
+    /// Put the entry of the case at this position into the sink.
     Put(u32),
     /// Finish: no step is left.
     Done,
@@ -17,14 +17,14 @@ pub enum Next {
 /// A response to the step that [`Sched::next`] returned.
 #[derive(Drop)]
 pub enum Answer {
-    /// The child was started at this timestamp, in milliseconds since 1970 in UTC.
+    /// The launcher started the child at this timestamp, in milliseconds since 1970 in UTC.
     Started(u64),
-    /// The child was not started, for this cause.
+    /// The launcher did not start the child, for this cause.
     Refused(Refused),
     /// A child ended.
     Ended(Ended),
-    /// The entry was stored.
+    /// The sink recorded the entry.
     Stored,
-    /// The entry was not stored.
+    /// The sink failed to record the entry.
     StoreFailed,
 }

@@ -9,7 +9,9 @@ use kt_base::Role;
 use kt_status::{CleanupEnd, body_verdict, refused_verdict, with_cleanup};
 use std::alloc::Global;
 
-/// Returns the stage of a case after the response to a start.
+/// Returns the stage of a case after the response `answer` to a start in the role `role`.
+///
+/// `was` is the stage before the start.
 pub fn after_start(alloc: Global, was: Stage, role: Role, answer: StartAnswer) -> Stage
     requires { can_start role was ≡ true }
     ensures { (i : ℕ) (cleanup : Bool) → IsAfter cleanup was (Start i role answer) result }
@@ -37,6 +39,8 @@ pub fn after_start(alloc: Global, was: Stage, role: Role, answer: StartAnswer) -
 }
 
 /// Returns the stage of a case after the end of its child.
+///
+/// `was` is the stage before the end. `cleanup` is `true` if the case declares a cleanup.
 ///
 /// If the clock was set back, the duration of the case is 0.
 pub fn after_end(alloc: Global, was: Stage, cleanup: bool, ended: Ended) -> Stage
@@ -85,7 +89,7 @@ pub fn active_after(active: u32, width: u32, before: bool, stage: &Stage) -> u32
     }
 }
 
-/// Returns the turn after a start: the next turn for a body, the same turn for a cleanup.
+/// Returns the turn after a start: the next turn for a body, the current turn for a cleanup.
 pub fn turn_after(turn: usize, cases: usize, role: Role) -> usize
     requires { role ≡ TheBody → turn < cases }
     ensures { result ≡ turn + cond (same_role role TheBody) 1 0 }
@@ -96,11 +100,12 @@ pub fn turn_after(turn: usize, cases: usize, role: Role) -> usize
     }
 }
 
-/// Returns the position `i` twice: first if the case owes its cleanup, then if its entry is to be
-/// put.
+/// Returns the pending position and the ready position after an event of the case at position `i`.
 ///
-/// The entry is put if the case is over and no put failed. An event leaves no case in the stage
-/// `Decided` or `Taken`.
+/// The first is `i` if the case owes its cleanup. The second is `i` if its entry is to be put.
+///
+/// The entry is to be put if the case is over and no put failed. An event leaves no case in the
+/// stage `Decided` or `Taken`.
 pub fn owing_and_ready(stage: &Stage, failed: bool, i: u32) -> (Option<u32>, Option<u32>)
     ensures owing { result.0 ≡ owing_at stage.now i }
     ensures ready { result.1 ≡ ready_at stage.now failed i }

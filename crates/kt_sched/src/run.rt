@@ -8,7 +8,9 @@ use std::alloc::Global;
 
 /// Executes a plan's cases, at most `width` at once, and puts the entry of each case into a sink.
 ///
-/// The function doesn't allocate after its first launcher call.
+/// Returns the numbers of the entries that were put, by their verdicts.
+///
+/// The function itself doesn't allocate after its first call of the launcher.
 ///
 /// # Errors
 ///

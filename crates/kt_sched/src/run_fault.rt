@@ -11,8 +11,8 @@ use thiserror::Error;
 pub enum RunFault {
     /// An allocation failed before the first launcher call.
     NoMemory(NoMemory),
-    /// A put failed. Each running child was waited for, and the declared cleanup of each body that
-    /// ended was requested.
+    /// An entry could not be put into the sink. Each running child was waited for, and the declared
+    /// cleanup of each body that ended was requested.
     SinkFailed(SinkFault),
 }
 

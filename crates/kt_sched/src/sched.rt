@@ -8,7 +8,7 @@ use std::alloc::Global;
 use std::marker::Model;
 use std::mem;
 
-/// A scheduler of a plan. It represents the plan, its width and the responses so far.
+/// A scheduler of a plan. Its state represents the plan, the width and the responses so far.
 #[derive(Drop)]
 pub struct Sched {
     /// The allocator for empty texts and outputs.
@@ -17,18 +17,18 @@ pub struct Sched {
     cases: Vec<Case>,
     /// The positions of all cases in turn order.
     order: Vec<u32>,
-    /// The index in `order` of the case at the turn, which is the next to be started, or to be put
-    /// if it is decided.
+    /// The index in `order` of the next case to be started, or to be put if its verdict is decided.
+    /// It is the length of `order` if no such case is left.
     turn: usize,
     /// The number of active cases, at most `width`.
     active: u32,
-    /// The greatest number of active cases.
+    /// The greatest number of active cases, 1 to 256.
     width: u32,
-    /// The position of the case whose cleanup is to be started.
+    /// The position of the case whose cleanup is to be started next, if any.
     pending: Option<u32>,
-    /// The position of the case whose entry is to be put.
+    /// The position of the case whose entry is to be put next, if any.
     ready: Option<u32>,
-    /// The step that `next` returned last, or `Done` after its response.
+    /// The step that `next` returned last, or `Done` once the response to that step was recorded.
     asked: Next,
     /// `true` if a put failed.
     failed: bool,
@@ -72,7 +72,9 @@ impl Sched {
     ghost use Rattle.std.specs.Prelude.{◌≡◌, ℕ, length, ◌^◌, Some, slice_get, IfOk, ◌<◌, ◌+◌, true, false};
     ghost use Rattle.kt_sched.specs.Common.{Next, Start, End, Case, Role, IsPlan, IsWidth, after_put, fed_after, nothing_fed, IsNext, Follows, IsEntryOf, IsChosen, IsTurn, stage_runs, Implies, SchedState, Stands, IsAnswer, IsSettled, HasRecord, CanLend, Takes, work, Works};
 
-    /// Creates a scheduler that has no response yet.
+    /// Creates a scheduler of `plan` that has no response yet.
+    ///
+    /// `width` is the greatest number of active cases, 1 to 256.
     ///
     /// # Errors
     ///
@@ -101,7 +103,9 @@ impl Sched {
         })
     }
 
-    /// Returns the job at a position of the plan. The entry of its case must not be taken yet.
+    /// Returns the job at a position of the plan.
+    ///
+    /// The entry of the job's case must not be taken yet.
     pub fn job(&self, position: u32) -> &Job
         requires { CanLend self.now.cases position }
         ensures { Implies self.now (λ plan _ _. slice_get plan position ≡ Some result.now) }
@@ -109,8 +113,9 @@ impl Sched {
         &self.cases[position as usize].job
     }
 
-    /// Removes the entry of the case at a position, and returns it. The step that `next` returned
-    /// last must be the put of this entry.
+    /// Removes the entry of the case at a position, and returns it.
+    ///
+    /// The step that `next` returned last must be the put of this entry.
     pub fn take(&mut self, position: u32) -> Entry
         requires asked { self.old.asked ≡ Next.Put position }
         requires has_record { HasRecord self.old.cases position }
@@ -125,8 +130,8 @@ impl Sched {
 
     /// Records the response to the step that `next` returned last.
     ///
-    /// The method is for callers that keep responses as values. It has the effect of `started`,
-    /// `ended` or `put`.
+    /// The response must fit this step. The method is for callers that keep responses as values,
+    /// and has the effect of `started`, `ended` or `put`.
     pub fn feed(&mut self, answer: Answer)
         requires { IsAnswer self.old answer }
         ensures works { Works self.old.asked (work self.old.cases) (work self.new.cases) }
@@ -148,7 +153,7 @@ impl Sched {
         }
     }
 
-    /// Records the response to the start that `next` returned last.
+    /// Records the response `answer` to the start of case `i`, which `next` returned last.
     pub(crate) fn started(&mut self, i: u32, role: Role, answer: StartAnswer)
         requires { self.old.asked ≡ Next.Start i role }
         ensures { Takes self.old (Start i role answer) self.new }
@@ -162,7 +167,7 @@ impl Sched {
         self.asked = Next::Done;
     }
 
-    /// Records the end of a child.
+    /// Records the end of a running child, after `next` returned a wait.
     pub(crate) fn ended(&mut self, ended: Ended)
         requires asked { self.old.asked ≡ Next.Wait }
         requires runs { (c : Case) × (slice_get self.old.cases ended.position ≡ Some c)
@@ -178,9 +183,10 @@ impl Sched {
         self.asked = Next::Done;
     }
 
-    /// Returns the next step: a put first, then a cleanup, then a body, then a wait.
+    /// Returns the next step, or `Done` if no step is left.
     ///
-    /// If several steps apply, the first of them is returned.
+    /// If several steps apply, the order is: a put, the start of a cleanup, the start of a body, a
+    /// wait.
     pub fn next(&mut self) -> Next
         ensures next { Implies self.old (λ plan n fed. IsNext plan n fed result) }
         ensures only { Implies self.old
@@ -200,7 +206,10 @@ impl Sched {
         next
     }
 
-    /// Makes the decided case at the turn ready to be put, if there is one.
+    /// Makes the decided case at the turn ready to be put.
+    ///
+    /// Does nothing if another case is ready, if the case at the turn is not decided, or if there
+    /// is no free slot for it.
     fn open_decided(&mut self)
         ensures stands { Implies self.old (λ plan n fed. Stands plan n fed self.new) }
         ensures same { self.new.cases ≡ self.old.cases }
@@ -222,7 +231,7 @@ impl Sched {
         self.asked = Next::Done;
     }
 
-    /// Selects the next step: a put first, then a cleanup, then a body, then a wait.
+    /// Selects the next step: a put first, then a cleanup, then a body, then a wait, else `Done`.
     fn choice(&self) -> Next
         ensures { IsChosen self.now result }
     {
@@ -242,9 +251,9 @@ impl Sched {
     /// Returns the position of the case at the turn, if no put failed and there is a free slot for
     /// the case.
     ///
-    /// There is a free slot if fewer cases are active than the width, and none is if the case is
-    /// exclusive. A case is active until its cleanup is over. Exclusive cases have the last turns,
-    /// so none of them is active at the turn of an ordinary case.
+    /// There is a free slot if fewer than `width` cases are active. An exclusive case needs a time
+    /// at which no case is active. A case is active until its cleanup is over. Exclusive cases have
+    /// the last turns, so none of them is active at the turn of an ordinary case.
     fn turn_with_room(&self) -> Option<u32>
         ensures { IsTurn self.now result }
     {
@@ -261,7 +270,9 @@ impl Sched {
         }
     }
 
-    /// Records the response to a put. After a failed put, nothing is put and no body is started.
+    /// Records the response to the put of case `i`, where `failed` is `true` if the put failed.
+    ///
+    /// After a failed put, nothing is put and no body is started.
     pub(crate) fn put(&mut self, i: u32, failed: bool)
         requires { self.old.asked ≡ Next.Put i }
         ensures same { self.new.cases ≡ self.old.cases }

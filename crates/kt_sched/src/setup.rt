@@ -6,7 +6,7 @@ use crate::stage::{Case, Stage};
 use kt_base::NoMemory;
 use std::alloc::Global;
 
-/// Creates the case of a job, which waits for its turn.
+/// Creates the case of `job`, which waits for its turn.
 fn first_case(job: Job) -> Case
     ensures { result ≡ first_case job }
 {
@@ -17,7 +17,11 @@ fn first_case(job: Job) -> Case
     Case { job, stage }
 }
 
-/// Creates the cases of a plan, none of which is begun.
+/// Creates the cases of the jobs `plan`, each of which waits for its turn.
+///
+/// # Errors
+///
+/// - `NoMemory`: an allocation fails.
 pub fn first_cases(alloc: Global, plan: Vec<Job>) -> Result<Vec<Case>, NoMemory>
     ensures { IfOk result (λ cases. cases.items ≡ map first_case plan.items) }
 {
@@ -26,6 +30,10 @@ pub fn first_cases(alloc: Global, plan: Vec<Job>) -> Result<Vec<Case>, NoMemory>
 }
 
 /// Returns the positions of a plan's cases in turn order: ordinary cases, then exclusive cases.
+///
+/// # Errors
+///
+/// - `NoMemory`: an allocation fails.
 pub fn turn_order(alloc: Global, plan: &[Job]) -> Result<Vec<u32>, NoMemory>
     ensures { IfOk result (λ order. order.items ≡ positions (turns plan.now)) }
 {
@@ -35,8 +43,8 @@ pub fn turn_order(alloc: Global, plan: &[Job]) -> Result<Vec<u32>, NoMemory>
     Ok(order)
 }
 
-/// Appends the positions of the exclusive jobs to `order` if `exclusive` is `true`, else those of
-/// the ordinary jobs.
+/// Appends the positions of the exclusive jobs to `order` if `exclusive` is `true`, else the
+/// positions of the ordinary jobs.
 fn add_positions(plan: &[Job], exclusive: bool, order: &mut Vec<u32>) -> Result<(), NoMemory>
     ensures { OnOk result (order.new.items ≡ order.old.items
         ++ positions_where exclusive plan.now) }

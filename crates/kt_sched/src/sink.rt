@@ -26,9 +26,9 @@ impl SinkFault {
     }
 }
 
-/// An interface to record entries in the order in which they are put.
+/// An interface to record the entries of a run, one after the other.
 ///
-/// A failed put keeps the entries that were put before.
+/// A failed put doesn't change the entries that were put before.
 pub trait Sink {
     ghost use Rattle.std.specs.Prelude.{Result, OnErr, OnOk, ◌++◌, [], ◌∷◌, List};
     ghost use Rattle.kt_base.specs.declared.entry.Entry.{Entry};
@@ -38,10 +38,12 @@ pub trait Sink {
     /// The relation of a sink to the entries that were put, in the order of the puts.
     ghost entries: { Self → List Entry → Type 0 };
 
-    /// The relation of the states before and after a put with this entry and this result.
+    /// The relation of the states before and after a put of an entry, with its result.
     ghost puts: { Self → Entry → Result (Unit {0}) SinkFault → Self → Type 0 };
 
-    /// Records one more entry. The timestamps of the entry are in the range that can be recorded.
+    /// Records `entry` after the entries that were put before.
+    ///
+    /// The timestamps of the entry must be in the range that can be recorded.
     ///
     /// # Errors
     ///

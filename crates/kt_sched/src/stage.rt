@@ -1,26 +1,26 @@
 use crate::Job;
 use kt_base::{Output, Verdict};
 
-/// A stage of a case.
+/// A stage of a case during a run.
 #[derive(Drop)]
 pub enum Stage {
     /// The case waits for its turn to start.
     Waiting,
-    /// The verdict is decided, and the case waits for its turn to be put.
+    /// The verdict was decided before the run, and the case waits for its turn to be recorded.
     Decided,
     /// The body runs since this timestamp, in milliseconds since 1970 in UTC.
     Running(u64),
-    /// The body ended, and the cleanup is to be started.
+    /// The body ended, and the declared cleanup of the case is to be started.
     Owing(EndedBody),
     /// The cleanup runs.
     Cleaning(EndedBody),
-    /// The case is over.
+    /// The case is over, and its entry is to be recorded.
     Finished(CaseRecord),
-    /// The entry was taken, or the stage is being replaced.
+    /// The entry of the case was taken, or a function is replacing the stage.
     Taken,
 }
 
-/// A record of a case that is over: its entry without the names.
+/// A record of a case that is over: its entry without the data of its job.
 #[derive(Drop)]
 pub struct CaseRecord {
     /// The verdict on the case.
@@ -28,15 +28,15 @@ pub struct CaseRecord {
     /// The timestamp of the start in milliseconds since 1970 in UTC, or 0 if the body was not
     /// started.
     pub started: u64,
-    /// The duration of the case, in milliseconds.
+    /// The duration of the case in milliseconds, or 0 if the body was not started.
     pub millis: u64,
     /// The output of the body.
     pub body: Output,
-    /// The output of the cleanup.
+    /// The output of the cleanup, which is empty if no cleanup was started.
     pub cleanup: Output,
 }
 
-/// The data kept of a body that ended before its case is over.
+/// A body that ended before its case is over, with the data for the record of the case.
 #[derive(Drop)]
 pub struct EndedBody {
     /// The timestamp of the start, in milliseconds since 1970 in UTC.
@@ -52,7 +52,7 @@ pub struct EndedBody {
 /// A test case of the plan: a job and its stage.
 #[derive(Drop)]
 pub struct Case {
-    /// The job. Its names and properties are empty once the entry was taken.
+    /// The job. Its names, properties and decided verdict are empty once the entry was taken.
     pub job: Job,
     /// The stage of the case.
     pub stage: Stage,

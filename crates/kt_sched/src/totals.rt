@@ -1,6 +1,6 @@
 ghost use Rattle.std.specs.Prelude.{◌≡◌};
 
-/// The numbers of entries that were put.
+/// A count of the entries that were put into a sink, by their verdicts.
 #[derive(Clone, Copy)]
 pub struct Totals {
     /// The number of all entries.

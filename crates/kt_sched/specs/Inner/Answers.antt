@@ -11,11 +11,11 @@ abbrev pub after_put : Fed → Bool → Fed
 after_put fed true = record fed { stopped = Some (event_count fed.trace) }
 after_put fed false = record fed { stored = fed.stored + 1 }
 
--- `counted totals kind`: the totals with one more entry, whose verdict is of this kind.
+-- `counted totals kind`: `totals` with one more entry, whose verdict is of the kind `kind`.
 abbrev pub counted : Totals → Kind → Totals
 counted t kind = record { total = t.total + 1; good = t.good + cond (is_good kind) 1 0; bad = t.bad + cond (not (is_good kind)) 1 0 }
 
--- `CanCount totals limit`: one more entry can be counted up to this limit.
+-- `CanCount totals limit`: no number of `totals` exceeds `limit` if one more entry is counted.
 pub record CanCount (t : Totals) (limit : ℕ) : Type 0 where
   pub total : t.total + 1 ≤ limit
   pub good : t.good ≤ t.total

@@ -7,18 +7,19 @@ use Rattle.kt_sched.specs.EntryOf.{no_output}
 use Rattle.kt_sched.specs.Trace.{Event, Start, End}
 use Rattle.kt_sched.specs.SchedState.{decided_record, ended_body, entry_with, record_in}
 
--- `stage_runs role stage`: in this stage, the child in this role runs.
+-- `stage_runs role stage`: the child of a case in the role `role` runs in the stage `stage`.
 abbrev pub stage_runs : Role → Stage → Bool
 stage_runs Body (Running m) = true
 stage_runs Cleanup (Cleaning b) = true
 stage_runs role other = false
 
--- `first_stage decided`: the stage of a case before the first response.
+-- `first_stage decided`: the stage of a case with the decided verdict `decided`, if any, before the
+-- first response.
 abbrev pub first_stage : Option Judged → Stage
 first_stage None = Waiting
 first_stage (Some verdict) = Decided
 
--- `first_case job`: the case of this job before the first response.
+-- `first_case job`: the case of `job` before the first response.
 abbrev pub first_case : Job → Case
 first_case job = record { job = job; stage = first_stage job.decided }
 
@@ -29,7 +30,8 @@ pub record Replaced (old new : List Case) (i : ℕ) (stage was : Stage) : Type 0
   pub found : slice_get old i ≡ Some (record { job = job; stage = was })
   pub changed : new ≡ slice_set old i (record { job = job; stage = stage })
 
--- `TookEntry old new i entry`: `new` is `old` after the entry of case `i` was taken.
+-- `TookEntry old new i entry`: `entry` is the entry of case `i` in `old`. `new` is `old`, but the
+-- entry of case `i` is taken.
 pub record TookEntry (old new : List Case) (i : ℕ) (entry : Entry) : Type 0 where
   pub had : Job
   pub was : Stage
@@ -40,25 +42,25 @@ pub record TookEntry (old new : List Case) (i : ℕ) (entry : Entry) : Type 0 wh
   pub is : entry ≡ entry_with had case_record
   pub changed : new ≡ slice_set old i (record { job = left; stage = Taken })
 
--- `record_of verdict body last output`: the record of a case whose cleanup was over at the
--- timestamp `last`.
+-- `record_of verdict body last output`: the record of a case with the verdict `verdict` and the
+-- ended body `body`. Its cleanup has the output `output`, and was over at the timestamp `last`.
 abbrev pub record_of : Judged → EndedBody → ℕ → Output → CaseRecord
 record_of verdict body last output =
     record { verdict = verdict; started = body.started; millis = last - body.started; body = body.output; cleanup = output }
 
 -- `plain_record verdict started e`: the record of a case without a declared cleanup, whose body
--- ended with `e`.
+-- started at the timestamp `started` and ended with `e`.
 abbrev pub plain_record : Judged → ℕ → Ended → CaseRecord
 plain_record verdict started e =
     record { verdict = verdict; started = started; millis = e.moment - started; body = e.output; cleanup = no_output }
 
--- `can_start role stage`: a case in this stage can be started in this role.
+-- `can_start role stage`: a case in the stage `stage` can be started in the role `role`.
 abbrev pub can_start : Role → Stage → Bool
 can_start Body Waiting = true
 can_start Cleanup (Owing b) = true
 can_start role other = false
 
--- `IsAfter cleanup was event now`: the event moves a case from the stage `was` to the stage `now`.
+-- `IsAfter cleanup was event now`: `event` moves a case from the stage `was` to the stage `now`.
 -- `cleanup` is true if the case declares a cleanup.
 abbrev pub IsAfter : Bool → Stage → Event → Stage → Type 0
 IsAfter cleanup Waiting (Start i Body (Started m)) (Running k) = k ≡ m
@@ -74,28 +76,29 @@ IsAfter cleanup (Cleaning b) (End e) (Finished t) =
     (stage_runs e.role (Cleaning b) ≡ true) × IsVerdictAfter b.verdict (end.Ended e.outcome) t.verdict × (t ≡ record_of t.verdict b e.moment e.output)
 IsAfter cleanup was e now = ⊥
 
--- `owing_at stage i`: the position `i`, if a case in this stage owes its cleanup.
+-- `owing_at stage i`: `i` if a case in the stage `stage` owes its cleanup, else `None`.
 abbrev pub owing_at : Stage → ℕ → Option ℕ
 owing_at (Owing b) i = Some i
 owing_at _ i = None
 
--- `is_over stage`: a case in this stage has a whole history.
+-- `is_over stage`: a case in the stage `stage` has a whole history.
 abbrev pub is_over : Stage → Bool
 is_over Decided = true
 is_over (Finished t) = true
 is_over Taken = true
 is_over _ = false
 
--- `ready_at stage failed i`: the position `i`, if a case in this stage is over and no put failed.
+-- `ready_at stage failed i`: `i` if a case in the stage `stage` is over and no put failed, else
+-- `None`.
 abbrev pub ready_at : Stage → Bool → ℕ → Option ℕ
 ready_at stage failed i = if is_over stage && not failed then Some i else None
 
--- `same_flag flag other`: the two flags are equal.
+-- `same_flag flag other`: `flag` and `other` are equal.
 abbrev pub same_flag : Bool → Bool → Bool
 same_flag true b = b
 same_flag false b = not b
 
--- `positions_where flag jobs`: the positions of the exclusive jobs if `flag` is true, else of the
--- ordinary jobs.
+-- `positions_where flag jobs`: the positions of the exclusive jobs among `jobs` if `flag` is true,
+-- else of the ordinary jobs.
 abbrev pub positions_where : Bool → List Job → List ℕ
 positions_where flag jobs = map (λ (job : Job). job.position) (filter (λ (job : Job). same_flag flag job.exclusive) jobs)
