@@ -16,7 +16,7 @@ use Rattle.kt_args.specs.Inner.Reading.{Answers}
 use Rattle.kt_args.specs.declared.command.Command.TheVariants as command
 use Rattle.kt_args.specs.declared.command_fault.CommandFault.TheVariants as fault
 
--- `is_command name`: `name` is one of the five commands
+-- `is_command name`: `name` is the name of one of the five commands.
 abbrev pub is_command : Text → Bool
 is_command name = bytes_eq name (codes "list") || (bytes_eq name (codes "test") || (bytes_eq name (codes "debug")
     || (bytes_eq name (codes "report") || bytes_eq name (codes "report-junit"))))
@@ -51,7 +51,8 @@ by_stop (Some p) = go (find (λ s. answers_to p.0 (label_of s)) (built kyua_app)
 
 -- ---- the result for it
 
--- `Fits entered r`: a run number is in its range, and `Usage` comes only without `entered`
+-- `Fits entered r`: the run number of the result `r` is in its range, and `r` is not `Usage` if
+-- `entered` is true.
 abbrev Fits : Bool → Result Command CommandFault → Type 0
 Fits entered (Ok c) = HasRunNumber c
 Fits entered (Err (fault.Usage message)) = entered ≡ false
@@ -70,7 +71,7 @@ junit_fits : (before own : List Row) (run' : Option (Option ℕ)) → IfSome run
 junit_fits before own None range = tt
 junit_fits before own (Some run') range = range
 
--- a result fits for each outcome of the comparisons of the name
+-- The result fits for each outcome of the comparisons of the name.
 named_fits : (a b c d e : Bool) (options : CaseOptions) (file : List ℕ) (report junit : Result Command CommandFault) → Fits true report → Fits true junit
     → Fits (a || (b || (c || (d || e)))) (cond a (Ok (command.List options)) (cond b (Ok (command.Test options file)) (cond c (Ok (command.Debug options)) (cond d report (cond e junit (Err (fault.Usage [])))))))
 named_fits true b c d e options file report junit r j = tt
@@ -90,31 +91,31 @@ in_fits before (Some p) =
 both_true : (a b : Bool) → a ≡ true → b ≡ true → (a && b) ≡ false → ⊥
 both_true a b p q r = cc
 
--- if `clap` finds a command, the result is not a usage fault
+-- If `clap` finds a command, the result is not `Usage`.
 pub no_usage : (before : List Row) (words : List Text) (message : List ℕ) → is_some (subcommand_of kyua_app words) ≡ true
     → command_in before (subcommand_of kyua_app words) ≡ Err (fault.Usage message) → ⊥
 no_usage before words message some is =
     both_true (is_some (subcommand_of kyua_app words)) _ some (by_stop (stop_after (built kyua_app).top.rules (names_of (built kyua_app)) (argument_words kyua_app words)))
     (subst (Fits _) is (in_fits before (subcommand_of kyua_app words)))
 
--- the run number of each result is in its range
+-- The run number of each result is in its range.
 pub number_in_range : (words : List Text) (r : Result Command CommandFault) → Reads words r → IfOk r HasRunNumber
 number_in_range words (Err f) s = tt
 number_in_range words (Ok c) s = subst (Fits _) (sym s.1) (in_fits (matches_of kyua_app words) (subcommand_of kyua_app words))
 
 -- ---- the arguments
 
--- the command line is simple, as `clap` defines it
+-- The command line is simple, as `clap` defines it.
 pub is_simple_line : is_simple kyua_app ≡ true
 unfolding clap_on_literals
 is_simple_line = refl
 
--- the command line is simple, and no argument has a rule about another
+-- The command line is simple, and no argument has a rule about another argument.
 pub is_free_line : is_simple_and_free kyua_app ≡ true
 unfolding clap_on_literals
 is_free_line = refl
 
--- a result for the values that `clap` finds is a result for the arguments
+-- A result for the values that `clap` finds is a result for the arguments.
 pub reads_found : (words : List Text) (before : List Row) (o : Option (Text × List Row)) (r : Result Command CommandFault)
     → before ≡ matches_of kyua_app words → o ≡ subcommand_of kyua_app words → is_some o ≡ true → fault_of kyua_app words ≡ []
     → Answers (command_in before o) r → Reads words r
@@ -125,14 +126,14 @@ reads_found words before o (Err (fault.NoMemory shortage)) e d some none a = tt
 reads_found words before o (Err (fault.Usage message)) e d some none a =
     absurd (no_usage before words message (ap is_some (sym d) ∙ some) (ap (command_in before) (sym d) ∙ a))
 
--- a fault that is right for a lack of memory is right for any other error
+-- An error that is right for a failed allocation is right for any other error.
 pub refused_for : (short : Type 0) (f : CommandFault) → RefusesWords short f → RefusesWords ⊥ f
 refused_for short fault.BadKind r = r
 refused_for short fault.BadRun r = r
 refused_for short (fault.NoMemory shortage) r = tt
 refused_for short (fault.Usage message) r = λ none. none
 
--- a command line that `clap` accepts contains a command
+-- A command line that `clap` accepts contains a command.
 pub enters : (line : ClapCommand) (m : ArgMatches) → app_of line ≡ kyua_app → (out-Command line).has_globals ≡ false → IsParsedFrom line m
     → is_some (subcommand_rows_of m) ≡ true
 enters line m app globals p =

@@ -1,4 +1,5 @@
--- Commands, by the values that `clap` finds on a command line. A row has the values of one option.
+-- Commands, by the values that `clap` finds on a command line. A row has the name and the values of
+-- one option.
 use Rattle.std.specs.Prelude.{◌≡◌, ◌≢◌, ⊤, ℕ, Bool, false, List, [], Option, Some, None, Result, Ok, Err, map, unwrap_or, option_map, bytes_eq, codes, if◌then◌else◌}
 use Rattle.std.specs.Str.{chars}
 use Rattle.clap.specs.Words.{Row, Text, all_of, fault_of, first_of, matches_of, subcommand_of}
@@ -14,15 +15,16 @@ use Rattle.kt_args.specs.Grammar.{kyua_app}
 
 -- ---- values by the names of their options
 
--- `text_given id rows`: the first value of option `id` in `rows`, if any.
+-- `text_given id rows`: the first value of the option `id` in `rows`, if any.
 abbrev pub text_given : Text → List Row → Option (List ℕ)
 text_given id rows = option_map chars (first_of id rows)
 
--- `text_or instead id rows`: the first value of option `id` in `rows`, else `instead`.
+-- `text_or instead id rows`: the first value of the option `id` in `rows`, or `instead` without a
+-- value.
 abbrev pub text_or : Text → Text → List Row → List ℕ
 text_or instead id rows = chars (unwrap_or (first_of id rows) instead)
 
--- `texts_given id rows`: all values of option `id` in `rows`, in order.
+-- `texts_given id rows`: all values of the option `id` in `rows`, in order.
 abbrev pub texts_given : Text → List Row → List (List ℕ)
 texts_given id rows = map chars (unwrap_or (all_of id rows) [])
 
@@ -31,25 +33,26 @@ abbrev pub is_true : Option Text → Bool
 is_true None = false
 is_true (Some word) = bytes_eq word (codes "true")
 
--- `results_in rows`: the path of the results file in `rows`, else the default.
+-- `results_in rows`: the path of the results file in `rows`, or the default `kyua.db`.
 abbrev pub results_in : List Row → List ℕ
 results_in rows = text_or (codes "kyua.db") (codes "results") rows
 
--- `run_of value`: without `value` no run, else the run number that `value` spells, if any.
+-- `run_of value`: the run that the value of `--run` names. Without a value, no run is named. The
+-- result is `None` if the value is not a run number.
 abbrev pub run_of : Option Text → Option (Option ℕ)
 run_of None = Some None
 run_of (Some word) = option_map Some (run_named word)
 
--- `kinds_of value`: without `value` the default kinds, else the kinds that `value` names, if it is
--- a filter.
+-- `kinds_of value`: the kinds that the value of `--results-filter` names, or the default kinds
+-- without a value. The result is `None` if an element does not name a kind.
 abbrev pub kinds_of : Option Text → Option (List Kind)
 kinds_of None = Some default_kinds
 kinds_of (Some word) = kinds_named (comma_words word)
 
 -- ---- commands
 
--- `options_in before own`: the options of a command over test cases, with `before` the values
--- before its name and `own` those after it.
+-- `options_in before own`: the options of `list`, `test` or `debug`. The rows `before` have the
+-- values before the name of the command, and `own` the values after it.
 abbrev pub options_in : List Row → List Row → CaseOptions
 options_in before own = record {
   config = text_given (codes "config") before;
@@ -59,8 +62,8 @@ options_in before own = record {
   filters = texts_given (codes "filters") own;
 }
 
--- `report_options before own run'`: the options of a report of `run'`, with `before` the values
--- before its name and `own` those after it.
+-- `report_options before own run'`: the options of a report on the run `run'`. The rows `before`
+-- have the values before the name of the command, and `own` the values after it.
 abbrev pub report_options : List Row → List Row → Option ℕ → ReportOptions
 report_options before own run' = record {
   config = text_given (codes "config") before;
@@ -69,29 +72,31 @@ report_options before own run' = record {
   run = run';
 }
 
--- `report_with before own kinds run'`: the result of `report`. A wrong filter is rejected before a
--- wrong run number.
+-- `report_with before own kinds run'`: the command `report` with the kinds `kinds` and the run
+-- `run'`. The error is `BadKind` if `kinds` is `None`, or else `BadRun` if `run'` is `None`.
 abbrev pub report_with : List Row → List Row → Option (List Kind) → Option (Option ℕ) → Result Command CommandFault
 report_with before own None run' = Err fault.BadKind
 report_with before own (Some kinds) None = Err fault.BadRun
 report_with before own (Some kinds) (Some run') =
     Ok (command.Report (report_options before own run') kinds (is_true (first_of (codes "verbose") own)))
 
--- `junit_with before own run'`: the result of `report-junit`. A wrong run number is rejected.
+-- `junit_with before own run'`: the command `report-junit` with the run `run'`, or the error
+-- `BadRun` if `run'` is `None`.
 abbrev pub junit_with : List Row → List Row → Option (Option ℕ) → Result Command CommandFault
 junit_with before own None = Err fault.BadRun
 junit_with before own (Some run') = Ok (command.ReportJunit (report_options before own run'))
 
--- `report_in before own`: the result of `report` with the values `before` and `own`.
+-- `report_in before own`: the command `report` or its error, from the values `before` and `own`.
 abbrev pub report_in : List Row → List Row → Result Command CommandFault
 report_in before own = report_with before own (kinds_of (first_of (codes "kinds") own)) (run_of (first_of (codes "run") own))
 
--- `junit_in before own`: the result of `report-junit` with the values `before` and `own`.
+-- `junit_in before own`: the command `report-junit` or its error, from the values `before` and
+-- `own`.
 abbrev pub junit_in : List Row → List Row → Result Command CommandFault
 junit_in before own = junit_with before own (run_of (first_of (codes "run") own))
 
--- `command_named before name own`: the command `name`, with `before` the values before it and `own`
--- those after it.
+-- `command_named before name own`: the command `name` or its error. The rows `before` have the
+-- values before the name, and `own` the values after it.
 abbrev pub command_named : List Row → Text → List Row → Result Command CommandFault
 command_named before name own =
     if bytes_eq name (codes "list") then Ok (command.List (options_in before own))
@@ -101,17 +106,17 @@ command_named before name own =
     else if bytes_eq name (codes "report-junit") then junit_in before own
     else Err (fault.Usage [])
 
--- `command_in before entered`: the command `entered`, a name with its values, or a usage fault
--- without it.
+-- `command_in before entered`: the command that `entered` has, a name with the values after it, or
+-- the error `Usage` without a command.
 abbrev pub command_in : List Row → Option (Text × List Row) → Result Command CommandFault
 command_in before None = Err (fault.Usage [])
 command_in before (Some entered) = command_named before entered.0 entered.1
 
 -- ---- results
 
--- `Reads words result`: `result` is the parse of the arguments `words`. It is `Usage` if `clap`
--- rejects them, else the command of the values that `clap` finds, or its fault. `NoMemory` is
--- always possible.
+-- `Reads words result`: `result` is the result of parsing the arguments `words`. It is `Usage` if
+-- `clap` rejects them, else the command of the values that `clap` finds, or its error. `NoMemory`
+-- is always possible.
 abbrev pub Reads : List Text → Result Command CommandFault → Type 0
 Reads words (Err (fault.NoMemory shortage)) = ⊤
 Reads words (Err (fault.Usage message)) = fault_of kyua_app words ≢ []

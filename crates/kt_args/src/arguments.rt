@@ -138,10 +138,10 @@ fn verbose_word<'a>(alloc: Global) -> Arg<'a>
         .help("Shows the properties of each case beneath its line, defaults included")
 }
 
-/// A command line that is being built, or its failed allocation.
+/// A command line of `clap` that is being built, or the error of a failed allocation.
 type ClapCommand<'a> = Result<clap::Command<'a>, NoMemory>;
 
-/// Returns both values, or the error of the first one that failed.
+/// Returns both values, or the error of the first result that failed.
 fn both<A: Drop, B: Drop>(
     first: Result<A, NoMemory>,
     second: Result<B, NoMemory>,
@@ -151,7 +151,9 @@ fn both<A: Drop, B: Drop>(
     Ok((first?, second?))
 }
 
-/// Adds an option that is not global to a command line.
+/// Returns `line` with the option `option`, or the error of a failed allocation.
+///
+/// The option must not be global, which means valid in each command.
 fn with_option<'a>(line: ClapCommand<'a>, option: Arg<'a>) -> ClapCommand<'a>
     requires { option.global ≡ false }
     ensures app { (app : App) → (rule : Rule) → rule_of option.entry ≡ rule
@@ -163,7 +165,9 @@ fn with_option<'a>(line: ClapCommand<'a>, option: Arg<'a>) -> ClapCommand<'a>
     Ok(line.arg(option)?)
 }
 
-/// Adds a command whose options are not global to a command line.
+/// Returns `line` with the command `command`, or the error of a failed allocation.
+///
+/// The options of the command must not be global.
 fn with_command<'a>(line: ClapCommand<'a>, command: ClapCommand<'a>) -> ClapCommand<'a>
     requires { IfOk command (λ c. (fields_of c).has_globals ≡ false) }
     ensures app { (app : App) → (sub : App) → IfOk command.entry (λ c. app_of c ≡ sub)
@@ -175,7 +179,7 @@ fn with_command<'a>(line: ClapCommand<'a>, command: ClapCommand<'a>) -> ClapComm
     Ok(line.subcommand(command)?)
 }
 
-/// Creates a command without options.
+/// Creates the command `name` without options, with the description `about`.
 ///
 /// Its help ends with a line about the options before the command.
 fn command_words<'a>(alloc: Global, name: &'a str, about: &'a str) -> ClapCommand<'a>
@@ -264,7 +268,7 @@ fn junit_words<'a>(alloc: Global) -> ClapCommand<'a>
     with_option(line, run_word(alloc))
 }
 
-/// Creates the command line of the program, still without options and commands.
+/// Creates the command line of `kyua` without its options and commands.
 ///
 /// Its arguments don't include the program's own name, and a command is required.
 fn program_words<'a>(alloc: Global) -> ClapCommand<'a>
@@ -284,6 +288,10 @@ fn program_words<'a>(alloc: Global) -> ClapCommand<'a>
 /// Creates the whole command line of kyua(1), with all options and commands.
 ///
 /// Its arguments don't include the program's own name.
+///
+/// # Errors
+///
+/// - `NoMemory`: an allocation fails.
 pub fn all_words<'a>(alloc: Global) -> Result<clap::Command<'a>, NoMemory>
     ensures app { IfOk result (λ c. app_of c ≡ kyua_app) }
     ensures own { IfOk result (λ c. (fields_of c).has_globals ≡ false) }

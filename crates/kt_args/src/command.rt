@@ -7,6 +7,7 @@ pub enum Command {
     List(CaseOptions),
     /// Runs test cases and records their results in a file.
     Test {
+        /// The options that select the cases.
         options: CaseOptions,
         /// The path of the results file (`-r`).
         results: Text,
@@ -15,10 +16,11 @@ pub enum Command {
     Debug(CaseOptions),
     /// Shows a recorded run as text.
     Report {
+        /// The options that select the run.
         options: ReportOptions,
         /// The result kinds whose cases are listed (`--results-filter`).
         kinds: Items<Kind>,
-        /// Whether each case's line is followed by its properties (`--verbose`).
+        /// `true` if the properties of each case follow its line (`--verbose`).
         verbose: bool,
     },
     /// Shows a recorded run as a JUnit report.
@@ -51,7 +53,7 @@ impl Command {
 
     /// Returns the path of the results file that the command reads or writes.
     ///
-    /// `list` and `debug` have none.
+    /// The result is `None` for `list` and `debug`.
     pub fn results(&self) -> Option<&Text>
         ensures { option_copied result ≡ results_of self.now }
     {

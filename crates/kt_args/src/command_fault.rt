@@ -10,7 +10,7 @@ use kt_base::{NoMemory, OUT_OF_MEMORY, Text};
 use std::alloc::Global;
 use thiserror::Error;
 
-/// A failed allocation while arguments were parsed.
+/// An allocation that failed while arguments were parsed.
 ///
 /// Only a failed allocation, here or in `clap`, creates this value.
 #[derive(Clone, Copy, Debug)]
@@ -48,7 +48,8 @@ impl From<NoMemory> for CommandFault {
 }
 
 impl CommandFault {
-    /// Returns the text of the error line (this profile), or the whole message of `clap`.
+    /// Returns the message of the error (this profile): for `Usage`, the message or the help of
+    /// `clap`.
     ///
     /// `Display` prints the same text.
     #[tactic(auto, unfolding(crate::proofs::Common::chars))]
@@ -63,7 +64,8 @@ impl CommandFault {
         }
     }
 
-    /// Converts an error of `clap` to `Usage` with its message, or to `NoMemory` if memory ran out.
+    /// Converts an error of `clap` to `Usage` with its message, or to `NoMemory` if an allocation
+    /// failed.
     pub(crate) fn of_words(alloc: Global, error: clap::Error) -> CommandFault
         ensures { RefusesWords (kind_of error ≡ OutOfMemory) result }
     {

@@ -14,14 +14,14 @@ const KINDS: [(&str, Kind); 5] = [
     ("failed", Kind::Failed),
 ];
 
-/// Returns the result kind that an element of `--results-filter` names, if it names any.
+/// Returns the result kind that `word`, an element of `--results-filter`, names, if any.
 fn kind_of(word: &[u8]) -> Option<Kind>
     ensures { result ≡ kind_named word.now }
 {
     named_bytes(word, &KINDS)
 }
 
-/// Returns the elements of a comma-separated list.
+/// Returns the elements of `words`, a comma-separated list.
 fn elements(alloc: Global, words: &[u8]) -> Result<Vec<&[u8]>, NoMemory>
     ensures { IfOk result (λ elements.
         map (λ element. element.now) elements.items ≡ comma_words words.now) }
@@ -29,9 +29,14 @@ fn elements(alloc: Global, words: &[u8]) -> Result<Vec<&[u8]>, NoMemory>
     Ok(words.split(|c| *c == b',').collect(alloc)?)
 }
 
-/// Parses a results filter: result kinds separated by commas, in their order.
+/// Parses a results filter: one or more result kinds, separated by commas.
 ///
-/// Fails with `BadKind` if an element does not name a kind.
+/// Returns the kinds in their order. A kind may be given several times.
+///
+/// # Errors
+///
+/// - `BadKind`: an element does not name a kind. An empty filter has one empty element.
+/// - `NoMemory`: an allocation fails.
 pub fn kinds_in(alloc: Global, words: &[u8]) -> Result<Items<Kind>, CommandFault>
     ensures { ReadsKinds (kinds_named (comma_words words.now)) result }
 {
@@ -47,6 +52,10 @@ pub fn kinds_in(alloc: Global, words: &[u8]) -> Result<Items<Kind>, CommandFault
 }
 
 /// Returns the result kinds that `report` shows without a filter: all but `Passed`.
+///
+/// # Errors
+///
+/// - `NoMemory`: an allocation fails.
 pub fn default_kinds(alloc: Global) -> Result<Items<Kind>, NoMemory>
     ensures { IfOk result (λ kinds. kinds ≡ default_kinds) }
 {

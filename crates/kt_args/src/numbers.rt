@@ -3,7 +3,7 @@ ghost use Rattle.kt_args.specs.Common.{is_number, from_one, run_named};
 
 use kt_base::{decimal_up_to, is_digit};
 
-/// The greatest run number.
+/// The greatest run number (this profile).
 const LAST_RUN: u64 = 1_000_000;
 
 /// Returns `true` if `word` is one or more decimal digits.
@@ -13,7 +13,7 @@ fn is_number(word: &[u8]) -> bool
     !word.is_empty() && word.iter().all(|c| is_digit(*c))
 }
 
-/// Returns `number` unless it is 0.
+/// Returns `number`, or `None` if `number` is 0.
 fn from_one(number: u64) -> Option<u64>
     ensures { result ≡ from_one number }
 {

@@ -8,9 +8,9 @@ pub struct CaseOptions {
     pub variables: Items<Text>,
     /// The path of the Kyuafile (`-k`). Its directory is the root of the tree.
     pub kyuafile: Text,
-    /// The directory in which the runner creates its root directory (`--work`).
+    /// The path of the directory in which the runner creates its work directories (`--work`).
     pub work: Text,
-    /// The filters as they were given, in order.
+    /// The arguments `FILTER`, or the argument `PROGRAM:CASE` of `debug`, in order and not parsed.
     pub filters: Items<Text>,
 }
 

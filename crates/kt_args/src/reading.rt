@@ -15,14 +15,14 @@ use std::io;
 /// The message for arguments that are not UTF-8, as `clap` prints it.
 const UNREADABLE: &str = "invalid UTF-8 was detected in one or more arguments";
 
-/// Returns the first value of the option `name`, if it has any.
+/// Returns the first value of the option `name` that `clap` found, if any.
 fn word_of<'a>(matches: &ArgMatches<'a>, name: &str) -> Option<&'a str>
     ensures { option_map (λ word. word.now) result ≡ first_of name.now (rows_of (found_of matches.now)) }
 {
     matches.get_str(name)
 }
 
-/// Returns all values of the option or argument `name`, or `None` if it has no entry.
+/// Returns the values of the option or argument `name` that `clap` found, or `None` without values.
 fn words_of<'b, 'a>(matches: &'b ArgMatches<'a>, name: &str) -> Option<&'b [&'a str]>
     ensures { option_map (λ words. map (λ word. word.now) words.now) result
         ≡ all_of name.now (rows_of (found_of matches.now)) }
@@ -30,7 +30,7 @@ fn words_of<'b, 'a>(matches: &'b ArgMatches<'a>, name: &str) -> Option<&'b [&'a 
     matches.get_strs(name)
 }
 
-/// Returns a copy of the value of the option `name`, or of `instead` if it has no value.
+/// Returns a copy of the value of the option `name`, or of `instead` if the option has no value.
 ///
 /// `clap` has the same default: it prints the default in its help, and fills it in. That `clap`
 /// fills it in for each option is not proved, so this function applies the default too.
@@ -49,7 +49,7 @@ fn text_or<'a>(
     }
 }
 
-/// Returns a copy of the value of the option `name`, if it has any.
+/// Returns a copy of the value of the option `name`, if `clap` found a value.
 fn text_given<'a>(
     alloc: Global,
     matches: &ArgMatches<'a>,
@@ -63,7 +63,7 @@ fn text_given<'a>(
     }
 }
 
-/// Copies each argument into a `Text`, in order.
+/// Copies each of `words` into a `Text`, in order.
 fn texts(alloc: Global, words: &[&str]) -> Result<Items<Text>, NoMemory>
     ensures { IfOk result (λ texts. texts ≡ map (λ word. chars word.now) words.now) }
 {
@@ -130,7 +130,7 @@ fn is_verbose<'a>(matches: &ArgMatches<'a>) -> bool
 
 /// Returns the options of `list`, `test` or `debug`.
 ///
-/// `before` has the options before the command (`-c` and `-v`), `own` those after it.
+/// `before` has the options before the command (`-c` and `-v`), and `own` has the options after it.
 fn case_options<'a>(
     alloc: Global,
     before: &ArgMatches<'a>,
@@ -153,7 +153,7 @@ fn case_options<'a>(
     })
 }
 
-/// Returns the path of the results file (`-r`), or its default.
+/// Returns the path of the results file (`-r`), or the default path `kyua.db`.
 fn results_of<'a>(alloc: Global, own: &ArgMatches<'a>) -> Result<Text, NoMemory>
     ensures { IfOk result (λ text. text ≡ results_in (rows_of (found_of own.now))) }
 {
@@ -162,7 +162,7 @@ fn results_of<'a>(alloc: Global, own: &ArgMatches<'a>) -> Result<Text, NoMemory>
 
 /// Returns the options of `report` or `report-junit`, with the run number `run`.
 ///
-/// `before` has the options before the command (`-c` and `-v`), `own` those after it.
+/// `before` has the options before the command (`-c` and `-v`), and `own` has the options after it.
 fn report_options<'a>(
     alloc: Global,
     before: &ArgMatches<'a>,
@@ -205,6 +205,8 @@ fn read_report<'a>(
 }
 
 /// Returns the command `report-junit` with the values of its options.
+///
+/// Fails with `BadRun` if the run number is wrong.
 fn read_junit<'a>(
     alloc: Global,
     before: &ArgMatches<'a>,
@@ -220,7 +222,7 @@ fn read_junit<'a>(
 
 /// Returns the command `name` with the values of its options.
 ///
-/// Fails with `Usage` if `name` is not a command.
+/// Fails with `Usage` and no text if `name` is not a command. `clap` accepts no such name.
 fn read_named<'a>(
     alloc: Global,
     before: &ArgMatches<'a>,
@@ -252,7 +254,7 @@ fn read_named<'a>(
     Err(CommandFault::Usage(Text::new(alloc)))
 }
 
-/// Returns the command name that `clap` found, with the values after the name, if there is any.
+/// Returns the name of the command that `clap` found, with the values after the name, if any.
 fn entered_in<'b, 'a>(matches: &'b ArgMatches<'a>) -> Option<(&'a str, &'b ArgMatches<'a>)>
     ensures { option_map (λ entered. (entered.0.now, rows_of (found_of entered.1.now))) result
         ≡ subcommand_rows_of matches.now }
@@ -262,7 +264,7 @@ fn entered_in<'b, 'a>(matches: &'b ArgMatches<'a>) -> Option<(&'a str, &'b ArgMa
 
 /// Returns the command that `clap` found, with the values of its options.
 ///
-/// Fails with `Usage` if there is no command.
+/// Fails with `Usage` and no text if `clap` found no command. `clap` accepts no such command line.
 fn read_matches<'a>(alloc: Global, matches: &ArgMatches<'a>) -> Result<Command, CommandFault>
     ensures { Answers (command_in (rows_of (found_of matches.now))
         (subcommand_rows_of matches.now)) result }
@@ -299,7 +301,7 @@ pub fn read_command<'a>(alloc: Global, words: &'a [String]) -> Result<Command, C
     }
 }
 
-/// Creates the fault for arguments that are not UTF-8, with a message in the form of `clap`'s.
+/// Creates the error of arguments that are not UTF-8: a `Usage` with a message in `clap`'s form.
 fn refuse_words(alloc: Global) -> Result<CommandFault, NoMemory>
     ensures { IfOk result (λ fault. RefusesWords ⊥ fault) }
 {
@@ -308,7 +310,7 @@ fn refuse_words(alloc: Global) -> Result<CommandFault, NoMemory>
     Ok(CommandFault::of_words(alloc, error))
 }
 
-/// Creates the fault for arguments that are not UTF-8, or `NoMemory` if an allocation fails.
+/// Creates the error of arguments that are not UTF-8, or `NoMemory` if an allocation fails.
 fn unreadable_words(alloc: Global) -> CommandFault
     ensures { RefusesWords ⊥ result }
 {
@@ -318,9 +320,9 @@ fn unreadable_words(alloc: Global) -> CommandFault
     }
 }
 
-/// Converts the error of reading the process's arguments to a fault.
+/// Converts `error`, the error of reading the arguments of the process, to a `CommandFault`.
 ///
-/// The fault is `NoMemory` if memory ran out. Otherwise an argument is not UTF-8.
+/// The result is `NoMemory` if an allocation failed. Otherwise, an argument is not UTF-8.
 fn refused_words(alloc: Global, error: &io::Error) -> CommandFault
     ensures { RefusesWords (error_kind error.now ≡ OutOfMemory) result }
 {
@@ -330,7 +332,7 @@ fn refused_words(alloc: Global, error: &io::Error) -> CommandFault
     }
 }
 
-/// Parses the arguments of the process as a command of kyua(1).
+/// Parses `words`, the arguments of the process, as a command of kyua(1).
 ///
 /// The first argument, the program's own name, is skipped.
 ///
@@ -363,7 +365,7 @@ pub fn read_words(alloc: Global, words: io::Result<Args>) -> Result<Command, Com
     }
 }
 
-/// Collects the remaining arguments of an iterator, in order.
+/// Collects the remaining arguments of the iterator `words`, in order.
 fn collected(alloc: Global, words: Args) -> Result<Vec<String>, NoMemory>
     ensures { IfOk result (λ all. all.items ≡ into_iter_items words) }
 {

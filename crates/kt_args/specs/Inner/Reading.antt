@@ -4,21 +4,22 @@ use Rattle.kt_base.specs.declared.verdict.Kind.{Kind}
 use Rattle.kt_args.specs.declared.command_fault.CommandFault.{CommandFault}
 use Rattle.kt_args.specs.declared.command_fault.CommandFault.TheVariants as fault
 
--- `ReadsRun right result`: `result` is the run `right`, or `BadRun` if `right` is `None`.
+-- `ReadsRun right result`: `result` is the optional run number `right`, or `BadRun` if `right` is
+-- `None`.
 abbrev pub ReadsRun : Option (Option ℕ) → Result (Option ℕ) CommandFault → Type 0
 ReadsRun right (Ok run') = right ≡ Some run'
 ReadsRun right (Err fault.BadRun) = right ≡ None
 ReadsRun right other = ⊥
 
--- `ReadsKinds right result`: `result` is `right`, or `BadKind` if `right` is `None`. Memory may run
--- out.
+-- `ReadsKinds right result`: `result` is the list of kinds `right`, or `BadKind` if `right` is
+-- `None`. An allocation may fail.
 abbrev pub ReadsKinds : Option (List Kind) → Result (List Kind) CommandFault → Type 0
 ReadsKinds right (Ok kinds) = right ≡ Some kinds
 ReadsKinds right (Err fault.BadKind) = right ≡ None
 ReadsKinds right (Err (fault.NoMemory shortage)) = ⊤
 ReadsKinds right (Err other) = ⊥
 
--- `Answers right result`: `result` is `right`, unless memory ran out.
+-- `Answers right result`: `result` is `right`, unless an allocation failed.
 abbrev pub Answers : {A : Type 0} → Result A CommandFault → Result A CommandFault → Type 0
 Answers right (Err (fault.NoMemory shortage)) = ⊤
 Answers right result = right ≡ result
