@@ -58,7 +58,7 @@ names_word words filters fault n found word same f at read copied =
 -- ---- the filters of a command
 
 module _ (needs_case : Bool) (words : List (List ℕ)) where
-  -- `Reads result`: the filters of the arguments, or a failed allocation.
+  -- `Reads result`: `result` is the result of `Filters`, or the error of a failed allocation.
   abbrev pub Reads : Result (List Filter) Stop → Type 0
   Reads result = IsShort result ⊎ Filters needs_case words result
 

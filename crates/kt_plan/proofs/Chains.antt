@@ -4,7 +4,7 @@ use Rattle.kt_plan.proofs.Common.{Child, IsIdle, Chain, Answered, chain-append}
 use Rattle.kt_base.specs.declared.child.Role.{Role}
 
 module _ {W Q : Type 0} {leads : W → Q → W → Type 0} where
-  -- Calls with a fact have each fact that follows from it.
+  -- If `P` holds of the calls and implies `R`, `R` holds of the calls.
   pub answered-as : {old new : W} {P R : List Q → Type 0} → Answered leads old new P → ((asked : List Q) → P asked → R asked)
       → Answered leads old new R
   answered-as a f = record { asked = a.asked; chain = a.chain; holds = f a.asked a.holds }
@@ -34,7 +34,7 @@ asked_short leads old new First P r fault e a = record { asked = a.asked; chain 
 pub asked_nothing : {W Q : Type 0} (leads : W → Q → W → Type 0) (world : W) (P : List Q → Type 0) → P [] → Answered leads world world P
 asked_nothing leads world P p = record { asked = []; chain = refl; holds = p }
 
--- A view that no call changes is unchanged after many calls.
+-- If no single call changes the view of the world, no list of calls changes it.
 still : {W Q X : Type 0} (leads : W → Q → W → Type 0) (view : W → X) → ((s t : W) (q : Q) → leads s q t → view t ≡ view s) → (qs : List Q) (a b : W) → Chain leads a qs b → view b ≡ view a
 still leads view keeps [] a b h = ap view h
 still leads view keeps (q ∷ qs) a b h = still leads view keeps qs h.0 b h.2 ∙ keeps a h.0 q h.1

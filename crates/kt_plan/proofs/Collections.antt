@@ -61,15 +61,15 @@ module _ {W : Type 0} (asks : W → Asked → W → Type 0) (replies : W → Rep
 
     module _ (shown : List Program) (filters : List Filter) (found : List Candidate) (same : shown ≡ programs) (own : filters ≡ settings.filters)
         (b : Answered replies mid new (λ answers. Offers settings.config settings.filters shown answers found)) where
-      -- The calls to the tree and for the lists are those of the selection.
+      -- The calls to the tree and for the lists are the calls of the selection.
       collected : (r : Result Chosen Stop) → CollectsOrShort settings kyuafile a.asked b.asked r → Collected asks replies settings kyuafile old new r
       collected r h = record { asked = a.asked; answers = b.asked; loaded = mid; chain = a.chain; lists = b.chain; holds = h }
 
-      -- The cases are those of the programs.
+      -- The cases are the cases of the programs.
       offers : Offers settings.config settings.filters programs b.asked found
       offers = subst (λ (ps : List Program). Offers settings.config settings.filters ps b.asked found) same b.holds
 
-      -- The result of the filters is that of the selection.
+      -- The result of the filters is the result of the selection.
       pub all_chosen : (r : Result Chosen Stop) → IfOk r (λ c. c ≡ chosen_of filters found) → OnOk r (length found ≤ most_items) → IfErr r (λ why. RanOut why ⊎ ((why ≡ stop.TooManyCases) × (most_items < length found)))
           → Collected asks replies settings kyuafile old new r
       all_chosen (Ok c) e few s =

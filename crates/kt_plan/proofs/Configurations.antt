@@ -40,11 +40,13 @@ pub none_given : (path : Option (List ℕ)) (config : Values) → path ≡ None 
 none_given path config e h = record { meant = Ok []; means = subst (λ (p : Option (List ℕ)). ReadsConfig p [] (Ok [])) (sym e) none; gives = h }
 
 module _ {W : Type 0} (replies : W → Reply → W → Type 0) (old new : W) where
-  -- `Reads path outcome`: the configuration of the file `path`, or a failed allocation.
+  -- `Reads path outcome`: `outcome` is the configuration of the file at `path` or its `Stop`, or
+  -- the error of a failed allocation.
   abbrev pub Reads : Option (List ℕ) → Result Values Stop → Type 0
   Reads path outcome = Answered replies old new (λ answers. OrShort outcome path answers (Configured (ReadsConfig path answers) outcome))
 
-  -- `Configuration options outcome`: the configuration of a command, or a failed allocation.
+  -- `Configuration options outcome`: `outcome` is the configuration of a command or its `Stop`, or
+  -- the error of a failed allocation.
   abbrev pub Configuration : CaseOptions → Result Values Stop → Type 0
   Configuration options outcome = Answered replies old new (λ answers. OrShort outcome options.config answers (Configured (Configures options answers) outcome))
 
@@ -69,7 +71,7 @@ module _ {W : Type 0} (replies : W → Reply → W → Type 0) (old new : W) whe
       answered-once (ReadConfig path (Ok bytes)) (subst (λ (a : Result (List ℕ) ReadFault). replies old (ReadConfig path a) new) e t)
       (inr (record { meant = c.meant; means = seen path bytes c.meant c.means; gives = c.gives }))
 
-  -- The `Stop` of the configuration file is that of the configuration.
+  -- The `Stop` of the configuration file is the `Stop` of the configuration.
   pub configured_not : (options : CaseOptions) (found outcome : Result Values Stop) (fault : Stop) → found ≡ Err fault → IsErrAnd outcome (λ e. e ≡ fault) → Reads options.config found
       → Configuration options outcome
   configured_not options found outcome fault e r a =
@@ -86,7 +88,7 @@ module _ {W : Type 0} (replies : W → Reply → W → Type 0) (old new : W) whe
       by answers (inl s) = inl s
       by answers (inr c) = inr (meant answers c.meant c.means c.gives)
 
-  -- A fact that follows from the definitions so far is true of the calls.
+  -- If `P` follows from the definitions of the configuration file, `P` holds of the calls.
   pub with_definitions : {found : Result Values Stop} {config : Values} {path : Option (List ℕ)} {P : List Reply → Type 0}
       (Means : List Reply → Result (List Definition) Stop → Type 0) → found ≡ Ok config
       → Answered replies old new (λ answers. OrShort found path answers (Configured (Means answers) found))
@@ -126,7 +128,7 @@ one_given : (before : List Definition) (next : Values) (m : Result Definition St
 one_given before next (Ok d) rest g = (before ++ d ∷ [], g, behind-in_front before d rest)
 one_given before next (Err fault) rest g = absurd g
 
--- One more argument has been set.
+-- If the next argument has a definition, `HasSet` holds after this argument.
 pub one_set : (first config next : Values) (words rest after : List (List ℕ)) (word : List ℕ) → HasSet first config words rest → rest ≡ word ∷ after
     → GivesOne config (Ok next) (word_meaning word) → HasSet first next words after
 one_set first config next words rest after word s parts g = record {

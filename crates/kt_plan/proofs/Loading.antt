@@ -15,7 +15,7 @@ module _ {T : Type 0} (asks : T → Asked → T → Type 0) (kyuafile : List ℕ
   not_there tree fault n (inl m) = record { asked = []; chain = refl; holds = inl ((fault, m, refl), before_tree) }
   not_there tree fault n (inr e) = record { asked = []; chain = refl; holds = inr (subst (λ (f : SuiteFault). Loads kyuafile [] (Err f)) (sym e) (unnamed n)) }
 
-  -- The result of the tree is that of the Kyuafile.
+  -- The result of loading the tree is the result of loading the Kyuafile.
   pub loaded : (old new : T) (root : List ℕ) (outcome : Outcome) → root ≡ name_in kyuafile → is_empty (name_in kyuafile) ≡ false
       → Answered asks old new (λ asked. Registered asked root outcome ⊎ Unfinished asked root outcome) → Loaded old new outcome
   loaded old new root outcome same full a = record { asked = a.asked; chain = a.chain; holds = by a.asked a.holds }

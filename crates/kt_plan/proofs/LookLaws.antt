@@ -6,7 +6,7 @@ use Rattle.std.specs.List.{list_any}
 use Rattle.std.proofs.lemmas.List.Folds.{list_any-append}
 use Rattle.std.proofs.Math.Bool.{or-false, and-true, and-false, or_assoc}
 
--- The records of two lists of results, one after the other, are that of both.
+-- Recording two lists of results, one after the other, is recording both.
 notes_more : (answers more : List Reply) (a b d : Host) → Notes answers a b → Notes more b d → Notes (answers ++ more) a d
 notes_more answers more a b d h k = record {
   found = λ need word.
@@ -36,7 +36,8 @@ notes_there need name old new k = record {
   disk = k.disk;
 }
 
--- The checks of two lists of requirements, one after the other, are those of both.
+-- The checks of one list of requirements, followed by the checks of another, are the checks of
+-- both.
 looks_append : (some after : List (Need × List ℕ)) (answers more : List Reply) → LooksFor some answers → LooksFor after more → LooksFor (some ++ after) (answers ++ more)
 looks_append _ after _ more nothing k = k
 looks_append _ after _ more (asked need word needs answer answers h) k = asked need word (needs ++ after) answer (answers ++ more) (looks_append needs after answers more h k)
@@ -79,7 +80,8 @@ module _ {W : Type 0} (replies : W → Reply → W → Type 0) where
   word_asked need name old new answer h = answered-once (Finds need name answer) h ([], asked need name [] answer [] nothing)
 
   module _ (needs : List (Need × List ℕ)) (old : W) (was : Host) where
-    -- `Looking rest new now`: the checks so far and those of `rest` are all; `now` is their record.
+    -- `Looking rest new now`: the checks so far led the world to the state `new`, and `now` is
+    -- their record. With the checks of `rest`, they are all checks.
     abbrev pub Looking : List (Need × List ℕ) → W → Host → Type 0
     Looking rest new now =
         Answered replies old new (λ answers. ((more : List Reply) → LooksFor rest more → LooksFor needs (answers ++ more)) × Notes answers was now)

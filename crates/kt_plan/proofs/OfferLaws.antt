@@ -68,7 +68,8 @@ module _ {W : Type 0} (replies : W → Reply → W → Type 0) (config : Values)
       → Answered replies old new (λ answers. OffersFirst config filters (program ∷ []) answers)
   first_offered program old new found a = answered-as a (λ answers h. rw append-nil at (first_of_one program [] answers [] found h (no_further [])))
 
-  -- `Offering programs old rest new found`: the calls so far, with those of `rest`, are all.
+  -- `Offering programs old rest new found`: the calls so far led the world from `old` to `new` and
+  -- gave the cases `found`. With the calls for `rest`, they are all calls for `programs`.
   abbrev pub Offering : List Program → W → List Program → W → List Candidate → Type 0
   Offering programs old rest new found = Answered replies old new (λ answers.
       ((more : List Reply) (others : List Candidate) → Offers config filters rest more others → Offers config filters programs (answers ++ more) (found ++ others))

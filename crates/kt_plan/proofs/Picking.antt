@@ -13,7 +13,8 @@ module _ (filters : List Filter) (candidate : Candidate) (rest : List Candidate)
   abbrev after : List ℕ
   after = places_from filters (place + 1) rest
 
-  -- `Keeps old new left`: after one case, `new` and `left` are right for the remaining cases.
+  -- `Keeps old new left`: the step for `candidate` changes the kept cases from `old` to `new`, and
+  -- leaves the indexes `left` for the cases after it.
   abbrev pub Keeps : List Candidate → List Candidate → List ℕ → Type 0
   Keeps old new left = (left ≡ after) × (new ++ selected_cases filters rest ≡ old ++ selected_cases filters (candidate ∷ rest))
 

@@ -15,7 +15,7 @@ module _ {W : Type 0} (asks : W → Asked → W → Type 0) (replies : W → Rep
     holds = elim a.holds [ inl s ↦ inl (s.0, settling a.asked s.1) | inr s ↦ inr (unsettled a.asked fault s) ];
   }
 
-  -- Settings that were returned are those of the command.
+  -- Settings that were returned are the settings of the command.
   settled_is : (needed : Bool) (options : CaseOptions) (answers : List Reply) (settings : Settings) → SettlesOrShort needed options answers (Ok settings) → Settles needed options answers (Ok settings)
   settled_is needed options answers settings (inl s) = absurd s.0
   settled_is needed options answers settings (inr s) = s

@@ -13,11 +13,12 @@ stops_short {T} result refusal r =
     subst (λ (o : Result T Stop). IsShort o) (sym p.1) (refusal, p.2)
 
 module _ {W : Type 0} (replies : W → Reply → W → Type 0) (old new : W) (needs_case : Bool) (options : CaseOptions) where
-  -- `Settled result`: the calls from `old` to `new` read the settings with `result`.
+  -- `Settled result`: the calls from `old` to `new` give the settings `result` of the command, or
+  -- its error.
   abbrev pub Settled : Result Settings Stop → Type 0
   Settled result = Answered replies old new (λ answers. SettlesOrShort needs_case options answers result)
 
-  -- The error of the configuration is that of the settings.
+  -- The error of the configuration is the error of the settings.
   pub not_configured : (found : Result Values Stop) (result : Result Settings Stop) (fault : Stop) → found ≡ Err fault → IsErrAnd result (λ e. e ≡ fault) → Configuration replies old new options found → Settled result
   not_configured found result fault e r a =
       let p = err_from_is_err_and result r in
@@ -33,7 +34,7 @@ module _ {W : Type 0} (replies : W → Reply → W → Type 0) (old new : W) (ne
       by answers (inr c) = inr (meant answers c.meant c.means c.gives)
 
   module _ (found : Result Values Stop) (config : Values) (e : found ≡ Ok config) (a : Configuration replies old new options found) where
-    -- The error of the filters is that of the settings.
+    -- The error of the filters is the error of the settings.
     pub not_filtered : (read : Result (List Filter) Stop) (result : Result Settings Stop) (fault : Stop) → read ≡ Err fault → IsErrAnd result (λ x. x ≡ fault)
         → IsShort read ⊎ Filters needs_case options.filters read → Settled result
     not_filtered read result fault f r h =

@@ -3,7 +3,7 @@ use Rattle.std.proofs.Common.{◌≡◌, ℕ, ◌<◌, List, [], ◌∷◌, sym,
 use Rattle.kt_plan.proofs.Common.{Filter, MayMatch}
 use Rattle.std.proofs.lemmas.List.Elements.{Contains-append_left, Contains-append_right, Contains-append_cases, Contains-push, Contains-push_cases}
 
--- `AnyMatches filters path`: one of `filters` may select a case of the program at `path`.
+-- `AnyMatches filters path`: one of `filters` may match a case of the program at `path`.
 abbrev pub AnyMatches : List Filter → List ℕ → Type 0
 AnyMatches filters path = (one : Filter) × Contains filters one × MayMatch one path
 
@@ -23,11 +23,12 @@ AreAmong rest all = (one : Filter) → Contains rest one → Contains all one
 pub among_after : (f : Filter) (after rest all : List Filter) → rest ≡ f ∷ after → AreAmong rest all → AreAmong after all
 among_after f after rest all e h one c = h one (subst (λ (xs : List Filter). Contains xs one) (sym e) (Contains-append_right (f ∷ []) after one c))
 
--- `IsAhead rest all path`: if a filter of `all` may select a case, one of `rest` may.
+-- `IsAhead rest all path`: if a filter of `all` may match a case of the program at `path`, a filter
+-- of `rest` may.
 abbrev pub IsAhead : List Filter → List Filter → List ℕ → Type 0
 IsAhead rest all path = AnyMatches all path → AnyMatches rest path
 
--- A next filter that selects no case leaves the property to the filters after it.
+-- If the next filter matches no case, `IsAhead` holds of the filters after it.
 pub ahead_after : (f : Filter) (after rest all : List Filter) (path : List ℕ) → rest ≡ f ∷ after → (MayMatch f path → ⊥) → IsAhead rest all path → IsAhead after all path
 ahead_after f after rest all path e never h any =
     let found = h any in

@@ -1,4 +1,4 @@
--- The first step: the configuration and the filters of a command over test cases.
+-- The first step of a command over test cases: its configuration and its filters.
 use Rattle.std.specs.Prelude.{ℕ, Bool, true, false, not, ◌≡◌, ◌<◌, ◌&&◌, List, [], ◌∷◌, ◌++◌, Option, Some, None, Result, Ok, Err, is_some, slice_get}
 use Rattle.std.specs.Option.{option_map_or}
 use Rattle.kt_plan.specs.Types.{CaseOptions, Definition, Failed, Filter, FilterFault, Missing, ReadFault, Settings, Stop}
@@ -17,33 +17,33 @@ use Rattle.kt_plan.specs.Reply.{Reply, ReadConfig}
 
 -- ---- arguments in order
 
--- `or_stop stop_for result`: `result` with its error converted to a `Stop`.
+-- `or_stop stop_for result`: `result` with its error converted to a `Stop` by `stop_for`.
 abbrev pub or_stop : {A E : Type 0} → (E → Stop) → Result A E → Result A Stop
 or_stop stop_for (Ok meaning) = Ok meaning
 or_stop stop_for (Err fault) = Err (stop_for fault)
 
--- `in_front first rest`: the meaning of one argument, followed by those of the others. The first
--- error counts.
+-- `in_front first rest`: the value of `first`, followed by the values of `rest`, or the first
+-- `Stop` of the two.
 abbrev pub in_front : {A : Type 0} → Result A Stop → Result (List A) Stop → Result (List A) Stop
 in_front (Err fault) rest = Err fault
 in_front (Ok first) (Ok rest) = Ok (first ∷ rest)
 in_front (Ok first) (Err fault) = Err fault
 
--- `each_of meaning words`: the meanings of `words`, or the `Stop` of the first argument with an
--- error.
+-- `each_of meaning words`: the values that `meaning` gives for `words`, or the `Stop` of the first
+-- argument with an error.
 abbrev pub each_of : {A : Type 0} → (List ℕ → Result A Stop) → List (List ℕ) → Result (List A) Stop
 each_of meaning [] = Ok []
 each_of meaning (word ∷ words) = in_front (meaning word) (each_of meaning words)
 
--- `behind before result`: `before`, followed by the meanings in `result`.
+-- `behind before result`: `before`, followed by the values of `result`, or the `Stop` of `result`.
 abbrev pub behind : {A : Type 0} → List A → Result (List A) Stop → Result (List A) Stop
 behind before (Ok more) = Ok (before ++ more)
 behind before (Err fault) = Err fault
 
 -- ---- variables
 
--- `word_meaning word`: the definition of the argument `word` of `-v`, or its `Stop`. A name without
--- a value has a bad value.
+-- `word_meaning word`: the definition of the argument `word` of `-v`, or its `Stop`. An argument
+-- without an equals sign (61) has the error `BadValue`.
 abbrev pub word_meaning : List ℕ → Result Definition Stop
 word_meaning word =
     or_stop (stop.Variable (before 61 word)) (option_map_or (definition_named (before 61 word)) (after 61 word) (Err BadValue))
@@ -55,27 +55,28 @@ words_meaning words = each_of word_meaning words
 
 -- ---- the configuration
 
--- `IsUnread fault`: the file is missing, or a read failed for a reason other than memory.
+-- `IsUnread fault`: `fault` is a failed read for a reason other than a failed allocation.
 pub data IsUnread : ReadFault → Type 0 where
   missing : IsUnread Missing
   failed : IsUnread Failed
 
--- `IsConfiguration bytes meant`: the definitions of a configuration file with these bytes, or its
--- `Stop`.
+-- `IsConfiguration bytes meant`: `meant` has the definitions of a configuration file with the bytes
+-- `bytes`, or is its `Stop`.
 pub data IsConfiguration (bytes : List ℕ) : Result (List Definition) Stop → Type 0 where
   refused : (fault : ConfigFault) → IsDue bytes fault → IsConfiguration bytes (Err (stop.Configuration fault))
   read : (stmts : List Stmt) (definitions : List Definition) → Spells bytes stmts → outcome_of stmts ≡ Ok definitions → IsConfiguration bytes (Ok definitions)
 
--- `ReadsConfig path replies meant`: the definitions of the configuration file, if there is one, or
--- its `Stop`.
+-- `ReadsConfig path replies meant`: `meant` has the definitions of the configuration file at
+-- `path`, which the call in `replies` reads, or is its `Stop`. Without a path, there are no
+-- definitions and no calls.
 pub data ReadsConfig : Option (List ℕ) → List Reply → Result (List Definition) Stop → Type 0 where
   none : ReadsConfig None [] (Ok [])
   unread : (path : List ℕ) (fault : ReadFault) → IsUnread fault → ReadsConfig (Some path) (ReadConfig path (Err fault) ∷ []) (Err stop.UnreadConfiguration)
   seen : (path bytes : List ℕ) (meant : Result (List Definition) Stop) → IsConfiguration bytes meant
       → ReadsConfig (Some path) (ReadConfig path (Ok bytes) ∷ []) meant
 
--- `Configures options answers meant`: the definitions of the configuration file, followed by those
--- of `-v`, or the `Stop` of the first error.
+-- `Configures options answers meant`: `meant` has the definitions of the configuration file,
+-- followed by the definitions of `-v`, or is the `Stop` of the first error.
 pub data Configures (options : CaseOptions) (answers : List Reply) : Result (List Definition) Stop → Type 0 where
   stopped : (fault : Stop) → ReadsConfig options.config answers (Err fault) → Configures options answers (Err fault)
   defined : (before : List Definition) → ReadsConfig options.config answers (Ok before) → Configures options answers (behind before (words_meaning options.variables))
@@ -91,8 +92,8 @@ filter_of word = or_stop (stop.Filter word) (filter_meaning word)
 abbrev pub filters_of : List (List ℕ) → Result (List Filter) Stop
 filters_of words = each_of filter_of words
 
--- `IsClash words filters word fault`: the filter of `word` is the first that selects a case of an
--- earlier filter.
+-- `IsClash words filters word fault`: the filter of the argument `word` is the first that matches a
+-- case of an earlier filter, and has the error `fault`.
 pub record IsClash (words : List (List ℕ)) (filters : List Filter) (word : List ℕ) (fault : FilterFault) : Type 0 where
   pub position : ℕ
   pub at : overlap_fault filters position ≡ Some fault
@@ -104,13 +105,13 @@ abbrev pub names_one_case : List Filter → Bool
 names_one_case (filter ∷ []) = is_some filter.case_name
 names_one_case filters = false
 
--- `lacks_case needs_case filters`: exactly one filter that names a case is needed, and `filters`
--- are others.
+-- `lacks_case needs_case filters`: `needs_case` is true, and there is not exactly one filter that
+-- names a case.
 abbrev pub lacks_case : Bool → List Filter → Bool
 lacks_case needs_case filters = needs_case && not (names_one_case filters)
 
--- `Filters needs_case words result`: the filters of the arguments `words`, or the `Stop` of the
--- first error.
+-- `Filters needs_case words result`: `result` has the filters of the arguments `words`, or is the
+-- `Stop` of the first error.
 pub data Filters (needs_case : Bool) (words : List (List ℕ)) : Result (List Filter) Stop → Type 0 where
   unparsed : (fault : Stop) → filters_of words ≡ Err fault → Filters needs_case words (Err fault)
   clash : (filters : List Filter) (word : List ℕ) (fault : FilterFault) → filters_of words ≡ Ok filters → IsClash words filters word fault
@@ -120,10 +121,11 @@ pub data Filters (needs_case : Bool) (words : List (List ℕ)) : Result (List Fi
   right : (filters : List Filter) → filters_of words ≡ Ok filters → IsDisjoint filters → lacks_case needs_case filters ≡ false
       → Filters needs_case words (Ok filters)
 
--- ---- the whole step
+-- ---- settings
 
--- `Settles needs_case options answers result`: the settings of a command, or the `Stop` of the
--- first error in its configuration file, the arguments of `-v` or its filters.
+-- `Settles needs_case options answers result`: `result` has the settings of a command, or is the
+-- `Stop` of its first error. The error is in the configuration file, the arguments of `-v` or the
+-- filters. `answers` are the calls to the host.
 pub data Settles (needs_case : Bool) (options : CaseOptions) (answers : List Reply) : Result Settings Stop → Type 0 where
   unconfigured : (fault : Stop) → Configures options answers (Err fault) → Settles needs_case options answers (Err fault)
   unfiltered : (definitions : List Definition) (fault : Stop) → Configures options answers (Ok definitions) → Filters needs_case options.filters (Err fault)
@@ -131,7 +133,8 @@ pub data Settles (needs_case : Bool) (options : CaseOptions) (answers : List Rep
   settled : (definitions : List Definition) (settings : Settings) → Configures options answers (Ok definitions) → Holds settings.config definitions
       → Filters needs_case options.filters (Ok settings.filters) → Settles needs_case options answers (Ok settings)
 
--- `ReadsFirst path replies`: the first calls for the configuration file: none, or its read.
+-- `ReadsFirst path replies`: `replies` has no call, or only the read of the configuration file at
+-- `path`.
 pub data ReadsFirst : Option (List ℕ) → List Reply → Type 0 where
   before_file : (path : Option (List ℕ)) → ReadsFirst path []
   after_file : (path : List ℕ) (answer : Result (List ℕ) ReadFault) → ReadsFirst (Some path) (ReadConfig path answer ∷ [])

@@ -1,4 +1,5 @@
--- The third step: the properties of the host that the selected cases may require, and their plan.
+-- The third step of a command: the properties of the host that the selected cases may require, and
+-- their plan.
 use Rattle.std.specs.Prelude.{ℕ, suc, Bool, true, false, ◌≡◌, ◌&&◌, List, [], ◌∷◌, ◌++◌, Option, Some, None, map}
 use Rattle.std.specs.List.{list_any}
 use Rattle.std.specs.Option.{option_map}
@@ -15,11 +16,11 @@ use Rattle.kt_plan.specs.Collecting.{variables_for}
 use Rattle.kt_plan.specs.Questions.{AreFirst}
 use Rattle.kt_plan.specs.Reply.{Reply, Finds, IsRoot, HasMemory, HasDisk}
 
--- `meta_in candidate`: the effective properties of a case.
+-- `meta_in candidate`: the effective properties of the case `candidate`.
 abbrev pub meta_in : Candidate → Meta
 meta_in candidate = effective candidate.case.props
 
--- `needs_in need words`: the requirements of `words`, each of the kind `need`.
+-- `needs_in need words`: the requirements `words`, each with the kind `need`.
 abbrev pub needs_in : Need → List (List ℕ) → List (Need × List ℕ)
 needs_in need words = map (λ word. (need, word)) words
 
@@ -28,38 +29,41 @@ abbrev pub needs_among : List Need → Meta → List (Need × List ℕ)
 needs_among [] meta = []
 needs_among (need ∷ needs) meta = needs_in need (needed need meta) ++ needs_among needs meta
 
--- `needs_by fault meta`: the requirements of a case, kind after kind, none if its list has an
--- error.
+-- `needs_by fault meta`: the required files and programs of a case with the properties `meta`, kind
+-- after kind. There are none if its list has the error `fault`.
 abbrev pub needs_by : Option Reason → Meta → List (Need × List ℕ)
 needs_by (Some reason) meta = []
 needs_by None meta = needs_among all_needs meta
 
--- `needs_of candidates`: the requirements of cases, in order.
+-- `needs_of candidates`: the required files and programs of the cases `candidates`, in order.
 abbrev pub needs_of : List Candidate → List (Need × List ℕ)
 needs_of [] = []
 needs_of (candidate ∷ candidates) = needs_by candidate.case.fault (meta_in candidate) ++ needs_of candidates
 
--- `LooksFor needs answers`: the host checks each requirement, in order.
+-- `LooksFor needs answers`: `answers` are calls to the host that check each of the requirements
+-- `needs`, in order.
 pub data LooksFor : List (Need × List ℕ) → List Reply → Type 0 where
   nothing : LooksFor [] []
   asked : (need : Need) (word : List ℕ) (needs : List (Need × List ℕ)) (answer : Bool) (answers : List Reply) → LooksFor needs answers
       → LooksFor ((need, word) ∷ needs) (Finds need word answer ∷ answers)
 
--- `finds need word reply`: `reply` reports that the required file or program exists.
+-- `finds need word reply`: `reply` reports that the file or program `word` of the kind `need`
+-- exists.
 abbrev pub finds : Need → List ℕ → Reply → Bool
 finds need word (Finds other_need other answer) = is_same_need other_need other need word && answer
 finds need word other = false
 
--- `Surveys candidates answers host`: `host` has the results of the checks for root, memory, disk
--- space and the requirements. A file or a program exists if a check has found it.
+-- `Surveys candidates answers host`: `host` has the results of the calls `answers`: the checks for
+-- root, memory, disk space and the requirements of the cases. A file or a program exists if a check
+-- has found it.
 pub record Surveys (candidates : List Candidate) (answers : List Reply) (host : Host) : Type 0 where
   pub looked : List Reply
   pub asked : answers ≡ IsRoot host.root ∷ HasMemory host.memory ∷ HasDisk host.disk ∷ looked
   pub all : LooksFor (needs_of candidates) looked
   pub found : (need : Need) (word : List ℕ) → is_found need host word ≡ list_any (finds need word) looked
 
--- `SurveysFirst candidates answers`: the first calls to the host, if an allocation fails. The
--- checks of files and programs come last.
+-- `SurveysFirst candidates answers`: `answers` are the first calls to the host before an allocation
+-- failed. The checks of files and programs come last.
 pub record SurveysFirst (candidates : List Candidate) (answers : List Reply) : Type 0 where
   pub root : Bool
   pub memory : Option ℕ
@@ -68,19 +72,20 @@ pub record SurveysFirst (candidates : List Candidate) (answers : List Reply) : T
   pub asked : answers ≡ IsRoot root ∷ HasMemory memory ∷ HasDisk disk ∷ looked
   pub first : AreFirst (LooksFor (needs_of candidates)) looked
 
--- `is_atf interface`: the interface is ATF, which has cleanups.
+-- `is_atf interface`: `interface` is ATF, the only interface with cleanups.
 abbrev pub is_atf : Interface → Bool
 is_atf Atf = true
 is_atf other = false
 
--- `IsDecided fault unmet decided`: the verdict of a case that must not be started: broken for the
--- error of its list, or skipped for its first unmet requirement.
+-- `IsDecided fault unmet decided`: `decided` is the verdict of a case that must not be started, if
+-- any. The case is broken for `fault`, the error of its list, or else skipped for `unmet`, its
+-- first unmet requirement.
 abbrev pub IsDecided : Option Reason → Option (List ℕ) → Option Judged → Type 0
 IsDecided (Some reason) unmet decided = decided ≡ Some (broken (reason_text reason))
 IsDecided None unmet decided = decided ≡ option_map skipped unmet
 
--- `IsJobOf config host position candidate job`: `job` is that of the case `candidate` at
--- `position`.
+-- `IsJobOf config host position candidate job`: `job` is the job of the case `candidate` at
+-- `position` of the plan.
 pub record IsJobOf (config : Values) (host : Host) (position : ℕ) (candidate : Candidate) (job : Job) : Type 0 where
   pub at : job.position ≡ position
   pub interface : job.interface ≡ candidate.interface
@@ -93,8 +98,8 @@ pub record IsJobOf (config : Values) (host : Host) (position : ℕ) (candidate :
   pub decided : IsDecided candidate.case.fault (first_reason (rows (meta_in candidate) config candidate.suite host)) job.decided
   pub meta : job.meta ≡ listing candidate.case.props
 
--- `ArePlanned config host position candidates jobs`: there is one job for each case, in order, the
--- first at `position`.
+-- `ArePlanned config host position candidates jobs`: `jobs` has one job for each of the cases
+-- `candidates`, in order, the first at `position`.
 pub data ArePlanned (config : Values) (host : Host) : ℕ → List Candidate → List Job → Type 0 where
   no_job : (position : ℕ) → ArePlanned config host position [] []
   planned : (position : ℕ) (candidate : Candidate) (candidates : List Candidate) (job : Job) (jobs : List Job)

@@ -2,8 +2,8 @@
 use Rattle.std.specs.Prelude.{ℕ, Bool, List, Option, Result}
 use Rattle.kt_plan.specs.Types.{Listing, Need, Program, ReadFault, Variable}
 
--- A call to the host with its result. Memory and disk space are in bytes, and times in milliseconds
--- since 1970 in UTC.
+-- `Reply`: a call to the host with its result. Memory and disk space are in bytes, and times in
+-- milliseconds since 1970 in UTC.
 pub data Reply : Type 0 where
   ReadConfig : (path : List ℕ) (answer : Result (List ℕ) ReadFault) → Reply
   Lists : (program : Program) (variables : List Variable) (answer : Listing) → Reply

@@ -5,7 +5,8 @@ use Rattle.kt_config.specs.FaultWords.{config_words}
 use Rattle.kt_suite.specs.FaultWords.{fault_words, filter_words}
 use Rattle.kt_plan.specs.declared.stop.Stop.TheVariants as stop
 
--- `quoted_words what word fault`: the message of an error in the argument `word`.
+-- `quoted_words what word fault`: the message of an error in the argument `word`, which is a
+-- `what`. `fault` is the message of the error without the argument.
 abbrev pub quoted_words : List ℕ → List ℕ → List ℕ → List ℕ
 quoted_words what word fault = what ++ codes " '" ++ word ++ codes "': " ++ fault
 

@@ -24,7 +24,7 @@ pub enum Stop {
     Variable(Text, ConfigFault),
     /// A filter has an error. The text is the argument as it was given.
     Filter(Text, FilterFault),
-    /// `debug` was not given exactly one filter that names a case.
+    /// The arguments of `debug` are not exactly one filter that names a case.
     NeedsCase,
     /// A Kyuafile has an error.
     Tree(SuiteFault),
@@ -33,7 +33,7 @@ pub enum Stop {
 }
 
 impl Stop {
-    /// Writes the text of the error message, without a line end.
+    /// Writes the message of the error, without a newline (this profile).
     ///
     /// # Errors
     ///
@@ -64,6 +64,8 @@ fn print_configuration<W: Write>(fault: ConfigFault, out: &mut W) -> Result<(), 
 }
 
 /// Writes the message of an error in an argument: `WHAT 'WORD': FAULT`.
+///
+/// `what` is the kind of the argument, and `fault` is the message of its error.
 fn print_quoted<W: Write>(
     what: &str,
     word: &Text,

@@ -10,35 +10,36 @@ pub trait World: Tree + Launcher {
     ghost use Rattle.std.specs.Prelude.{ℕ, ◌≡◌};
     ghost use Rattle.kt_plan.specs.Common.{Role, IsIdle, IsMoment, Asked, Reply, ReadConfig, Lists, Finds, IsRoot, HasMemory, HasDisk, Now};
 
-    /// `replies old reply new`: a call to the host, with its result `reply`, may take the world
-    /// from the state `old` to `new`.
+    /// `replies old reply new`: the call to the host with its result in `reply` may lead the world
+    /// from the state `old` to the state `new`.
     ghost replies: { Self → Reply → Self → Type 0 };
 
     /// Reads a configuration file.
     ///
-    /// A relative path starts at the working directory. An implementation may stop one byte after
-    /// the greatest size of a script.
+    /// A relative path starts at the working directory. The bytes of a longer file may end after
+    /// 1,048,577 bytes, which is one byte more than a script may have (1 MiB).
     ///
     /// # Errors
     ///
-    /// - `Missing`: there is no such file.
+    /// - `Missing`: the file does not exist.
     /// - `Failed`: the file can't be read or is not a regular file.
     /// - `Memory`: an allocation fails.
     fn config(&mut self, path: &Text) -> Result<Bytes, ReadFault>
         ensures { replies self.old (ReadConfig path.now result) self.new };
 
-    /// Lists the test cases of an ATF program by running it with the variables of its suite. No
-    /// other test program may be running.
+    /// Lists the test cases of an ATF program by running it with the variables of its test suite.
+    ///
+    /// No other test program may be running.
     fn list(&mut self, program: &Program, variables: &Variables) -> Listing
         requires { IsIdle (Self.running self.old) (Self.pending self.old) }
         ensures { replies self.old (Lists program.now variables.now result) self.new };
 
-    /// Returns `true` if there is a file at an absolute path (`required_files` of kyuafile(5)).
+    /// Returns `true` if a file is at the absolute path `path` (`required_files` of kyuafile(5)).
     fn file_exists(&mut self, path: &Text) -> bool
         ensures { replies self.old (Finds Need.File path.now result) self.new };
 
-    /// Returns `true` if a program is found at an absolute path, or by its name in a directory of
-    /// `PATH` (`required_programs` of kyuafile(5)).
+    /// Returns `true` if the host has the program `name`: an absolute path, or a name in a
+    /// directory of `PATH` (`required_programs` of kyuafile(5)).
     fn program_found(&mut self, name: &Text) -> bool
         ensures { replies self.old (Finds Need.Program name.now result) self.new };
 
@@ -54,8 +55,9 @@ pub trait World: Tree + Launcher {
     fn disk(&mut self) -> Option<u64>
         ensures { replies self.old (HasDisk result) self.new };
 
-    /// Returns the current time, in milliseconds since 1970 in UTC. Returns 0 if the clock fails or
-    /// its time is out of range.
+    /// Returns the current time, in milliseconds since 1970 in UTC.
+    ///
+    /// The result is 0 if the clock fails or its time is out of range.
     fn now(&mut self) -> u64
         ensures reply { replies self.old (Now result) self.new }
         ensures moment { IsMoment result };

@@ -1,4 +1,5 @@
--- Private definitions of the second step: the cases of a suite's programs, and their selection.
+-- Definitions for private functions of the second step: the cases of the programs, and their
+-- selection.
 use Rattle.std.specs.Prelude.{ℕ, ◌≡◌, ◌⊎◌, List, [], ◌∷◌, map, Result, Err}
 use Rattle.kt_plan.specs.Types.{Asked, Candidate, Chosen, Filter, Listing, Program, Settings, Stop, SuiteFault, Values}
 use Rattle.kt_base.specs.Chains.{Chain}
@@ -10,34 +11,36 @@ use Rattle.kt_plan.specs.Stops.{IsShort}
 use Rattle.kt_plan.specs.Reply.{Reply, Lists}
 use Rattle.kt_plan.specs.Collecting.{Collects, CollectsFirst, item_of, variables_for}
 
--- `RanShort outcome`: an allocation failed while the tree was loaded.
+-- `RanShort outcome`: `outcome` is the error of an allocation that failed while the tree was
+-- loaded.
 abbrev pub RanShort : Outcome → Type 0
 RanShort outcome = (fault : SuiteFault) × IsNoMemory fault × (outcome ≡ Err fault)
 
--- `LoadsOrShort kyuafile asked outcome`: the programs that `kyuafile` registers, or the first calls
--- if an allocation fails.
+-- `LoadsOrShort kyuafile asked outcome`: `outcome` is the result of loading `kyuafile` by the calls
+-- `asked`, or the error of a failed allocation. In that case, `asked` are the first calls.
 abbrev pub LoadsOrShort : List ℕ → List Asked → Outcome → Type 0
 LoadsOrShort kyuafile asked outcome = (RanShort outcome × LoadsFirst kyuafile asked) ⊎ Loads kyuafile asked outcome
 
--- `places_from filters place cases`: the indexes of the cases that `filters` select. The first case
--- has the index `place`.
+-- `places_from filters place cases`: the indexes of those `cases` that `filters` select. The first
+-- case has the index `place`.
 abbrev pub places_from : List Filter → ℕ → List Candidate → List ℕ
 places_from filters place cases = places (is_selected filters) place (map item_of cases)
 
--- `ListsFirst config program replies`: the first calls for a program's cases, none or its list, if
--- an allocation fails.
+-- `ListsFirst config program replies`: `replies` are the first calls for the cases of `program`
+-- before an allocation failed: no call, or the list of the program.
 pub data ListsFirst (config : Values) (program : Program) : List Reply → Type 0 where
   before_list : ListsFirst config program []
   after_list : (listing : Listing) → ListsFirst config program (Lists program (variables_for config program.suite) listing ∷ [])
 
--- `CollectsOrShort settings kyuafile asked answers result`: the selected cases, or the first calls
--- for them if an allocation fails.
+-- `CollectsOrShort settings kyuafile asked answers result`: `result` is the result of `Collects`,
+-- or the error of a failed allocation. In that case, `asked` and `answers` are the first calls of
+-- the selection.
 abbrev pub CollectsOrShort : Settings → List ℕ → List Asked → List Reply → Result Chosen Stop → Type 0
 CollectsOrShort settings kyuafile asked answers result = (IsShort result × CollectsFirst settings kyuafile asked answers) ⊎ Collects settings kyuafile asked answers result
 
 module _ {W : Type 0} (asks : W → Asked → W → Type 0) (replies : W → Reply → W → Type 0) where
-  -- `Collected settings kyuafile old new result`: the calls to the tree and then those for the
-  -- lists take the world from `old` to `new` with `result`.
+  -- `Collected settings kyuafile old new result`: the calls to the tree and then the lists of
+  -- programs lead the world from `old` to `new`, with the selection or the error `result`.
   pub record Collected (settings : Settings) (kyuafile : List ℕ) (old new : W) (result : Result Chosen Stop) : Type 0 where
     pub asked : List Asked
     pub answers : List Reply

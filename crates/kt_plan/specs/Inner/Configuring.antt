@@ -1,4 +1,5 @@
--- Private definitions of the first step: the configuration and the filters of a command.
+-- Definitions for private functions of the first step: the configuration and the filters of a
+-- command.
 use Rattle.std.specs.Prelude.{ℕ, Bool, ◌≡◌, ◌⊎◌, List, [], Option, Some, None, Result, Ok, Err}
 use Rattle.kt_plan.specs.Types.{CaseOptions, Definition, Failed, Filter, FilterFault, Memory, Missing, ReadFault, Settings, Stop, Values}
 use Rattle.kt_config.specs.Holding.{Holds}
@@ -9,59 +10,63 @@ use Rattle.kt_plan.specs.Stops.{IsShort}
 use Rattle.kt_plan.specs.Reply.{Reply}
 use Rattle.kt_plan.specs.Configuring.{IsClash, ReadsFirst, Settles, behind, in_front}
 
--- `unread_stop fault`: the `Stop` of a command whose configuration file can't be read.
+-- `unread_stop fault`: the `Stop` of a command that can't read its configuration file because of
+-- `fault`.
 abbrev pub unread_stop : ReadFault → Stop
 unread_stop Missing = stop.UnreadConfiguration
 unread_stop Failed = stop.UnreadConfiguration
 unread_stop (Memory refusal) = stop.NoMemory refusal
 
--- `Gives outcome meant`: `outcome` is a configuration with the last values of the definitions
--- `meant`, or the same `Stop`.
+-- `Gives outcome meant`: if `meant` has definitions, `outcome` is a configuration with the last
+-- values of these definitions. If `meant` is a `Stop`, `outcome` is this `Stop`.
 abbrev pub Gives : Result Values Stop → Result (List Definition) Stop → Type 0
 Gives (Ok config) (Ok definitions) = Holds config definitions
 Gives (Ok config) (Err fault) = ⊥
 Gives (Err found) (Ok definitions) = ⊥
 Gives (Err found) (Err fault) = found ≡ fault
 
--- `Configured Means outcome`: `outcome` is what definitions give for which `Means` is true.
+-- `Configured Means outcome`: `Means` holds of some definitions or `Stop`, and `Gives` relates
+-- `outcome` to them.
 pub record Configured (Means : Result (List Definition) Stop → Type 0) (outcome : Result Values Stop) : Type 0 where
   pub meant : Result (List Definition) Stop
   pub means : Means meant
   pub gives : Gives outcome meant
 
 -- `GivesMore config outcome meant`: `outcome` is `config` with the definitions `meant` after its
--- own, or the `Stop` of `meant`.
+-- own definitions, or the `Stop` of `meant`.
 abbrev pub GivesMore : Values → Result Values Stop → Result (List Definition) Stop → Type 0
 GivesMore config outcome meant = (before : List Definition) → Holds config before → Gives outcome (behind before meant)
 
--- `GivesOne config outcome meant`: `outcome` is `config` with the definition `meant` after its own,
--- or the `Stop` of `meant`.
+-- `GivesOne config outcome meant`: `outcome` is `config` with the definition `meant` after its own
+-- definitions, or the `Stop` of `meant`.
 abbrev pub GivesOne : Values → Result Values Stop → Result Definition Stop → Type 0
 GivesOne config outcome meant = GivesMore config outcome (in_front meant (Ok []))
 
--- `config_or_stop config stop`: `config`, or the `Stop` if there is one.
+-- `config_or_stop config stop`: `stop` as an error if there is one, else `config`.
 abbrev pub config_or_stop : Values → Option Stop → Result Values Stop
 config_or_stop config None = Ok config
 config_or_stop config (Some fault) = Err fault
 
--- `position_in fault`: the position of the filter that an error of several filters names.
+-- `position_in fault`: the position of the filter in `Repeated` or `NotDisjoint`, or 0 for another
+-- error.
 abbrev pub position_in : FilterFault → ℕ
 position_in (Repeated position) = position
 position_in (NotDisjoint position) = position
 position_in other = 0
 
--- `ChecksTogether words filters found`: `found` is the `Stop` of the first filter that selects a
--- case of an earlier filter, if there is one.
+-- `ChecksTogether words filters found`: `found` is the `Stop` of the first filter that matches a
+-- case of an earlier filter, if any. `words` are the arguments of `filters`.
 pub data ChecksTogether (words : List (List ℕ)) (filters : List Filter) : Option Stop → Type 0 where
   apart : IsDisjoint filters → ChecksTogether words filters None
   shared : (word : List ℕ) (fault : FilterFault) → IsClash words filters word fault → ChecksTogether words filters (Some (stop.Filter word fault))
 
--- `OrShort result path answers fact`: `fact` is true, or an allocation failed after the first
--- calls.
+-- `OrShort result path answers fact`: `fact` holds, or `result` is the error of a failed
+-- allocation. In that case, `answers` has no call, or only the read of the configuration file at
+-- `path`.
 abbrev pub OrShort : {T : Type 0} → Result T Stop → Option (List ℕ) → List Reply → Type 0 → Type 0
 OrShort result path answers fact = (IsShort result × ReadsFirst path answers) ⊎ fact
 
--- `SettlesOrShort needs_case options answers result`: the settings, or the first calls if an
--- allocation fails.
+-- `SettlesOrShort needs_case options answers result`: `result` is the result of `Settles`, or the
+-- error of a failed allocation. In that case, `answers` are the first calls for the settings.
 abbrev pub SettlesOrShort : Bool → CaseOptions → List Reply → Result Settings Stop → Type 0
 SettlesOrShort needs_case options answers result = OrShort result options.config answers (Settles needs_case options answers result)

@@ -1,4 +1,4 @@
--- The record of the files and programs that the host has found.
+-- The required files and programs that the checks of the host found.
 use Rattle.std.specs.Prelude.{ℕ, ◌≡◌, ◌||◌, List}
 use Rattle.std.specs.List.{list_any}
 use Rattle.kt_plan.specs.Types.{Host, Need}
@@ -6,7 +6,8 @@ use Rattle.kt_metadata.specs.Requirements.{is_found}
 use Rattle.kt_plan.specs.Planning.{finds}
 use Rattle.kt_plan.specs.Reply.{Reply}
 
--- `Notes answers old new`: `new` is `old` with the files and programs that `answers` found.
+-- `Notes answers old new`: `new` is `old` with the files and programs that the checks `answers`
+-- found.
 pub record Notes (answers : List Reply) (old new : Host) : Type 0 where
   pub found : (need : Need) (word : List ℕ) → is_found need new word ≡ (is_found need old word || list_any (finds need word) answers)
   pub root : new.root ≡ old.root

@@ -7,7 +7,7 @@ use kt_base::{Items, NoMemory};
 use kt_suite::{Filter, Item, SelectFault, select};
 use std::alloc::Global;
 
-/// Returns the program path and the name of each case, which filters need.
+/// Returns copies of the program path and the name of each case, which filters need.
 fn items_of(alloc: Global, candidates: &[Candidate]) -> Result<Vec<Item>, NoMemory>
     ensures { IfOk result (λ items. items.items ≡ map item_of candidates.now) }
 {
@@ -20,7 +20,9 @@ fn items_of(alloc: Global, candidates: &[Candidate]) -> Result<Vec<Item>, NoMemo
     Ok(items)
 }
 
-/// Appends a case if the first of `places` is its index, and returns the remaining indexes.
+/// Appends `candidate` to `cases` if `place`, its index, is the first of `places`.
+///
+/// Returns the indexes in `places` that remain for the cases after it.
 fn keep<'a>(
     cases: &mut Items<Candidate>,
     candidate: Candidate,
@@ -42,7 +44,7 @@ fn keep<'a>(
     }
 }
 
-/// Returns the cases whose indexes are in `places`, which is ascending.
+/// Returns the cases of `found` whose indexes are in `places`, which is ascending.
 fn kept(
     alloc: Global,
     found: Items<Candidate>,
@@ -62,7 +64,12 @@ fn kept(
     Ok(cases)
 }
 
-/// Selects cases by filters. Fails with `TooManyCases` for more than 100,000 cases.
+/// Selects the cases of `found` that some filter matches, or all cases without filters.
+///
+/// # Errors
+///
+/// - `TooManyCases`: `found` has more than 100,000 cases.
+/// - `NoMemory`: an allocation fails.
 pub fn choose(alloc: Global, filters: &[Filter], found: Items<Candidate>) -> Result<Chosen, Stop>
     ensures chosen { IfOk result (λ chosen. chosen ≡ chosen_of filters.now found) }
     ensures few { OnOk result (length found ≤ most_items) }

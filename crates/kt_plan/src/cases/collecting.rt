@@ -12,7 +12,7 @@ use kt_base::{Items, NoMemory, Text};
 use kt_suite::{Program, SuiteCause, SuiteFault, Tree, load, split_path};
 use std::alloc::Global;
 
-/// Creates the error of a suite for which an allocation failed.
+/// Creates the error of a failed allocation, which has no file and no line.
 fn out_of_memory(alloc: Global, refusal: NoMemory) -> SuiteFault
     ensures { result ≡ no_memory refusal }
 {
@@ -23,7 +23,9 @@ fn out_of_memory(alloc: Global, refusal: NoMemory) -> SuiteFault
     }
 }
 
-/// Creates an error that concerns a whole Kyuafile, without a line number.
+/// Creates the error with the cause `cause` of the Kyuafile `file`, without a line.
+///
+/// If `file` can't be copied, the result is the error of a failed allocation.
 fn fault_of(alloc: Global, file: &Text, cause: SuiteCause) -> SuiteFault
     ensures { Blames file.now 0 cause result }
 {
@@ -37,8 +39,15 @@ fn fault_of(alloc: Global, file: &Text, cause: SuiteCause) -> SuiteFault
     }
 }
 
-/// Loads the programs that a Kyuafile registers, in order. The directory of the file must be the
-/// root of `tree`.
+/// Returns the programs that the Kyuafile and the files that it includes register, in order.
+///
+/// The directory of the Kyuafile must be the root of `tree`.
+///
+/// # Errors
+///
+/// - [`SuiteFault`] with the first error of the Kyuafiles. A path that ends in a slash has the
+///   cause `Unreadable`.
+/// - [`SuiteFault`] with the cause `NoMemory`: an allocation fails.
 pub fn programs_of<T: Tree>(
     alloc: Global,
     kyuafile: &Text,
@@ -58,7 +67,7 @@ pub fn programs_of<T: Tree>(
     load(alloc, tree, &root)
 }
 
-/// Returns the `Stop` of a command whose Kyuafiles have an error.
+/// Returns the `Stop` of a command whose Kyuafiles have the error `fault`.
 fn tree_stop(fault: SuiteFault) -> Stop
     ensures { ((refusal : OutOfMemory) × (result ≡ stop.NoMemory refusal)
         × (fault.cause ≡ SuiteCause.NoMemory refusal))
@@ -70,12 +79,21 @@ fn tree_stop(fault: SuiteFault) -> Stop
     }
 }
 
-/// Selects the cases of a suite (kyua(1)): reads the Kyuafiles, lists the cases of each ATF program
-/// that the filters do not exclude, and applies the filters to all cases.
+/// Selects test cases by the settings of a command (kyua(1)).
 ///
-/// All Kyuafiles are read first, so a faulty Kyuafile starts no program. A list that can't be used
-/// gives one case, which will be reported as broken, so the other programs are still tested. The
-/// limit of 100,000 cases applies before the filters, and is checked after the last list.
+/// Reads the Kyuafiles, lists the cases of each ATF program that the filters do not exclude, and
+/// applies the filters to all cases.
+///
+/// All Kyuafiles are read first, so no program starts if a Kyuafile has an error. A list that can't
+/// be used gives one case, which will be reported as broken, so the other programs are still
+/// tested. The limit of 100,000 cases applies before the filters, and is checked after the last
+/// list.
+///
+/// # Errors
+///
+/// - `Tree`: a Kyuafile has an error.
+/// - `TooManyCases`: there are more than 100,000 cases to select from.
+/// - `NoMemory`: an allocation fails.
 pub fn collect<W: World>(
     alloc: Global,
     settings: &Settings,
@@ -96,8 +114,9 @@ pub fn collect<W: World>(
     choose(alloc, settings.filters.as_slice(), found)
 }
 
-/// Selects the test cases that the options of a command name. `needed` is `true` if the command
-/// needs exactly one filter that names a case.
+/// Selects the test cases that the options of a command name.
+///
+/// `needed` is `true` if the command needs exactly one filter that names a case.
 ///
 /// # Errors
 ///
@@ -106,7 +125,7 @@ pub fn collect<W: World>(
 /// - `UnreadConfiguration`: the configuration file can't be read.
 /// - `Configuration`: the configuration file has an error.
 /// - `Variable`: an argument of `-v` has an error.
-/// - `Filter`: an argument is not a filter, or two filters select the same case.
+/// - `Filter`: an argument is not a filter, or two filters match the same case.
 /// - `NeedsCase`: `needed` is `true`, and there is not exactly one filter that names a case.
 /// - `Tree`: a Kyuafile has an error.
 /// - `TooManyCases`: there are more than 100,000 cases to select from.

@@ -1,4 +1,4 @@
-//! The test cases of a suite, and their selection by filters.
+//! The test cases of programs, and their selection by filters.
 
 pub(crate) mod choosing;
 pub(crate) mod collecting;
@@ -8,19 +8,21 @@ use crate::Settings;
 use kt_atflist::CaseDef;
 use kt_base::{Interface, Items, Text};
 
-/// A test case of a suite with the data of its program.
+/// A test case that a command may select, with the data of its program.
 pub struct Candidate {
     /// The interface of the test program.
     pub interface: Interface,
     /// The path of the test program, relative to the directory of the root Kyuafile.
     pub path: Text,
-    /// The test suite of the program.
+    /// The name of the program's test suite.
     pub suite: Text,
-    /// The name and the properties of the case. They override the properties of the program.
+    /// The name of the case, and its properties with those of its program. If the list of the
+    /// program has an error, the case represents the list.
     pub case: CaseDef,
 }
 
-/// A manual implementation, so that a drop of `Candidate` is one call for the prover.
+/// Implemented manually for the prover: a drop is one call, and only this function takes the fields
+/// apart.
 impl Drop for Candidate {
     fn drop(self) {
         let Candidate {
@@ -32,12 +34,12 @@ impl Drop for Candidate {
     }
 }
 
-/// A selection of cases from a suite by filters.
+/// A selection of cases by the filters of a command.
 #[derive(Drop)]
 pub struct Chosen {
     /// The selected cases, in the order of their programs and their lists.
     pub cases: Items<Candidate>,
-    /// The positions of the filters that select no case, ascending and counted from 0.
+    /// The positions of the filters that match no case, ascending, from 0.
     pub unmatched: Items<usize>,
 }
 

@@ -28,8 +28,10 @@ fn listed_cases<W: World>(
     Ok(found)
 }
 
-/// Returns the cases of a program. An ATF program of which no filter may select a case is not run,
-/// and has no cases here.
+/// Returns the cases of a program.
+///
+/// The result is empty for an ATF program of which no filter may match a case. Such a program is
+/// not run.
 fn own_cases<W: World>(
     alloc: Global,
     settings: &Settings,
@@ -79,8 +81,13 @@ fn add_candidates(
     Ok(())
 }
 
-/// Returns the cases of programs, in their order. Each list is made while no other program is
-/// running.
+/// Returns the cases of the programs, in the order of the programs.
+///
+/// Each list is made while no other program is running.
+///
+/// # Errors
+///
+/// - `NoMemory`: an allocation fails.
 pub fn offered<W: World>(
     alloc: Global,
     settings: &Settings,
@@ -101,7 +108,7 @@ pub fn offered<W: World>(
     Ok(found)
 }
 
-/// Returns `true` if a filter may select a case of the program at `path`.
+/// Returns `true` if one of `filters` may match a case of the program at `path`.
 fn may_match_any(filters: &[Filter], path: &Text) -> bool
     ensures { IsTrue result ↔ ((one : Filter) × Contains filters.now one × MayMatch one path.now) }
 {
@@ -113,8 +120,9 @@ fn may_match_any(filters: &[Filter], path: &Text) -> bool
     false
 }
 
-/// Returns `true` if there is no filter, or if a filter may select a case of the program. Nothing
-/// is allocated.
+/// Returns `true` if there is no filter, or if a filter may match a case of the program.
+///
+/// Allocates nothing.
 fn is_wanted(filters: &[Filter], program: &Program) -> bool
     ensures { IsTrue result ↔ IsWanted filters.now program.now }
 {

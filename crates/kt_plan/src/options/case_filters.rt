@@ -6,7 +6,9 @@ use kt_base::{Items, NoMemory, Text};
 use kt_suite::{Filter, FilterFault, check_disjoint};
 use std::alloc::Global;
 
-/// Parses an argument as a filter. Returns a `Stop` if the argument is not a filter.
+/// Parses the argument `word` as a filter.
+///
+/// The inner error is the `Stop` of an argument that is not a filter.
 fn filter_of(alloc: Global, word: &Text) -> Result<Result<Filter, Stop>, NoMemory>
     ensures { IfOk result (λ outcome. outcome ≡ filter_of word.now) }
 {
@@ -17,8 +19,9 @@ fn filter_of(alloc: Global, word: &Text) -> Result<Result<Filter, Stop>, NoMemor
     }
 }
 
-/// Parses arguments as filters, in order. Returns a `Stop` for the first argument that is not a
-/// filter.
+/// Parses the arguments `words` as filters, in order.
+///
+/// The inner error is the `Stop` of the first argument that is not a filter.
 fn parse_filters(alloc: Global, words: &[Text]) -> Result<Result<Items<Filter>, Stop>, NoMemory>
     ensures { IfOk result (λ outcome. outcome ≡ filters_of words.now) }
 {
@@ -32,8 +35,7 @@ fn parse_filters(alloc: Global, words: &[Text]) -> Result<Result<Items<Filter>, 
     Ok(Ok(filters))
 }
 
-/// Returns the position of the filter that an error of several filters names, or 0 for another
-/// error.
+/// Returns the position of the filter in `Repeated` or `NotDisjoint`, or 0 for another error.
 fn position_of(fault: FilterFault) -> usize
     ensures { result ≡ position_in fault }
 {
@@ -43,8 +45,9 @@ fn position_of(fault: FilterFault) -> usize
     }
 }
 
-/// Returns a `Stop` for the first filter that selects a case of an earlier filter, or `None` if
-/// there is none.
+/// Returns the `Stop` of the first filter that matches a case of an earlier filter, if any.
+///
+/// `words` are the arguments of `filters`.
 fn clash_of(words: &[Text], filters: &[Filter]) -> Result<Option<Stop>, NoMemory>
     requires { length words.now ≡ length filters.now }
     ensures { IfOk result (λ found. ChecksTogether words.now filters.now found) }
@@ -68,18 +71,28 @@ fn names_one_case(filters: &[Filter]) -> bool
     }
 }
 
-/// Returns `true` if exactly one filter that names a case is needed and the filters are others.
+/// Returns `true` if `needs_case` is `true` and there is not exactly one filter that names a case.
 fn lacks_case(needs_case: bool, filters: &[Filter]) -> bool
     ensures { result ≡ lacks_case needs_case filters.now }
 {
     needs_case && !names_one_case(filters)
 }
 
-/// Parses the filters of a command.
+/// Parses the arguments `words` as the filters of a command.
 ///
-/// The errors are checked in this order: an argument that is not a filter, and a filter that
-/// selects a case of an earlier filter. The last is `NeedsCase`, if `needs_case` is `true` and
-/// there is not exactly one filter that names a case.
+/// `needs_case` is `true` if the command needs exactly one filter that names a case.
+///
+/// # Errors
+///
+/// The first error is returned, in this order:
+///
+/// - `Filter`: an argument is not a filter.
+/// - `Filter`: a filter matches a case of an earlier filter.
+/// - `NeedsCase`: `needs_case` is `true`, and there is not exactly one filter that names a case.
+///
+/// At any step:
+///
+/// - `NoMemory`: an allocation fails.
 pub fn read_filters(alloc: Global, needs_case: bool, words: &[Text]) -> Result<Items<Filter>, Stop>
     ensures { IsShort result ⊎ Filters needs_case words.now result }
 {

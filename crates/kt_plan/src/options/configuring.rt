@@ -9,7 +9,13 @@ use kt_config::{Config, ConfigFault};
 use kt_suite::ReadFault;
 use std::alloc::Global;
 
-/// Returns a copy of the variables of a suite, empty if the configuration has none for the suite.
+/// Returns a copy of the configuration variables of the test suite `suite`.
+///
+/// The result is empty if `config` has none for the test suite.
+///
+/// # Errors
+///
+/// - `NoMemory`: an allocation fails.
 pub fn variables_for(alloc: Global, config: &Config, suite: &Text) -> Result<Variables, NoMemory>
     ensures { IfOk result (λ variables. variables ≡ variables_for config.now suite.now) }
 {
@@ -19,8 +25,9 @@ pub fn variables_for(alloc: Global, config: &Config, suite: &Text) -> Result<Var
     }
 }
 
-/// Sets a variable of the configuration. Returns a `Stop` with the variable's name if the
-/// configuration rejects the variable.
+/// Sets the variable `name` of the configuration to `value`.
+///
+/// Returns a `Stop` with the name if the configuration rejects the variable.
 fn set(config: &mut Config, name: Text, value: &Text) -> Result<Option<Stop>, NoMemory>
     ensures { IfOk result (λ stop. GivesOne config.old (config_or_stop config.new stop)
         (or_stop (Stop.Variable name) (definition_named name value.now))) }
@@ -32,8 +39,9 @@ fn set(config: &mut Config, name: Text, value: &Text) -> Result<Option<Stop>, No
     }
 }
 
-/// Sets the variable of an argument `NAME=VALUE`. Returns a `Stop` if the argument lacks a `=` or
-/// the configuration rejects the variable.
+/// Sets the variable of `word`, an argument `NAME=VALUE`.
+///
+/// Returns a `Stop` if the argument lacks a `=`, or if the configuration rejects the variable.
 fn set_word(config: &mut Config, word: &Text) -> Result<Option<Stop>, NoMemory>
     ensures { IfOk result (λ stop.
         GivesOne config.old (config_or_stop config.new stop) (word_meaning word.now)) }
@@ -45,7 +53,9 @@ fn set_word(config: &mut Config, word: &Text) -> Result<Option<Stop>, NoMemory>
     }
 }
 
-/// Parses the bytes of a configuration file. Returns a `Stop` if they have an error.
+/// Parses the bytes of a configuration file.
+///
+/// The inner error is the `Stop` of a file that is not valid.
 fn config_of(alloc: Global, bytes: &[u8]) -> Result<Result<Config, Stop>, NoMemory>
     ensures { IfOk result (Configured (IsConfiguration bytes.now)) }
 {
@@ -56,7 +66,7 @@ fn config_of(alloc: Global, bytes: &[u8]) -> Result<Result<Config, Stop>, NoMemo
     }
 }
 
-/// Returns the `Stop` of a command whose configuration file can't be read.
+/// Returns the `Stop` of a command that can't read its configuration file because of `fault`.
 fn unread_stop(fault: ReadFault) -> Stop
     ensures { result ≡ unread_stop fault }
 {
@@ -93,8 +103,9 @@ fn config_given<W: World>(
     }
 }
 
-/// Sets the variables of the arguments of `-v`, in order. Returns a `Stop` for the first argument
-/// with an error.
+/// Sets the variables of the arguments of `-v`, in order.
+///
+/// The inner error is the `Stop` of the first argument with an error.
 fn set_words(config: Config, words: &[Text]) -> Result<Result<Config, Stop>, NoMemory>
     ensures { IfOk result (λ outcome. GivesMore config outcome (words_meaning words.now)) }
 {
@@ -118,9 +129,21 @@ fn configure<W: World>(alloc: Global, options: &CaseOptions, world: &mut W) -> R
 
 /// Reads the settings of a command over test cases: its configuration and its filters.
 ///
-/// The first error stops the command. Errors are checked in this order: the configuration file, the
-/// arguments of `-v`, each filter, the filters together, and the need of `debug` for exactly one
-/// case.
+/// `needs_case` is `true` if the command needs exactly one filter that names a case.
+///
+/// # Errors
+///
+/// The first error is returned, in this order:
+///
+/// - `UnreadConfiguration`: the configuration file can't be read.
+/// - `Configuration`: the configuration file has an error.
+/// - `Variable`: an argument of `-v` has an error.
+/// - `Filter`: an argument is not a filter, or two filters match the same case.
+/// - `NeedsCase`: `needs_case` is `true`, and there is not exactly one filter that names a case.
+///
+/// At any step:
+///
+/// - `NoMemory`: an allocation fails.
 pub fn settle<W: World>(
     alloc: Global,
     needs_case: bool,

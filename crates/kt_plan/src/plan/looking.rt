@@ -6,7 +6,7 @@ use kt_base::{NoMemory, Text};
 use kt_metadata::{Host, Need};
 use std::alloc::Global;
 
-/// Returns `true` if the host has a required file or program.
+/// Returns `true` if the host has the required file or program `word`.
 fn is_found<W: World>(need: Need, word: &Text, world: &mut W) -> bool
     ensures { W.replies world.old (Finds need word.now result) world.new }
 {
@@ -16,7 +16,7 @@ fn is_found<W: World>(need: Need, word: &Text, world: &mut W) -> bool
     }
 }
 
-/// Checks that a required file or program exists, and records it in `host` if it does.
+/// Checks that the required file or program `word` exists, and records it in `host` if it does.
 fn look_for_word<W: World>(
     need: Need,
     word: &Text,
@@ -34,8 +34,9 @@ fn look_for_word<W: World>(
     Ok(())
 }
 
-/// Checks that each required file or program of one kind exists, in order, and records those that
-/// do.
+/// Checks which of the required files or programs `words` exist, in order.
+///
+/// Records those that exist in `host`.
 fn look_for_words<W: World>(
     need: Need,
     words: &[Text],
@@ -52,8 +53,9 @@ fn look_for_words<W: World>(
     Ok(())
 }
 
-/// Returns the kinds of requirements that must be checked for a case. Returns none if the list of
-/// its program has an error.
+/// Returns the kinds of requirements that must be checked for a case.
+///
+/// The result is empty if the list of the case's program has an error.
 fn kinds_of(candidate: &Candidate) -> &'static [Need]
     ensures { needs_among result.now (meta_in candidate.now)
         ≡ needs_by candidate.now.case.fault (meta_in candidate.now) }
@@ -64,8 +66,9 @@ fn kinds_of(candidate: &Candidate) -> &'static [Need]
     }
 }
 
-/// Checks that the files and the programs that a case requires exist, in order, and records those
-/// that do.
+/// Checks which of the files and programs that a case requires exist, in order.
+///
+/// Records those that exist in `host`.
 fn look_for_case<W: World>(
     candidate: &Candidate,
     world: &mut W,
@@ -84,8 +87,9 @@ fn look_for_case<W: World>(
     Ok(())
 }
 
-/// Checks that the files and the programs that cases require exist, in the order of the cases, and
-/// records those that do.
+/// Checks which of the files and programs that the cases require exist, in the order of the cases.
+///
+/// Records those that exist in `host`.
 fn look_for_all<W: World>(
     cases: &[Candidate],
     world: &mut W,
@@ -101,12 +105,18 @@ fn look_for_all<W: World>(
     Ok(())
 }
 
-/// Reads the properties of the host that cases may require: whether the user is root, the memory,
-/// the disk space, and the required files and programs.
+/// Reads the properties of the host that cases may require.
+///
+/// The properties are whether the user is root, the memory, the disk space, and the required files
+/// and programs.
 ///
 /// The user, the memory and the disk space are read even if no case requires them. Cases whose list
-/// has an error require nothing. A file or a program that several cases require is checked for
-/// each. If the results differ, the file or the program counts as found.
+/// has an error require nothing. A file or a program that several cases require is checked for each
+/// case. If the results differ, the file or the program counts as found.
+///
+/// # Errors
+///
+/// - `NoMemory`: an allocation fails.
 pub fn survey<W: World>(alloc: Global, cases: &[Candidate], world: &mut W) -> Result<Host, NoMemory>
     requires { IsIdle (W.running world.old) (W.pending world.old) }
     ensures surveyed { Answered W.replies world.old world.new (λ answers. MatchResult result

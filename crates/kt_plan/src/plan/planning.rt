@@ -11,7 +11,7 @@ use kt_metadata::{Host, Meta, unmet};
 use kt_sched::Job;
 use std::alloc::Global;
 
-/// Returns a copy of a reason.
+/// Returns a copy of `reason`, with its own text.
 fn copy_of_reason(reason: &Reason) -> Result<Reason, NoMemory>
     ensures { IfOk result (λ copy. copy ≡ reason.now) }
 {
@@ -24,7 +24,9 @@ fn copy_of_reason(reason: &Reason) -> Result<Reason, NoMemory>
     }
 }
 
-/// Returns `true` if a case declares a cleanup. Only cases of ATF programs may have cleanups.
+/// Returns `true` if a case with the properties `meta` declares a cleanup.
+///
+/// Only cases of ATF programs may have cleanups.
 fn declares_cleanup(interface: Interface, meta: &Meta) -> bool
     ensures { result ≡ (is_atf interface && meta.now.has_cleanup) }
 {
@@ -34,8 +36,9 @@ fn declares_cleanup(interface: Interface, meta: &Meta) -> bool
     }
 }
 
-/// Returns the verdict of a case that must not be started, or `None` for another case. A case is
-/// broken if its list has an error, and otherwise skipped if a requirement is not met.
+/// Returns the verdict of a case that must not be started, or `None` for another case.
+///
+/// A case is broken if its list has an error, and otherwise skipped if a requirement is not met.
 fn decided(
     alloc: Global,
     candidate: &Candidate,
@@ -63,7 +66,9 @@ fn names_of(candidate: &Candidate) -> Result<(Text, Text), NoMemory>
     Ok((candidate.path.copy()?, candidate.case.name.copy()?))
 }
 
-/// Creates the job of a case. `decided` is the verdict of a case that must not be started.
+/// Creates the job of a case with the variables `vars` and the effective properties `meta`.
+///
+/// `decided` is the verdict of a case that must not be started.
 fn job_of(
     position: u32,
     candidate: &Candidate,
@@ -93,7 +98,9 @@ fn job_of(
     })
 }
 
-/// Creates the job of a case at a position of the plan. `vars` are the variables of its suite.
+/// Creates the job of a case at a position of the plan.
+///
+/// `vars` are the configuration variables of the case's test suite.
 fn job_at(
     alloc: Global,
     config: &Config,
@@ -112,10 +119,14 @@ fn job_at(
 
 /// Creates the plan of at most 100,000 cases: one job for each case, in order.
 ///
-/// A case whose list has an error is broken without a start. Otherwise a case with an unmet
+/// A case whose list has an error is broken, and is not started. Otherwise, a case with an unmet
 /// requirement is skipped. The host is not checked again during the run, so a file that one case
-/// creates meets no requirement of another. Adjacent cases of one suite share the memory of its
-/// variables.
+/// creates meets no requirement of another. Adjacent cases of one test suite share the memory of
+/// its variables.
+///
+/// # Errors
+///
+/// - `NoMemory`: an allocation fails.
 pub fn make_plan(
     alloc: Global,
     config: &Config,
@@ -138,8 +149,10 @@ pub fn make_plan(
     Ok(plan)
 }
 
-/// Creates the plan of at most 100,000 cases: reads the properties of the host that they may
-/// require, and decides which cases are skipped.
+/// Creates the plan of at most 100,000 cases: one job for each case, in order.
+///
+/// Reads the properties of the host that the cases may require, and decides which cases are broken
+/// or skipped without a start.
 ///
 /// # Errors
 ///

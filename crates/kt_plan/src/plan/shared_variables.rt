@@ -3,12 +3,12 @@ use kt_base::{NoMemory, Text, Variables};
 use kt_config::Config;
 use std::alloc::Global;
 
-/// A set of a suite's variables, whose memory the jobs of its cases share.
+/// A list of a test suite's variables, whose memory the jobs of its cases share.
 #[derive(Drop)]
 pub struct SharedVariables {
-    /// The name of the suite.
+    /// The name of the test suite.
     pub suite: Text,
-    /// The variables of the suite.
+    /// The configuration variables of the test suite.
     pub variables: Variables,
 }
 
@@ -16,7 +16,11 @@ impl SharedVariables {
     ghost use Rattle.std.specs.Prelude.{◌≡◌, IfOk};
     ghost use Rattle.kt_plan.specs.Common.{variables_for};
 
-    /// Creates the shared variables of a suite.
+    /// Creates the shared variables of the test suite `suite`.
+    ///
+    /// # Errors
+    ///
+    /// - `NoMemory`: an allocation fails.
     pub fn of(alloc: Global, config: &Config, suite: &Text) -> Result<SharedVariables, NoMemory>
         ensures suite { IfOk result (λ shared. shared.suite ≡ suite.now) }
         ensures variables { IfOk result (λ shared.
@@ -29,8 +33,13 @@ impl SharedVariables {
         })
     }
 
-    /// Returns the shared variables of the next case's suite. If the suite is the same, `self` is
-    /// returned.
+    /// Returns the shared variables of `suite`, the test suite of the next case.
+    ///
+    /// The result is `self` if `self` has the variables of this test suite.
+    ///
+    /// # Errors
+    ///
+    /// - `NoMemory`: an allocation fails.
     pub fn next(
         self,
         alloc: Global,
