@@ -5,6 +5,7 @@ mod by_name;
 mod edits;
 mod ends;
 mod files;
+mod mounts;
 mod new_file;
 mod opening;
 mod places;

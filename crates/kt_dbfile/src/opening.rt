@@ -242,7 +242,6 @@ pub(crate) fn known_over<D: Disk + Drop>(
     alloc: Global,
     mut files: Files<D>,
     options: Options,
-    is_link: bool,
 ) -> Result<Result<FileStore<D>, Files<D>>, StoreFailure>
     requires log { IsTrue (D.Disk.is_usable files.log) }
     requires db { IsTrue (D.Disk.is_usable files.db) }
@@ -271,7 +270,7 @@ pub(crate) fn known_over<D: Disk + Drop>(
     if !list_schema(alloc, &mut fresh)? {
         return Ok(Err(fresh.close()));
     }
-    let store = sound_over(fresh, is_link | is_tested)?;
+    let store = sound_over(fresh, is_tested)?;
     Ok(Ok(store))
 }
 

@@ -12,6 +12,7 @@ ghost use Rattle.sqlite_trees.specs.View.{IsClean};
 use crate::by_name::places_in;
 use crate::edits::{write_entry, write_finish, write_run};
 use crate::files::{NotOpened, connect, open_both};
+use crate::mounts::is_mounted_alone;
 use crate::new_file::prepare;
 use crate::opening::{check_number, close_store, known_over, options};
 use crate::places::Places;
@@ -28,8 +29,8 @@ use sqlite_pager::Options;
 use sqlite_schema::schema::Schema;
 use std::alloc::Global;
 use std::marker::Model;
+use std::thread;
 use std::time::Duration;
-use std::{fs, thread};
 
 /// The results in a file (docs/formats/store.md).
 ///
@@ -210,7 +211,6 @@ pub(crate) fn known<D: Disk + Drop>(
     alloc: Global,
     files: Files<D>,
     options: Options,
-    is_link: bool,
 ) -> Result<Result<RunsFile<FileStore<D>>, Files<D>>, StoreFault>
     requires log { IsTrue (D.Disk.is_usable files.log) }
     requires db { IsTrue (D.Disk.is_usable files.db) }
@@ -219,7 +219,7 @@ pub(crate) fn known<D: Disk + Drop>(
     ensures back { IfOk result (λ found. IfErr found (IsLeft D.Disk files)) }
     ensures due { IfErr result (λ e. IsStoreFault e ⊎ (e ≡ StoreFault.UnknownSchema)) }
 {
-    match known_over(alloc, files, options, is_link)? {
+    match known_over(alloc, files, options)? {
         Ok(store) => Ok(Ok(ours(alloc, store)?)),
         Err(left) => Ok(Err(left)),
     }
@@ -231,7 +231,6 @@ fn over_files<D: Disk + Drop>(
     alloc: Global,
     files: Files<D>,
     options: Options,
-    is_link: bool,
 ) -> Result<RunsFile<FileStore<D>>, StoreFault>
     requires log { IsTrue (D.Disk.is_usable files.log) }
     requires db { IsTrue (D.Disk.is_usable files.db) }
@@ -239,7 +238,7 @@ fn over_files<D: Disk + Drop>(
     ensures opened { IfOk result (Finds (image_of D.Disk files)) }
     ensures due { IfErr result (λ e. IsStoreFault e ⊎ (e ≡ StoreFault.UnknownSchema)) }
 {
-    match known(alloc, files, options, is_link)? {
+    match known(alloc, files, options)? {
         Ok(known) => Ok(known),
         Err(left) => {
             let connection = connect(alloc, left, options)?;
@@ -319,15 +318,6 @@ fn is_path(path: &str) -> bool
     path != ":memory:" && !path.starts_with("file:")
 }
 
-/// Returns `true` if the path is a link, or can't be read. The log is next to the link's target,
-/// not next to the link.
-fn is_link(rt: &HostRuntime, file: &Text) -> bool {
-    match fs::symlink_metadata(rt, file.as_str()) {
-        Ok(found) => !found.is_file(),
-        Err(_fault) => true,
-    }
-}
-
 impl<S: TrustedContents> RunsFile<FileStore<FileFrom<S>>> {
     ghost use Rattle.std.specs.Prelude.{◌≡◌, ◌⊎◌, IfOk, IfErr};
     ghost use Rattle.kt_dbfile.specs.Common.{Finds, IsStoreFault, image_at};
@@ -341,8 +331,8 @@ impl<S: TrustedContents> RunsFile<FileStore<FileFrom<S>>> {
     ///
     /// - `NoMemory`: memory ran out.
     /// - `Store`: another process uses the file for 5 seconds, the file can't be created, read or
-    ///   written, it is damaged or has other tables, `file` is `:memory:` or a URI, or `start` is
-    ///   `None`.
+    ///   written, it is damaged or has other tables, `file` is `:memory:` or a URI, it is mounted as a
+    ///   single file, or `start` is `None`.
     /// - `UnknownSchema`: the schema number is missing or neither 1 nor 2.
     pub fn open(
         rt: &HostRuntime,
@@ -354,9 +344,10 @@ impl<S: TrustedContents> RunsFile<FileStore<FileFrom<S>>> {
         ensures due { IfErr result (λ e. IsStoreFault e ⊎ (e ≡ StoreFault.UnknownSchema)) }
     {
         sure(is_path(file.as_str()))?;
+        sure(!is_mounted_alone(file))?;
         let files = open_files(rt, file, present(start)?)?;
         let options = present(options(rt, access.pages()))?;
-        over_files(rt.alloc(), files, options, is_link(rt, file))
+        over_files(rt.alloc(), files, options)
     }
 }
 

@@ -99,7 +99,7 @@ returns-clause-tested g c clean must =
     let at = (goal.at.returns-clause-tested g c).In_ok-list_schema in
     let fresh = (c.in_ok-list_schema.ensures.read (c.in_ok-store.ensures.honest (clean_of _ clean))).honest in
     let tested = c.in_ok-is_tested.ensures.tested (early g at fresh).1 (subst MustBeTested (sym (same_image c.plain_size.ensures.log c.plain_size.ensures.db)) must) in
-    c.in_ok-store.ensures.tested (or_right c.args.is_link _ tested)
+    c.in_ok-store.ensures.tested tested
 
 -- files that list other tables were only read
 pub returns-in_default-clause-back : goal.returns-in_default-clause-back
