@@ -1,4 +1,4 @@
--- Lemmas on the board after a start, a poll, a turn and a wait.
+-- Lemmas on the driver state after a start, a poll, a turn and a wait.
 use Rattle.std.proofs.Common.{if◌then◌else◌, ◌≡◌, ℕ, zero, suc, List, [], ◌∷◌, ◌++◌, Bool, true, false, Some, Result, map, slice_get, refl, sym, ◌∙◌, ap, subst, append_assoc, remove}
 use Rattle.kt_child.proofs.Common.{All, All-cons, All-head, All-nil, All-tail, CaseAttempt, Job, Outcome, StartAnswer, Ended, Polled, OsFault, Watched, ChildrenState, Chain, Call, Kill, Pause, Poll, IsOn, answered, heard_of, Heard, HeardKill, HeardPoll, FinishesChild, Alive, IsPolled, IsOver, alive_after, alive_of, driver_state_of, limit_of, spawned, state_after_start, asked_by_poll, is_killed, child_of, pending_with, PolledAll, PolledUntil, Waited, WaitedOn, advanced, advanced_below, last_turn, whole_turn}
 use Rattle.kt_sched.specs.declared.job.StartAnswer.TheVariants.{Started as StartedAt, Refused as RefusedFor}
@@ -13,7 +13,7 @@ use Rattle.std.proofs.lemmas.Option.{same_Some}
 abbrev answering : Watched → List Heard → Alive
 answering k heard = record { case = k.case; limit = k.limit; heard = heard }
 
--- A start appends its child to the board and leaves the pending cases.
+-- A start appends its child to the running children and leaves the pending cases.
 pub board_started : (b after : ChildrenState) (job : Job) (c : CaseAttempt) (answer : StartAnswer)
     → after ≡ state_after_start b (spawned (limit_of job c.role) c) answer
     → (alive_of after.children ≡ alive_after (alive_of b.children) job c answer) × (after.pending ≡ b.pending)
@@ -64,7 +64,8 @@ turn_heard (k ∷ ks) calls on (answer, done, more, e, went, turn) =
     let r = turn_heard ks more (All-tail IsOn k ks on) turn in
     (first_heard k ks answer done more calls (alive_of (map advanced ks)) g.0 e r.0, All-cons IsOn (advanced k) (map advanced ks) (g.1, is.1) r.1)
 
--- `OverAt ks calls after place outcome`: the child at `place` has finished; `after` are left.
+-- `OverAt ks calls after place outcome`: after `calls`, which poll `ks`, the child at index `place`
+-- has finished with `outcome`. `after` are the children then.
 abbrev pub OverAt : List Watched → List Call → List Watched → ℕ → Outcome → Type 0
 OverAt ks calls after place outcome =
     (alive : List Alive) × (a : Alive) × IsOver (alive_of ks) calls alive place a outcome
@@ -94,7 +95,7 @@ wait_heard _ _ _ _ _ on (whole_turn ks after turn more done place outcome all wa
     let now = alive_of (map advanced ks) in
     (u.0, u.1, (chain_append IsPolled (alive_of ks) now u.0 turn (Pause done ∷ more) t.0 (now, paused now done, u.2.0), u.2.1, u.2.2), u.3, u.4)
 
--- A wait of the running children is an end on the board.
+-- A wait of the running children (`WaitedOn`) is an end in the driver state (`Ends`).
 pub waited_ends : (old new : ChildrenState) (calls : List Call) (e : Ended) → All IsOn old.children → Left old calls e new
     → (next : ℕ) → Waited old.children (driver_state_of old next) calls e new.children (driver_state_of new next)
 waited_ends old new calls e on w next =

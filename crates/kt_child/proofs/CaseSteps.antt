@@ -31,7 +31,7 @@ pub case_at : (ks : List Watched) (i : ℕ) (k : Watched) → slice_get ks i ≡
 case_at ks i k e = slice_get-map (λ (x : Watched). x.case) ks i ∙ ap (option_map (λ (x : Watched). x.case)) e
 
 -- `Left old calls e new`: a wait with `calls` takes the state `old` to `new`. Its polls end with
--- the finished child at `place`, and the calls after them create the record `e`.
+-- the finished child at `place`, and the calls after them determine its end `e`.
 pub record Left (old : ChildrenState) (calls : List Call) (e : Ended) (new : ChildrenState) : Type 0 where
   pub polls : List Call
   pub rest : List Call

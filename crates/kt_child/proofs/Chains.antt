@@ -8,7 +8,8 @@ pub chain_append : {O : Type 0} (leads : O → Call → O → Type 0) (a b d : O
 chain_append leads a b d [] ys h k = rw h at k
 chain_append leads a b d (x ∷ xs) ys h k = (h.0, h.1, chain_append leads h.0 b d xs ys h.2 k)
 
--- `Tries leads a asks r b`: the calls of `asks` take the system from `a` to `b` and give `r`.
+-- `Tries leads a asks r b`: the calls of `asks`, up to the first that fails, take the system from
+-- `a` to `b` and give the result `r` (`Tried`).
 abbrev pub Tries : {O : Type 0} → (O → Call → O → Type 0) → O → List Ask → Result (Unit {0}) Refused → O → Type 0
 Tries leads a asks r b = (calls : List Call) × Chain leads a calls b × Tried asks calls r
 

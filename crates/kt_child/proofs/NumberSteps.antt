@@ -1,4 +1,4 @@
--- The next attempt number never decreases, and no number occurs twice on a board.
+-- The next attempt number never decreases, and no number occurs twice in a driver state.
 use Rattle.std.proofs.Common.{◌≡◌, ℕ, ◌==◌, ◌&&◌, ◌+◌, ◌-◌, ◌^◌, ◌<◌, ◌≤◌, List, [], ◌∷◌, ◌++◌, Bool, true, false, map, refl, sym, ◌∙◌, ap, subst, arith, inl, inr}
 use Rattle.kt_child.proofs.Common.{nat_tests, Alive, DriverState, Body, Cleanup, Call, CaseAttempt, Chain, Driver, End, Ended, Ends, IsPolled, Job, NoEvent, Role, Runs, Start as Started, StartAnswer, Starts, Then, Trace, alive_after, limit_of, one_if, AttemptsDiffer, IsApart, NumbersDiffer, numbers, times, Request, Wait, ListOf, Serves, ServesAll, is_attempt}
 use Rattle.kt_child.specs.Driving.Numbers.{Start}
@@ -66,7 +66,7 @@ apart_still : (t : Bool) (n x y next after : ℕ) → next + one_if t ≤ after 
 apart_still t n x y next after le h (one, none) =
     (grind (arith, nat_tests, one_if_is t, one_if_is (t && n == next)), λ below. grind (arith, nat_tests, one_if_is t, one_if_is (t && n == next)))
 
--- A board on which no number occurs more often, except the next one if used, stays apart.
+-- If no number occurs more often, except the next one if used, `IsApart` stays true.
 fewer : (t : Bool) (old new : DriverState) → IsApart old → old.next + one_if t ≤ new.next
     → ((n : ℕ) → times n (map runs_by new.alive) + times n (map owed_by new.owed)
     ≤ times n (map runs_by old.alive) + times n (map owed_by old.owed) + one_if (t && n == old.next)) → IsApart new
@@ -75,7 +75,7 @@ fewer t old new apart le h n =
     let y = times_join n (map runs_by new.alive) (map owed_by new.owed) in
     apart_still t n (times n (numbers old)) (times n (numbers new)) old.next new.next le (omega (arith, h n, x, y)) (apart n)
 
--- The attempt numbers on a board are different after an end.
+-- The attempt numbers in a driver state are different after an end.
 ends_apart : (old new : DriverState) (calls : List Call) (e : Ended) → Ends old calls e new → IsApart old → IsApart new
 ends_apart old new calls e s apart =
     fewer false old new apart (omega (arith, s.next)) (λ n.
@@ -88,7 +88,7 @@ ends_apart old new calls e s apart =
       ap (λ t. times n (map owed_by t)) s.owed,
     ))
 
--- The attempt numbers on a board are different after a start.
+-- The attempt numbers in a driver state are different after a start.
 starts_apart : (source root : List ℕ) (old new : DriverState) (job : Job) (role : Role) (calls : List Call) (answer : StartAnswer)
     → Starts source root old job role calls answer new → IsApart old → IsApart new
 starts_apart source root old new job role calls answer (inl (r, l, refused, none, same)) apart = subst IsApart (sym same) apart
@@ -112,7 +112,7 @@ starts_apart source root old new job Body calls answer (inr (c, ((lt, number, ne
       ap (λ (t : CaseAttempt). one_if (n == t.attempt)) case,
     ))
 
--- The attempt numbers on a board are different after a run.
+-- The attempt numbers in a driver state are different after a run.
 runs_apart : (plan : List Job) (source root : List ℕ) (old : DriverState) (T : Trace) (calls : List Call) (new : DriverState) → Runs plan source root old T calls new → IsApart old → IsApart new
 runs_apart plan source root old NoEvent calls new (none, same) apart = subst IsApart (sym same) apart
 runs_apart plan source root old (Then T (Started i role answer)) calls new (mid, before, asked, e, runs, (job, at, s)) apart =
@@ -120,6 +120,6 @@ runs_apart plan source root old (Then T (Started i role answer)) calls new (mid,
 runs_apart plan source root old (Then T (End ended)) calls new (mid, before, asked, e, runs, s) apart =
     ends_apart mid new asked ended s (runs_apart plan source root old T before mid runs apart)
 
--- On each board of a run from an idle board, all attempt numbers are different.
+-- In each driver state of a run from an idle state, all attempt numbers are different.
 pub numbers_differ : NumbersDiffer
 numbers_differ plan source root next T calls b runs = runs_apart plan source root _ T calls b runs (λ n. (omega arith, λ le. refl))

@@ -26,7 +26,8 @@ killed_at b a = record { before = b; killed = true; after = a }
 abbrev alive_at : ℕ → Watch
 alive_at b = record { before = b; killed = false; after = 0 }
 
--- `Goes limit w answer done`: a poll after which the child still runs extends its responses.
+-- `Goes limit w answer done`: if the child still runs after a poll with the result `answer`, the
+-- new poll counts represent the old responses and those of the poll.
 abbrev Goes : ℕ → Watch → Result Polled OsFault → Bool → Type 0
 Goes limit w answer done =
     after_poll limit w answer done ≡ More
@@ -62,7 +63,8 @@ goes_alive limit b (Ok Running) done lt e = by (b + 1 == 100 * limit) refl done 
     by false t d e = (once_more b, (failed b (100 * limit) t lt, refl))
 goes_alive limit b answer done lt e = absurd (cc)
 
--- `Tells limit w answer done o`: the outcome of a last poll follows from all responses.
+-- `Tells limit w answer done o`: if a poll with the result `answer` ends the child with the outcome
+-- `o`, then `o` follows from all responses (`Yields`).
 abbrev Tells : ℕ → Watch → Result Polled OsFault → Bool → Outcome → Type 0
 Tells limit w answer done o = after_poll limit w answer done ≡ Ended o → Yields limit (answered limit w ++ heard_of limit w answer done) o
 

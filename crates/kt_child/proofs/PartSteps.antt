@@ -4,7 +4,9 @@ use Rattle.kt_child.proofs.Common.{OsFault, FileRead, ReadEnd, Complete, Chain, 
 use Rattle.kt_child.specs.Ending.Parts.{last, more}
 use Rattle.kt_child.proofs.Chains.{chain_append}
 
--- `Taking .. reader got`: after some parts, of `got` bytes together, the rest completes the read.
+-- `Taking has_taken leads path part limit start now reader got`: parts of `got` bytes in all were
+-- read and fed to `reader`, which takes the system from `start` to `now`. A read of the rest
+-- completes the read of the file.
 abbrev pub Taking : {R O : Type 0} → (R → List ℕ → Type 0) → (O → Call → O → Type 0) → List ℕ → ℕ → ℕ → O → O → R → ℕ → Type 0
 Taking has_taken leads path part limit start now reader got =
     (taken : List ℕ) × has_taken reader taken × (got ≡ length taken) × (calls : List Call) × Chain leads start calls now

@@ -88,7 +88,7 @@ module _ (old new : ChildrenState) (calls : List Call) (e : Ended) (once : Once 
   over_shown : shown_in old w.over.case.position w.over.case.role ≡ Some (shown w.over.case)
   over_shown = shown_there (cases_of old.children) w.place w.over.case (waited_cases old new calls e w).1 few
 
-  -- The record is that of a child that was running.
+  -- The returned end is that of a child that was running.
   pub waited_one : IsEvidence w.over.case.interface e.role e.evidence
       → (s : Shown) × (shown_in old e.position e.role ≡ Some s) × IsEvidence s.interface e.role e.evidence
   waited_one fits = (shown w.over.case, rw (w.left.8, w.left.9) over_shown, fits)

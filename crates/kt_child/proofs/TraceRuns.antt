@@ -1,4 +1,4 @@
--- Each trace of a driver is a run of its board.
+-- Each trace of a driver is a run (`Runs`) of its state.
 use Rattle.std.proofs.Common.{◌≡◌, List, [], ◌++◌, refl, ◌∙◌}
 use Rattle.kt_child.proofs.Common.{Role, Job, StartAnswer, Ended, Trace, NoEvent, Then, Start, End, Leads, Driver, DriverStarts, DriverWaits, Call, RunsFrom, driver_state}
 use Rattle.kt_child.proofs.Chains.{chain_append}

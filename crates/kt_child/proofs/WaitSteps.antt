@@ -17,7 +17,8 @@ pub all_advanced : (s : List Watched) → advanced_below (length s) s ≡ map ad
 all_advanced [] = refl
 all_advanced (k ∷ s) = ap (λ t. advanced k ∷ t) (all_advanced s)
 
--- `Waiting leads start init now children`: after some turns, the rest of a wait completes it.
+-- `Waiting leads start init now children`: some calls take the system from `start` to `now`. With
+-- them, a wait of `children` is a wait of `init`.
 abbrev pub Waiting : {O : Type 0} → (O → Call → O → Type 0) → O → List Watched → O → List Watched → Type 0
 Waiting leads start init now children =
     (calls : List Call) × Chain leads start calls now

@@ -9,21 +9,22 @@ use Rattle.kt_child.specs.Driving.Lists.{ListsBy}
 -- `leads` is the relation of the system's calls.
 module _ {O : Type 0} (leads : O → Call → O → Type 0) where
   -- `DriverStarts old job role answer new`: `new` is the driver `old` after a start of `job`'s
-  -- child. Its directories `source` and `root` are unchanged.
+  -- child in `role` with the result `answer`. The directories `source` and `root` are unchanged.
   abbrev pub DriverStarts : Driver O → Job → Role → StartAnswer → Driver O → Type 0
   DriverStarts old job role answer new =
       ((calls : List Call) × Chain leads old.os calls new.os × Starts old.source old.root (driver_state old) job role calls answer (driver_state new))
       × (new.source ≡ old.source) × (new.root ≡ old.root)
 
-  -- `DriverWaits old ended new`: `new` is the driver `old` after a wait for one child, with the
-  -- record `ended`.
+  -- `DriverWaits old ended new`: `new` is the driver `old` after a wait for one child that returned
+  -- `ended`. The directories `source` and `root` are unchanged.
   abbrev pub DriverWaits : Driver O → Ended → Driver O → Type 0
   DriverWaits old ended new =
       ((calls : List Call) × Chain leads old.os calls new.os × Waited old.running.children (driver_state old) calls ended new.running.children (driver_state new))
       × (new.source ≡ old.source) × (new.root ≡ old.root)
 
-  -- `DriverLists old program variables answer new`: `new` is the driver `old` after a list of
-  -- `program`'s cases. The running children are unchanged.
+  -- `DriverLists old program variables answer new`: `new` is the driver `old` after it listed the
+  -- test cases of `program`, with the suite's `variables` and the result `answer`. The running
+  -- children and the directories `source` and `root` are unchanged.
   abbrev pub DriverLists : Driver O → List ℕ → List Variable → Listing → Driver O → Type 0
   DriverLists old program variables answer new =
       ListsBy leads old program variables answer new × (new.running ≡ old.running) × (new.source ≡ old.source) × (new.root ≡ old.root)

@@ -7,17 +7,17 @@ use Rattle.kt_child.specs.declared.planning.Want.TheVariants.{List as Listing, B
 use Rattle.kt_child.specs.Planning.ChildPlan.{child_of, env_of, paths_of, words_of}
 use Rattle.kt_child.specs.Ending.Ends.{err_of, out_of}
 
--- `program_path source program`: the absolute path of `program`. `source` is the directory of the
--- root Kyuafile.
+-- `program_path source program`: the absolute path of `program`. `source` is the absolute directory
+-- of the root Kyuafile.
 abbrev pub program_path : List ℕ → List ℕ → List ℕ
 program_path source program = source ++ codes "/" ++ program
 
--- `program_directory path`: the directory of the absolute path `path`, or `/` if `path` is directly
--- below it.
+-- `program_directory path`: the parent directory of the absolute path `path`, which is `/` for a
+-- path like `/a`.
 abbrev pub program_directory : List ℕ → List ℕ
 program_directory path = if is_empty (parent_of path) then codes "/" else parent_of path
 
--- `limit_of job role`: the timeout of `job`'s child, in seconds.
+-- `limit_of job role`: the timeout of `job`'s child in `role`, in seconds: 60 for a cleanup.
 abbrev pub limit_of : Job → Role → ℕ
 limit_of job Body = job.timeout
 limit_of job Cleanup = 60
@@ -60,16 +60,18 @@ spawning_for source p c =
       err = err_of c.role c.paths;
     }
 
--- `spawning_of source job c`: the plan of a start of `job`'s child for the case `c`.
+-- `spawning_of source job c`: the plan of a start of `job`'s child for the case `c`, whose role is
+-- that of the child. `source` is the directory of the root Kyuafile.
 abbrev pub spawning_of : List ℕ → Job → CaseAttempt → Spawning
 spawning_of source job c = spawning_for source (job_purpose job c.role) c
 
--- `list_case root number`: the case of a list with the attempt number `number`.
+-- `list_case root number`: the `CaseAttempt` that represents a list of test cases, with the attempt
+-- number `number` and paths below `root`.
 abbrev pub list_case : List ℕ → ℕ → CaseAttempt
 list_case root number = record { position = 0; attempt = number; role = Body; interface = Atf; cleanup = false; paths = paths_of root number }
 
 -- `case_of job role number paths`: the case of `job`'s child in `role`. `number` and `paths` are
--- those of its body.
+-- those of the attempt, which a cleanup shares with its body.
 abbrev pub case_of : Job → Role → ℕ → Paths → CaseAttempt
 case_of job role number paths =
     record { position = job.position; attempt = number; role = role; interface = job.interface; cleanup = job.cleanup; paths = paths }

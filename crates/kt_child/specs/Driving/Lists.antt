@@ -11,9 +11,9 @@ use Rattle.kt_child.specs.Driving.Starting.{SetUp, spawned}
 use Rattle.kt_child.specs.Polling.Turns.{WaitedOn}
 use Rattle.kt_child.specs.Ending.Reads.{IsListWithin, list_of}
 
--- `WatchedList plan c calls outcome bytes`: `calls` poll a program that lists its test cases until
--- it has finished, read its output and remove its directory. `outcome` follows from all responses,
--- and `bytes` has at most 1,048,576 bytes.
+-- `WatchedList plan c calls outcome bytes`: `calls` poll the program of `plan` and `c`, which lists
+-- its test cases, until it has finished. They then read its output `bytes`, at most 1,048,576
+-- bytes, and remove its directory. `outcome` follows from all responses.
 abbrev pub WatchedList : Spawning → CaseAttempt → List Call → Outcome → ListBytes → Type 0
 WatchedList plan c calls outcome bytes =
     (place : ℕ) × (left : List Watched) × (polls : List Call) × (read : Result FileRead OsFault) × (done : Bool)
@@ -22,8 +22,9 @@ WatchedList plan c calls outcome bytes =
     × ((after : List Alive) × (over : Alive) × IsOver (alive_of (spawned plan.limit c ∷ [])) polls after place over outcome)
     × (bytes ≡ list_of read) × IsListWithin bytes
 
--- `RanList plan c calls result`: `calls` are all calls for a list of test cases, from the program's
--- start to the removal of its directory.
+-- `RanList plan c calls result`: `calls` are all calls for a list of test cases by `plan` and `c`,
+-- from the program's start to the removal of its directory. `result` is the cause of a refusal, or
+-- the program's outcome and output.
 abbrev pub RanList : Spawning → CaseAttempt → List Call → Listing → Type 0
 RanList plan c calls (RefusedFor cause) = SetUp plan calls (Err cause)
 RanList plan c calls (Ended outcome bytes) =
@@ -32,9 +33,9 @@ RanList plan c calls (Ended outcome bytes) =
 
 -- `leads` is the relation of the system's calls.
 module _ {O : Type 0} (leads : O → Call → O → Type 0) where
-  -- `ListsBy old program variables answer new`: `new` is the driver `old` after a list of
-  -- `program`'s test cases. Each list uses an attempt number. No call is made if no number is left
-  -- or an allocation of the driver fails.
+  -- `ListsBy old program variables answer new`: `new` is the driver `old` after it listed the test
+  -- cases of `program`, with the suite's `variables` and the result `answer`. Each list uses an
+  -- attempt number. No call is made if no number is left or an allocation of the driver fails.
   abbrev pub ListsBy : Driver O → List ℕ → List Variable → Listing → Driver O → Type 0
   ListsBy old program variables answer new =
       ((old.next ≡ 2 ^ 64 - 1) × (answer ≡ RefusedFor Directory) × (new.os ≡ old.os) × (new.next ≡ old.next))

@@ -15,7 +15,7 @@ pub data Request : Type 0 where
   Wait : (ended : Ended) → Request
   ListOf : (program : List ℕ) (variables : List Variable) (answer : Listing) → Request
 
--- `is_attempt request`: `request` is an attempt, which uses a number.
+-- `is_attempt request`: `request` is the start of a body, or a list. Each uses an attempt number.
 abbrev pub is_attempt : Request → Bool
 is_attempt (Start job Body answer) = true
 is_attempt (ListOf program variables answer) = true
@@ -39,16 +39,18 @@ AttemptsDiffer {O} leads =
     (attempt : Request) (requests : List Request) (d e f : Driver O)
     → is_attempt attempt ≡ true → d.next < 2 ^ 64 - 1 → Serves leads d attempt e → ServesAll leads e requests f → d.next < f.next
 
--- `numbers b`: the attempt numbers of the cases with a running child or a pending cleanup.
+-- `numbers b`: the attempt numbers of the cases with a running child or a pending cleanup in the
+-- driver state `b`.
 abbrev pub numbers : DriverState → List ℕ
 numbers b = map (λ a. a.case.attempt) b.alive ++ map (λ c. c.attempt) b.owed
 
--- `IsApart b`: each attempt number occurs at most once on the board `b` and is lower than the next
--- number. So no two children on a board have the same name.
+-- `IsApart b`: each attempt number occurs at most once in the driver state `b` and is lower than
+-- the next number. So no two children of `b` have the same name.
 abbrev pub IsApart : DriverState → Type 0
 IsApart b = (n : ℕ) → (times n (numbers b) ≤ 1) × (b.next ≤ n → times n (numbers b) ≡ 0)
 
--- `NumbersDiffer`: `IsApart` is true of each board that a trace reaches from an idle board.
+-- `NumbersDiffer`: `IsApart` is true of each driver state that a trace reaches from a state without
+-- children and pending cleanups.
 abbrev pub NumbersDiffer : Type 0
 NumbersDiffer =
     (plan : List Job) (source root : List ℕ) (next : ℕ) (T : Trace) (calls : List Call) (b : DriverState)

@@ -16,8 +16,9 @@ FailedRoots base zero calls = calls ≡ []
 FailedRoots base (suc n) calls =
     (before : List Call) × (fault : OsFault) × FailedRoots base n before × (calls ≡ before ++ MakeDir (root_of base n) (Err fault) ∷ [])
 
--- `FindsRoot base calls result`: `calls` create the first of 1,000 root directories that can be
--- created. If an allocation fails, none of the earlier ones could be created.
+-- `FindsRoot base calls result`: `calls` try the root directories `kyua.0` to `kyua.999` below
+-- `base`, in order, and `result` is the first that can be created. If an allocation fails, `calls`
+-- are the failed ones before it. `NoWorkDirectory`: all 1,000 fail.
 abbrev pub FindsRoot : List ℕ → List Call → Result (List ℕ) DriverFault → Type 0
 FindsRoot base calls (Ok root) =
     (n : ℕ) × (n < 1000) × (failed : List Call) × FailedRoots base n failed

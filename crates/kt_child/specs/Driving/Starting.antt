@@ -10,7 +10,7 @@ use Rattle.kt_child.specs.System.Moments.{moment_of}
 use Rattle.kt_child.specs.System.Calls.{Call, SetLimit, MakeDir, OpenOutput, Spawn, Now}
 use Rattle.kt_sched.specs.Children.{same_role}
 
--- A call as a function of its result, with the cause of a refusal if it fails.
+-- A call of a start, as a function of its result, and the cause of the refusal if the call fails.
 pub record Ask : Type 0 where
   pub call : Result (Unit {0}) OsFault → Call
   pub cause : Refused
@@ -21,8 +21,8 @@ abbrev pub cause_of : Refused → OsFault → Refused
 cause_of cause Failed = cause
 cause_of cause (Memory refusal) = NoMemory
 
--- `Tried asks calls result`: the calls of `asks` are made in order until one fails. `result` has
--- its cause.
+-- `Tried asks calls result`: `calls` are the calls of `asks`, in order, up to the first that fails.
+-- `result` is the cause of that failure, or `Ok` if none fails.
 abbrev pub Tried : List Ask → List Call → Result (Unit {0}) Refused → Type 0
 Tried [] [] (Ok done) = Unit {0}
 Tried (ask ∷ asks) (call ∷ calls) (Err cause) =
@@ -31,19 +31,19 @@ Tried (ask ∷ asks) (call ∷ calls) (Err cause) =
 Tried (ask ∷ asks) (call ∷ calls) (Ok done) = (call ≡ ask.call (Ok tt)) × Tried asks calls (Ok done)
 Tried asks calls result = ⊥
 
--- `spawn_ask p`: the call that spawns the child of the plan `p`.
+-- `spawn_ask p`: the call that spawns the child of the plan `p`, and its cause `Spawn`.
 abbrev pub spawn_ask : Spawning → Ask
 spawn_ask p = record { call = Spawn p.child p.program p.words p.env p.work; cause = NotSpawned }
 
--- `open_ask p path`: the call that opens an output file of the child.
+-- `open_ask p path`: the call that opens the output file `path` of the child of the plan `p`.
 abbrev pub open_ask : Spawning → List ℕ → Ask
 open_ask p path = record { call = OpenOutput p.child path; cause = Output }
 
--- `work_ask p`: the call that creates the work directory.
+-- `work_ask p`: the call that creates the work directory of the plan `p`.
 abbrev pub work_ask : Spawning → Ask
 work_ask p = record { call = MakeDir p.work; cause = Directory }
 
--- `child_asks p`: the calls that open the two output files and spawn the child.
+-- `child_asks p`: the calls that open the two output files of the plan `p` and spawn its child.
 abbrev pub child_asks : Spawning → List Ask
 child_asks p = open_ask p p.out ∷ open_ask p p.err ∷ spawn_ask p ∷ []
 
@@ -51,30 +51,34 @@ child_asks p = open_ask p p.out ∷ open_ask p p.err ∷ spawn_ask p ∷ []
 abbrev pub furnish_asks : Spawning → List Ask
 furnish_asks p = work_ask p ∷ child_asks p
 
--- `SetUpIn asks dir calls result`: a start in the existing directory `dir`, which is removed if the
--- start is refused.
+-- `SetUpIn asks dir calls result`: `calls` are those of `asks` up to the first failure (`Tried`),
+-- with `result`. If one fails, the last call removes the existing directory `dir`.
 abbrev pub SetUpIn : List Ask → List ℕ → List Call → Result (Unit {0}) Refused → Type 0
 SetUpIn asks dir calls result =
     (tried : List Call) × (last : List Call) × (calls ≡ tried ++ last) × Tried asks tried result × Removes (is_err result) dir last
 
--- `SetUpNew asks dir calls result`: a start that creates the directory `dir` first. No other call
--- is made if that fails.
+-- `SetUpNew asks dir calls result`: `calls` create the directory `dir` and go on with `asks`
+-- (`SetUpIn`). If the creation fails, no other call is made. `result` is `Ok` or the cause of the
+-- refusal.
 abbrev pub SetUpNew : List Ask → List ℕ → List Call → Result (Unit {0}) Refused → Type 0
 SetUpNew asks dir calls result =
     ((fault : OsFault) × (calls ≡ MakeDir dir (Err fault) ∷ []) × (result ≡ Err (cause_of Directory fault)))
     ⊎ ((more : List Call) × (calls ≡ MakeDir dir (Ok tt) ∷ more) × SetUpIn asks dir more result)
 
--- `SetUpAs role p calls result`: a body or a list creates its directories, and a cleanup uses those
--- of its body.
+-- `SetUpAs role p calls result`: `calls` start the child of the plan `p` in `role`, after its
+-- timeout was set. A body or a list creates its directories, and a cleanup uses those of its body.
+-- `result` is `Ok` or the cause of the refusal.
 abbrev pub SetUpAs : Role → Spawning → List Call → Result (Unit {0}) Refused → Type 0
 SetUpAs Body p calls result = SetUpNew (furnish_asks p) p.dir calls result
 SetUpAs Cleanup p calls result = SetUpIn (child_asks p) p.dir calls result
 
--- `SetUp p calls result`: a start without the read of the clock. Its first call sets the timeout.
+-- `SetUp p calls result`: `calls` set the timeout of the child of the plan `p` and then start it,
+-- without a read of the clock. `result` is `Ok` or the cause of the refusal.
 abbrev pub SetUp : Spawning → List Call → Result (Unit {0}) Refused → Type 0
 SetUp p calls result = (more : List Call) × (calls ≡ SetLimit p.child p.limit ∷ more) × SetUpAs p.child.role p more result
 
--- `Started p calls result`: a start of the plan `p`. If it succeeds, its last call reads the clock.
+-- `Started p calls result`: `calls` start the child of the plan `p`, and `result` is the timestamp
+-- of the start or the cause of the refusal. After a success, the last call reads the clock.
 abbrev pub Started : Spawning → List Call → StartAnswer → Type 0
 Started p calls (StartedAt moment) =
     (before : List Call) × (answer : Result ℕ OsFault) × (calls ≡ before ++ Now answer ∷ []) × SetUp p before (Ok tt)
@@ -86,12 +90,13 @@ Started p calls (RefusedFor cause) = SetUp p calls (Err cause)
 abbrev pub spawned : ℕ → CaseAttempt → Watched
 spawned limit c = record { case = c; limit = limit; watch = fresh }
 
--- `Unbegun role dir calls answer`: a start for which an allocation failed. Its only call removes
--- the directory of a cleanup.
+-- `Unbegun role dir calls answer`: `answer` refuses a start in `role`, since an allocation failed
+-- before the first call. For a cleanup, `calls` remove the directory `dir`; otherwise there are
+-- none.
 abbrev pub Unbegun : Role → List ℕ → List Call → StartAnswer → Type 0
 Unbegun role dir calls answer = Removes (same_role role Cleanup) dir calls × (answer ≡ RefusedFor NoMemory)
 
--- `Begun plan calls answer`: a start of a driver: either an allocation failed before it
--- (`Unbegun`), or its calls were made (`Started`).
+-- `Begun plan calls answer`: `calls` are all calls for a start by `plan` with the result `answer`.
+-- Either an allocation failed before them (`Unbegun`), or they start the child (`Started`).
 abbrev pub Begun : Spawning → List Call → StartAnswer → Type 0
 Begun plan calls answer = Unbegun plan.child.role plan.dir calls answer ⊎ Started plan calls answer

@@ -32,12 +32,13 @@ IsTap TooLong bytes found = found ≡ tap.Invalid tap_fault.TooLong
 IsTap Complete bytes found = (found ≡ tap.Invalid tap_fault.Unreadable) ⊎ (found ≡ tap_of bytes)
 IsTap end bytes found = found ≡ tap.Invalid tap_fault.Unreadable
 
--- `ReadsClaim path calls found`: `calls` read the result file at `path`, and `found` is its claim.
+-- `ReadsClaim path calls found`: `calls` read the result file at `path`, at most 65,536 bytes in
+-- parts of 4,096, and `found` is its claim.
 abbrev pub ReadsClaim : List ℕ → List Call → Claim → Type 0
 ReadsClaim path calls found = (end : ReadEnd) × (bytes : List ℕ) × Reads path 4096 65536 [] calls end bytes × IsClaim end bytes found
 
--- `ReadsTap path calls found`: `calls` read the output at `path`, and `found` is its meaning as a
--- TAP stream.
+-- `ReadsTap path calls found`: `calls` read the output at `path`, at most 16,777,216 bytes in parts
+-- of 65,536, and `found` is its meaning as a TAP stream.
 abbrev pub ReadsTap : List ℕ → List Call → Tap → Type 0
 ReadsTap path calls found = (end : ReadEnd) × (bytes : List ℕ) × Reads path 65536 16777216 [] calls end bytes × IsTap end bytes found
 

@@ -10,43 +10,44 @@ use Rattle.kt_child.specs.Host.HostStands.{Stand, Proceeds, AllProceed, AllStay,
 use Rattle.kt_child.specs.Ending.Reads.{IsReadWithin}
 use Rattle.kt_child.specs.System.Calls.{Call, SetLimit, OpenOutput, Spawn, Poll, Kill, Pause, ReadFile, ReadPart}
 
--- `IsFilled limit answer`: a read after which more bytes follow returns exactly `limit` bytes.
+-- `IsFilled limit answer`: if `answer` is a read after which more bytes follow, it has exactly
+-- `limit` bytes.
 abbrev pub IsFilled : ℕ → Result FileRead OsFault → Type 0
 IsFilled limit (Ok (Part bytes true)) = length bytes ≡ limit
 IsFilled limit answer = Unit {0}
 
--- `IsSaidMissing answer`: a file is `Missing` only if an error of the system has the kind
--- `NotFound`.
+-- `IsSaidMissing answer`: if `answer` is `Missing`, an error of the system has the kind `NotFound`.
 abbrev pub IsSaidMissing : Result FileRead OsFault → Type 0
 IsSaidMissing (Ok Missing) = (error : Error) × (error_kind error ≡ NotFound)
 IsSaidMissing answer = Unit {0}
 
--- `IsHostRead limit answer`: a read returns at most `limit` bytes, and exactly `limit` if more
--- follow.
+-- `IsHostRead limit answer`: a read with the result `answer` returns at most `limit` bytes, and
+-- exactly `limit` if more follow. A file is `Missing` only by an error of the kind `NotFound`.
 abbrev pub IsHostRead : ℕ → Result FileRead OsFault → Type 0
 IsHostRead limit answer = IsReadWithin limit answer × IsFilled limit answer × IsSaidMissing answer
 
--- `IsFront limit xs result`: a read of a file with the remaining bytes `xs` returns their first
--- `limit`, and whether more follow.
+-- `IsFront limit xs result`: `result` of a read has the first `limit` of the file's remaining bytes
+-- `xs`, and whether more follow. It is not `Missing`. The read may fail.
 abbrev pub IsFront : ℕ → List ℕ → Result FileRead OsFault → Type 0
 IsFront limit xs (Err _) = Unit {0}
 IsFront limit xs (Ok Missing) = ⊥
 IsFront limit xs (Ok (Part bytes true)) = (bytes ≡ take limit xs) × (limit < length xs)
 IsFront limit xs (Ok (Part bytes false)) = (bytes ≡ xs) × (length xs ≤ limit)
 
--- `TakesAtMost limit left rest`: at most `limit` bytes of a file were consumed, if its remaining
--- bytes are known.
+-- `TakesAtMost limit left rest`: the remaining bytes of a file, if they are known, go from `left`
+-- to `rest`, at most `limit` bytes fewer.
 abbrev pub TakesAtMost : ℕ → Option (List ℕ) → Option (List ℕ) → Type 0
 TakesAtMost limit left rest = IfSome left (λ xs. IsSomeAnd rest (λ ys. length xs ≤ length ys + limit))
 
--- `IsOpened answer`: the result of a read of an opened file, which is never `Missing`.
+-- `IsOpened answer`: `answer` of a read is not `Missing`, since the file was opened.
 abbrev pub IsOpened : Result FileRead OsFault → Type 0
 IsOpened (Ok Missing) = ⊥
 IsOpened answer = Unit {0}
 
--- `IsPolledOf bits result`: the meaning of the wait status `bits` (wait(2)). If its low 7 bits are
--- 0, the child exited, and bits 8 to 15 are the exit status. Otherwise the low 7 bits are the
--- signal that ended the child, or 127 if the child has not ended. Bit 7 reports a core dump.
+-- `IsPolledOf bits result`: `result` is the meaning of the wait status `bits` (wait(2)). If its low
+-- 7 bits are 0, the child exited, and bits 8 to 15 are the exit status. Otherwise the low 7 bits
+-- are the signal that ended the child, or 127 if the child has not ended. Bit 7 reports a core
+-- dump.
 abbrev pub IsPolledOf : ℕ → Result Polled OsFault → Type 0
 IsPolledOf bits (Ok Running) = ⊥
 IsPolledOf bits (Ok (Exited code)) = (bits % 128 ≡ 0) × (code ≡ bits / 256 % 256)
@@ -54,16 +55,18 @@ IsPolledOf bits (Ok (Signaled signal core)) =
     (signal ≡ bits % 128) × (bits % 128 ≢ 0) × (bits % 128 ≢ 127) × (core ≡ (bits / 128 % 2 == 1))
 IsPolledOf bits (Err _) = bits % 128 ≡ 127
 
--- `TellsEnd child old answer new IsLast`: the end of `child` follows from the wait status of its
--- process. If a pause found the end, it is that status. The child is then the last whose end was
--- reported, and no longer among the children.
+-- `TellsEnd child old answer new IsLast`: a poll returns the end of `child` as `answer`, by the
+-- wait status of its process. If an earlier check found the end, it is that status.
+-- `IsLast child status` is then true. The states of the children go from `old` to `new`, in which
+-- `child` has no process.
 abbrev pub TellsEnd : Child → (Child → Stand) → Result Polled OsFault → (Child → Stand) → (Child → ExitStatus → Type 0) → Type 0
 TellsEnd child old answer new IsLast =
     (status : ExitStatus) × IsSome (old child) × Proceeds (old child) (Some (Some status)) × IsPolledOf (status_bits status) answer
     × IsLast child status × (new child ≡ None) × OthersStay child old new
 
--- `HostPolls child old answer new IsLast late`: the result of a poll. A child is reported as
--- running only if it has a process. No end of it was found, unless some child was late. A failed
+-- `HostPolls child old answer new IsLast late`: a poll of `child` may return `answer`, and the
+-- states of the children go from `old` to `new`. A child is reported as running only if it has a
+-- process. Unless some child was polled late (`late`), no end of that process was found. A failed
 -- poll may remove the child.
 abbrev pub HostPolls : Child → (Child → Stand) → Result Polled OsFault → (Child → Stand) → (Child → ExitStatus → Type 0) → Option Bool → Type 0
 HostPolls child old (Ok Running) new IsLast late = IsSome (old child) × (late ≢ Some true → old child ≡ Some None) × AllStay old new
@@ -71,10 +74,10 @@ HostPolls child old (Err fault) new IsLast late = (Proceeds (old child) (new chi
 HostPolls child old answer new IsLast late = TellsEnd child old answer new IsLast
 
 -- `HostLeads old call new IsLast late`: `call` may take the children from the states `old` to
--- `new`. `IsLast` is the last end that was reported, and `late` is whether some child was late. A
--- child whose output is opened has no process, and a failed start leaves no process. Only a child
--- with a process is killed, and a pause may find ends. Times are not specified, nor is the success
--- of other calls.
+-- `new`. `IsLast` is true of the child and status of the last reported end. `late` is the result of
+-- the last check whether some child is polled late. A child whose output is opened has no process,
+-- and a failed start leaves no process. Only a child with a process is killed, and a pause may find
+-- ends. Times are not specified, nor is the success of other calls.
 abbrev pub HostLeads : (Child → Stand) → Call → (Child → Stand) → (Child → ExitStatus → Type 0) → Option Bool → Type 0
 HostLeads old (OpenOutput child path answer) new IsLast late = (new child ≡ None) × OthersStay child old new
 HostLeads old (Spawn child program words env dir (Ok done)) new IsLast late = IsSome (new child) × OthersStay child old new

@@ -12,8 +12,8 @@ use Rattle.kt_sched.specs.Children.{same_role}
 abbrev pub same_child : Child → Child → Bool
 same_child a b = (a.attempt == b.attempt) && same_role a.role b.role
 
--- The state of a child: no process was started, a process without a known end, or the status of its
--- end.
+-- The state of a child: `None` without a process, `Some None` for a process without a known end,
+-- and `Some (Some status)` after an end with `status`.
 abbrev pub Stand : Type 0
 Stand = Option (Option ExitStatus)
 
@@ -27,19 +27,19 @@ module _ {P I O E : Type 0} where
   abbrev pub stand_in : List (Child × HostChild P I O E) → Child → Stand
   stand_in held c = option_and_then stand_of (lookup (same_child c) held)
 
-  -- `IsLastEnd last child status`: `last` is the child that was reported last, with this name, and
-  -- its process has this status.
+  -- `IsLastEnd last child status`: `last`, the child whose end was reported last, has the name
+  -- `child`, and its process ended with `status`.
   abbrev pub IsLastEnd : Option (Child × HostChild P I O E) → Child → ExitStatus → Type 0
   IsLastEnd last child status = IsSomeAnd last (λ h. (h.0 ≡ child) × (stand_of h.1 ≡ Some (Some status)))
 
--- `Proceeds old new`: a child's state stays or moves forward: no process, running, ended. A process
--- is not started.
+-- `Proceeds old new`: a child's state goes from `old` to `new`: it stays, or a process without a
+-- known end gets one. No process is started.
 abbrev pub Proceeds : Stand → Stand → Type 0
 Proceeds None new = new ≡ None
 Proceeds (Some None) new = IsSome new
 Proceeds (Some (Some status)) new = new ≡ Some (Some status)
 
--- `AllProceed old new`: the state of each child stays or moves forward.
+-- `AllProceed old new`: the state of each child stays, or a process without a known end gets one.
 abbrev pub AllProceed : (Child → Stand) → (Child → Stand) → Type 0
 AllProceed old new = (c : Child) → Proceeds (old c) (new c)
 

@@ -7,12 +7,14 @@ use Rattle.std.specs.declared.time.Instant.{Instant}
 use Rattle.kt_child.specs.Types.{Child}
 use Rattle.kt_child.specs.declared.host.host_child.HostChild.{HostChild}
 
--- `IsLate limit answers millis`: a child is polled late at `millis` milliseconds: more than two of
--- its responses are missing, at 100 for each second. A child after its timeout is not late.
+-- `IsLate limit answers millis`: a child with `answers` `Running` responses is polled late,
+-- `millis` milliseconds after its start. It has missed more than two polls, at 100 polls a second.
+-- After the last poll of its timeout, `limit` seconds, a child is not late.
 abbrev pub IsLate : ℕ → ℕ → ℕ → Type 0
 IsLate limit answers millis = (answers < 100 * limit) × (10 * (answers + 2) < millis)
 
--- `IsLateAt now h`: the child `h` is polled late at `now`. It has a process without a known end.
+-- `IsLateAt now h`: the child `h` is polled late at `now` (`IsLate`). It has a process without a
+-- known end.
 abbrev pub IsLateAt : {P I O E : Type 0} → Instant → HostChild P I O E → Type 0
 IsLateAt now h =
     (h.seen ≡ false) × IsSome h.process
@@ -23,13 +25,13 @@ module _ {P I O E : Type 0} (held : List (Child × HostChild P I O E)) where
   abbrev pub IsAnyLate : Instant → Type 0
   IsAnyLate now = (place : ℕ) × IsSomeAnd (slice_get (values_of held) place) (IsLateAt now)
 
-  -- `Sees time late`: `late` is the result of a check for late children at `time`. No child is late
-  -- if the clock fails.
+  -- `Sees time late`: `late` is the result of a check for late children at `time`: whether there is
+  -- one. It is `false` if the clock fails.
   abbrev pub Sees : Result Instant Error → Bool → Type 0
   Sees (Ok now) late = IsTrue late ↔ IsAnyLate now
   Sees (Err error) late = late ≡ false
 
-  -- `Looks old new`: the result `old` of the last check is kept, cleared, or replaced by a new
-  -- check.
+  -- `Looks old new`: the stored result `old` of the last check for late children becomes `new`: it
+  -- is kept, cleared, or replaced by that of a new check.
   abbrev pub Looks : Option Bool → Option Bool → Type 0
   Looks old new = (new ≡ old) ⊎ (new ≡ None) ⊎ ((late : Bool) × (new ≡ Some late) × (time : Result Instant Error) × Sees time late)

@@ -3,8 +3,9 @@ use Rattle.std.specs.Prelude.{map, ℕ, ◌==◌, Bool, true, false, ◌≡◌, 
 use Rattle.kt_child.specs.Types.{CaseAttempt, Refused as RefusedFor, StartAnswer, Started as StartedAt, Watch, Watched}
 use Rattle.kt_child.specs.Driving.ChildrenState.{ChildrenState, cases_of}
 
--- `IsShort killed limit before after`: the poll counts of a running child: fewer than 100 polls for
--- each second of `limit` before a kill, and fewer than 500 after it.
+-- `IsShort killed limit before after`: a child with these poll counts is still running. If it was
+-- killed, `after` is less than 500. Otherwise `before` is less than 100 for each second of `limit`,
+-- and `after` is 0.
 abbrev pub IsShort : Bool → ℕ → ℕ → ℕ → Type 0
 IsShort true limit before after = after < 500
 IsShort false limit before after = (before < 100 * limit) × (after ≡ 0)
@@ -14,7 +15,8 @@ IsShort false limit before after = (before < 100 * limit) × (after ≡ 0)
 abbrev pub IsWatched : ℕ → Watch → Type 0
 IsWatched limit w = IsShort w.killed limit w.before w.after
 
--- `IsOnBy limit w`: `IsWatched limit w`, with a timeout of at most 1,000,000 seconds.
+-- `IsOnBy limit w`: `w` has the poll counts of a running child with the timeout `limit`, at most
+-- 1,000,000 seconds.
 abbrev pub IsOnBy : ℕ → Watch → Type 0
 IsOnBy limit w = IsWatched limit w × (limit ≤ 1000000)
 
@@ -23,6 +25,7 @@ abbrev pub IsOn : Watched → Type 0
 IsOn k = IsOnBy k.limit k.watch
 
 -- `TakesBytes has_taken old new bytes`: `new` is the reader `old` after `bytes` were fed to it.
+-- `has_taken reader bytes`: all bytes fed to `reader` are `bytes`.
 abbrev pub TakesBytes : {R : Type 0} → (R → List ℕ → Type 0) → R → R → List ℕ → Type 0
 TakesBytes has_taken old new bytes = (taken : List ℕ) → has_taken old taken → has_taken new (taken ++ bytes)
 
@@ -45,18 +48,19 @@ count_at i cases = times i (map (λ c. c.position) cases)
 abbrev pub count_in : ℕ → ChildrenState → ℕ
 count_in i b = count_at i (cases_of b.children) + count_at i b.pending
 
--- `IsChildrenState children pending`: each child is running, and no two cases have the same
--- position.
+-- `IsChildrenState children pending`: each of `children` is running, and no two cases of `children`
+-- and `pending` have the same position.
 pub record IsChildrenState (children : List Watched) (pending : List CaseAttempt) : Type 0 where
   pub on : All IsOn children
   pub once : (i : ℕ) → count_at i (cases_of children) + count_at i pending ≤ 1
 
--- `with_pending b pending`: `b` with the pending cases `pending`.
+-- `with_pending b pending`: the children of `b`, with `pending` as the cases with a pending
+-- cleanup.
 abbrev pub with_pending : ChildrenState → List CaseAttempt → ChildrenState
 with_pending b pending = record { children = b.children; pending = pending }
 
--- `state_after_start b child result`: `b` after a start with this result. A started child is the
--- last of the running children.
+-- `state_after_start b child result`: the running children and pending cleanups `b` after a start
+-- of `child` with `result`. A started child is appended.
 abbrev pub state_after_start : ChildrenState → Watched → StartAnswer → ChildrenState
 state_after_start b child (StartedAt moment) = record { children = b.children ++ child ∷ []; pending = b.pending }
 state_after_start b child (RefusedFor cause) = b

@@ -10,14 +10,15 @@ use Rattle.std.specs.declared.process.command.Command.{Command}
 use Rattle.kt_base.specs.Utf8.{utf8}
 use Rattle.kt_child.specs.Host.HostStands.{Stand}
 
--- `IsUnopened kind result`: a file that can't be opened, with this kind of error, is `Missing`
--- exactly if the kind is `NotFound`.
+-- `IsUnopened kind result`: `result` of a read of a file that could not be opened is `Missing` if
+-- the error has the kind `NotFound`. For another `kind` it is an error.
 abbrev pub IsUnopened : ErrorKind → Result FileRead OsFault → Type 0
 IsUnopened kind (Err _) = kind ≢ NotFound
 IsUnopened kind (Ok Missing) = kind ≡ NotFound
 IsUnopened kind (Ok (Part bytes follows)) = ⊥
 
--- `IsFaultOf kind fault`: `fault` is `Memory` exactly if the kind of the error is `OutOfMemory`.
+-- `IsFaultOf kind fault`: `fault` for an I/O error of this `kind` is `Memory` if the kind is
+-- `OutOfMemory`, and otherwise `Failed`.
 abbrev pub IsFaultOf : ErrorKind → OsFault → Type 0
 IsFaultOf kind Failed = kind ≢ OutOfMemory
 IsFaultOf kind (Memory refusal) = kind ≡ OutOfMemory
@@ -43,8 +44,8 @@ pub record IsCommandOf {A : Type 0} (path : List ℕ) (words : List (List ℕ)) 
   pub variables : (name : List ℕ) → command_var command name ≡ after_set env.set name (after_removed env.removed name None)
   pub dir : command_dir command ≡ Some (utf8 work)
 
--- `IsAt from old new`: the position of a file, if `old` has one, becomes `new` by a seek to the
--- byte `from`. There is no seek to byte 0.
+-- `IsAt from old new`: a seek to the byte `from` takes the position of a file, if `old` is known,
+-- to `new`. If `from` is 0, there is no seek, and `new` is not specified.
 abbrev pub IsAt : ℕ → Option ℕ → Option ℕ → Type 0
 IsAt from old new = 0 < from → IfSome old (λ position. new ≡ Some from)
 
@@ -60,21 +61,21 @@ abbrev pub IsFree : ℕ → ℕ → Type 0
 IsFree limit answers = answers + 1 ≤ 50 * limit
 
 -- `whole_slice children since`: the interval at which `children` children are checked for an end,
--- in microseconds, `since` microseconds after the last end. It is 50 and a sixteenth of `since`, at
--- most 350. It is at least 14 for each child after the eighth, and at least a 384th of `since` for
--- each child and four more. At most 512 children count.
+-- in microseconds, `since` microseconds after the last end. With n children, counted up to 512, it
+-- is the greatest of `min (50 + since / 16) 350`, `14 * (n - 8)` and `since * (n + 4) / 384`.
 abbrev pub whole_slice : ℕ → ℕ → ℕ
 whole_slice children since =
     max (max (min (50 + since / 16) 350) (14 * (min children 512 - 8))) (since * (min children 512 + 4) / 384)
 
--- `next_slice children pauses micros`: the length of the next slice of a pause, in microseconds. It
--- is the interval of at most eight children. It is at least 3 for each child after the eighth, and
--- at most the rest of the pause of 10,000.
+-- `next_slice children pauses micros`: the length of the next slice of a pause, in microseconds.
+-- `micros` of the pause have passed, and `pauses` pauses before it. The length is `whole_slice` for
+-- at most eight children. It is at least 3 for each child after the eighth, and at most the rest of
+-- the pause of 10,000.
 abbrev pub next_slice : ℕ → ℕ → ℕ → ℕ
 next_slice children pauses micros =
     min (max (whole_slice (min children 8) (10000 * pauses + micros)) (3 * (min children 512 - 8))) (10000 - micros)
 
--- `RunsIn late stand`: a child that is reported as running has a process. No end of it was found,
--- unless some child was late.
+-- `RunsIn late stand`: a child in the state `stand` may be reported as running: it has a process.
+-- Unless some child is polled late (`late`), no end of that process was found.
 abbrev pub RunsIn : Bool → Stand → Type 0
 RunsIn late stand = IsSome stand × (late ≡ false → stand ≡ Some None)

@@ -8,8 +8,9 @@ use Rattle.kt_child.specs.Driving.DriverSteps.{DriverStarts}
 use Rattle.kt_sched.specs.Children.{pending_after_start, running_after_start}
 use Rattle.kt_sched.specs.Trace.{HasMoment}
 
--- `IsStart leads old job role answer new`: a start of a driver with its timestamp, and the running
--- children and pending cleanups after it.
+-- `IsStart leads old job role answer new`: `new` is the driver `old` after a start of `job`'s child
+-- in `role` with the result `answer`. `moment` is about the timestamp, and `running` and `pending`
+-- are about the children and pending cleanups of `new`.
 pub record IsStart {O : Type 0} (leads : O → Call → O → Type 0) (old : Driver O) (job : Job) (role : Role) (answer : StartAnswer) (new : Driver O) : Type 0 where
   pub starts : DriverStarts leads old job role answer new
   pub moment : HasMoment answer

@@ -4,7 +4,7 @@ use Rattle.std.specs.Fmt.{decimal}
 use Rattle.kt_child.specs.Types.{Atf, CaseAttempt, Child, EnvPlan, Interface, Paths, Variable, Want}
 use Rattle.kt_child.specs.declared.planning.Want.TheVariants.{List as Listing, Body, Cleanup}
 
--- `child_of c`: the name of the current child of the case `c`.
+-- `child_of c`: the name (attempt and role) of the current child of the case `c`.
 abbrev pub child_of : CaseAttempt → Child
 child_of c = record { attempt = c.attempt; role = c.role }
 
@@ -48,13 +48,15 @@ words_of interface want result source variables case_name = []
 abbrev pub variable : List ℕ → List ℕ → Variable
 variable name value = record { name = name; value = value }
 
--- `removed_names`: the variables of the runner's environment that no child gets.
+-- `removed_names`: the names of the locale variables, which are removed from each child's
+-- environment.
 abbrev pub removed_names : List (List ℕ)
 removed_names =
     codes "LANG" ∷ codes "LC_ALL" ∷ codes "LC_COLLATE" ∷ codes "LC_CTYPE" ∷ codes "LC_MESSAGES" ∷ codes "LC_MONETARY"
     ∷ codes "LC_NUMERIC" ∷ codes "LC_TIME" ∷ []
 
--- `test_variable v`: the suite's variable `v` as a TAP or plain program gets it.
+-- `test_variable v`: the suite's variable `v` as a TAP or plain program gets it: its name has the
+-- prefix `TEST_ENV_`.
 abbrev pub test_variable : Variable → Variable
 test_variable v = variable (codes "TEST_ENV_" ++ v.name) v.value
 
@@ -62,7 +64,7 @@ test_variable v = variable (codes "TEST_ENV_" ++ v.name) v.value
 abbrev pub common_variables : List ℕ → List Variable
 common_variables work = variable (codes "TZ") (codes "UTC") ∷ variable (codes "HOME") work ∷ variable (codes "TMPDIR") work ∷ []
 
--- `own_variables interface variables`: the other variables that a child of `interface` gets.
+-- `own_variables interface variables`: the variables that depend on the child's `interface`.
 -- `variables` are those of its suite.
 abbrev pub own_variables : Interface → List Variable → List Variable
 own_variables Atf variables = variable (codes "__RUNNING_INSIDE_ATF_RUN") (codes "internal-yes-value") ∷ []

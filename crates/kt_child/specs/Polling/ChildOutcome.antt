@@ -19,7 +19,8 @@ outcome_of (PolledExit code) = Some (Exited code)
 outcome_of (PolledSignal signal core) = Some (Signaled signal core)
 
 -- `YieldsAfterKill left heard outcome`: the responses `heard` after a kill give `outcome`. An exit
--- status gives a timeout. A failed poll, or the `left`-th `running` response, gives a failed wait.
+-- or a signal gives a timeout. A failed poll, or the `left`-th `running` response, gives a failed
+-- wait.
 abbrev pub YieldsAfterKill : ℕ → List Heard → Outcome → Type 0
 YieldsAfterKill left heard outcome =
     ((k : ℕ) × (s : Polled) × (x : Outcome) × (k < left) × (outcome_of s ≡ Some x)

@@ -7,29 +7,34 @@ use Rattle.kt_child.specs.declared.polling.AfterPoll.TheVariants.{More, Ended}
 use Rattle.kt_child.specs.System.Calls.{Call, Poll, Kill}
 use Rattle.kt_child.specs.Polling.ChildOutcome.{Heard, HeardKill, HeardPoll}
 
--- `is_due limit w`: the next `Running` response is the last before the timeout.
+-- `is_due limit w`: for a child with the timeout `limit`, in seconds, and the poll counts `w`, the
+-- next `Running` response is the last before the timeout.
 abbrev pub is_due : ℕ → Watch → Bool
 is_due limit w = not w.killed && (w.before + 1 == 100 * limit)
 
--- `is_killed limit w result`: a poll with this result is followed by a kill.
+-- `is_killed limit w result`: a poll with this result is followed by a kill. `limit` is the timeout
+-- in seconds, and `w` has the poll counts before the poll.
 abbrev pub is_killed : ℕ → Watch → Result Polled OsFault → Bool
 is_killed limit w (Err _) = true
 is_killed limit w (Ok Running) = is_due limit w
 is_killed limit w (Ok status) = false
 
--- `asked_by_poll child limit w answer done`: the calls of a poll with this result. `done` is the
--- result of the kill, if there is one.
+-- `asked_by_poll child limit w answer done`: a poll of `child` with the result `answer`, and the
+-- kill that may follow it, with the result `done`. `limit` is the timeout in seconds, and `w` has
+-- the poll counts before the poll.
 abbrev pub asked_by_poll : Child → ℕ → Watch → Result Polled OsFault → Bool → List Call
 asked_by_poll child limit w answer done =
     if is_killed limit w answer then Poll child answer ∷ Kill child done ∷ [] else Poll child answer ∷ []
 
--- `heard_of limit w answer done`: the responses of a child to a poll and to the kill that may
--- follow it.
+-- `heard_of limit w answer done`: the responses of a child: `answer` to a poll, and `done` to the
+-- kill that may follow it. `limit` is the timeout in seconds, and `w` has the poll counts before
+-- the poll.
 abbrev pub heard_of : ℕ → Watch → Result Polled OsFault → Bool → List Heard
 heard_of limit w answer done = if is_killed limit w answer then HeardPoll answer ∷ HeardKill done ∷ [] else HeardPoll answer ∷ []
 
 -- `after_poll limit w result done`: the child's state after a poll with this result. `done` is the
--- result of the kill, if there is one.
+-- result of the kill, if there is one. `limit` is the timeout in seconds, and `w` has the poll
+-- counts before the poll.
 abbrev pub after_poll : ℕ → Watch → Result Polled OsFault → Bool → AfterPoll
 after_poll limit w (Err _) done = Ended WaitFailed
 after_poll limit w (Ok (PolledExit code)) done = Ended (if w.killed then TimedOut else Exited code)
@@ -38,7 +43,8 @@ after_poll limit w (Ok Running) done =
     if w.killed then (if w.after + 1 == 500 then Ended WaitFailed else More)
     else (if w.before + 1 == 100 * limit then (if done then More else Ended WaitFailed) else More)
 
--- `watch_after limit w`: the poll counts `w` after one more poll after which the child still runs.
+-- `watch_after limit w`: the poll counts that follow `w` after one more `Running` response. After
+-- the last response before the timeout of `limit` seconds, the child counts as killed.
 abbrev pub watch_after : ℕ → Watch → Watch
 watch_after limit w =
     if w.killed then record { before = w.before; killed = true; after = w.after + 1 }

@@ -26,8 +26,8 @@ PolledAll (k ∷ children) calls =
     × (after_poll k.limit k.watch answer done ≡ More)
     × PolledAll children more
 
--- `PolledLast k calls outcome`: `calls` are one poll of the child `k`, with which it finishes.
--- `outcome` follows from all its responses.
+-- `PolledLast k calls outcome`: `calls` are one poll of the child `k`, and the kill that may follow
+-- it. The child then has finished with `outcome`, which follows from all its responses (`Yields`).
 abbrev pub PolledLast : Option Watched → List Call → Outcome → Type 0
 PolledLast None calls outcome = ⊥
 PolledLast (Some k) calls outcome =
@@ -43,9 +43,9 @@ PolledUntil children i calls outcome =
     (before : List Call) × (last : List Call) × (calls ≡ before ++ last)
     × PolledAll (take i children) before × PolledLast (slice_get children i) last outcome
 
--- `WaitedOn children calls place outcome after`: `calls` are turns without a finished child, each
--- with a pause, and a turn in which the child at index `place` finishes. `after` are the children
--- at its end.
+-- `WaitedOn children calls place outcome after`: `calls` are turns of polls without a finished
+-- child, each with a pause, and a last turn. In it, the child at index `place` finishes with
+-- `outcome`. `after` are the children after these polls.
 pub data WaitedOn : List Watched → List Call → ℕ → Outcome → List Watched → Type 0 where
   last_turn : (children : List Watched) (calls : List Call) (place : ℕ) (outcome : Outcome)
       → PolledUntil children place calls outcome → WaitedOn children calls place outcome (advanced_below place children)

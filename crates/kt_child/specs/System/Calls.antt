@@ -2,7 +2,7 @@
 use Rattle.std.specs.Prelude.{ℕ, List, Bool, Result}
 use Rattle.kt_child.specs.Types.{Child, EnvPlan, FileRead, OsFault, Polled}
 
--- A call to the system with its result. `done` is `true` if the call succeeded.
+-- A call to the system (`Os`) with its result. `done` is `true` if the call succeeded.
 pub data Call : Type 0 where
   SetLimit : (child : Child) (limit : ℕ) → Call
   MakeDir : (path : List ℕ) (answer : Result (Unit {0}) OsFault) → Call

@@ -58,7 +58,7 @@ pub struct Driver<O: Drop> {
     pub(crate) source: Text,
     /// The root directory, which contains the directories of all attempts.
     pub(crate) root: Text,
-    /// The number of the next attempt, which is a body or a list.
+    /// The number of the next attempt. An attempt is the start of a body or of a list.
     pub(crate) next: u64,
     /// The running children and the cases with a pending cleanup.
     pub(crate) running: RunningChildren,
@@ -96,13 +96,13 @@ impl<O: Os + Drop> Launcher for Driver<O> {
         }
     }
 
-    /// Waits until a child has finished, and returns its record.
+    /// Waits until a child has finished, and returns its outcome, evidence and outputs.
     ///
     /// The children are polled in turns, in the order of their start. A pause follows each turn
     /// without a finished child. A child has finished if it has ended, or if a poll or the kill at
     /// its timeout fails. A child that is still running 500 polls after the kill counts as
-    /// finished, too. Evidence for which a read or an allocation fails counts as unreadable, and
-    /// such an output is empty.
+    /// finished, too. If a read or an allocation fails, the evidence is unreadable or the output is
+    /// empty.
     fn wait(&mut self) -> Ended {
         self.running.wait(self.alloc, &mut self.os)
     }

@@ -14,8 +14,8 @@ use std::alloc::Global;
 /// The timeout of a program that lists its test cases, in seconds (this profile).
 const LIST_LIMIT: u64 = 300;
 
-/// Waits for the end of a program that lists its test cases, reads its output and removes its
-/// directory. Returns the outcome and the output.
+/// Waits for the end of a program that lists its test cases, reads its output and removes the
+/// directory of its attempt. Returns the outcome and the output.
 fn watch_list<O: Os>(os: &mut O, plan: &Spawning, case: CaseAttempt) -> (Outcome, ListBytes)
     requires { IsOn (spawned plan.now.limit case) }
     ensures { (calls : List Call) × Chain O.leads os.old calls os.new
@@ -86,8 +86,8 @@ impl<O: Os + Drop> Driver<O> {
     /// (atf-test-program(1)).
     ///
     /// The program runs in a new directory, with a timeout of 300 seconds (this profile). The
-    /// directory is then removed; a failed removal is ignored. A list is `Unreadable` if a read of
-    /// it fails.
+    /// directory is then removed; a failed removal is ignored. The list is `Unreadable` if its file
+    /// is missing or a read fails, and `TooLong` if it has more than 1,048,576 bytes.
     ///
     /// # Errors
     ///

@@ -42,8 +42,8 @@ pub fn theorem_of_numbers<O: Os + Drop>()
     ensures { AttemptsDiffer O.leads }
 {}
 
-/// Theorem: no two running children have the same name, provided that none was running and no
-/// cleanup was pending at the start.
+/// Theorem: no two running children have the same name, if the driver began without children and
+/// without pending cleanups.
 pub fn theorem_of_names()
     ensures { NumbersDiffer }
 {}
@@ -51,8 +51,8 @@ pub fn theorem_of_names()
 /// Theorem: the calls of a driver to the system are the calls of its starts and waits, in order.
 ///
 /// Each poll and kill concerns one child. The outcome of a child follows from all results of its
-/// polls and its kill, by the table of outcomes. The start, the reads and the removal of a child
-/// concern its own directory.
+/// polls and its kill (`Yields`). The start, the reads and the removal of a child concern its own
+/// directory.
 pub fn theorem_of_traces<O: Os + Drop>()
     ensures { EndsFollow O.leads }
 {}

@@ -60,8 +60,8 @@ fn make_room(children: &mut Vec<Watched>, pending: &mut Vec<CaseAttempt>) -> Res
     Ok(())
 }
 
-/// Returns the index of the case at a position of the plan. The caller guarantees that there is
-/// such a case.
+/// Returns the index in `cases` of the case with this position in the plan. The caller guarantees
+/// that there is such a case.
 fn place_of(cases: &[CaseAttempt], position: u32) -> usize
     requires { is_among cases.now position ≡ true }
     ensures within { result < length cases.now }
@@ -74,7 +74,7 @@ fn place_of(cases: &[CaseAttempt], position: u32) -> usize
     place
 }
 
-/// Removes the child at an index. Keeps its case as pending if its cleanup must still run.
+/// Removes the child at the index `place`. Appends its case to `pending` if a cleanup follows.
 fn forget(children: &mut Vec<Watched>, pending: &mut Vec<CaseAttempt>, place: usize)
     requires child { place < vec_len children.old }
     requires room { vec_len children.old + vec_len pending.old ≤ vec_capacity pending.old }
@@ -117,7 +117,8 @@ impl RunningChildren {
         }
     }
 
-    /// Removes the case at a position from those with a pending cleanup, and returns it.
+    /// Removes the case with this position in the plan from the pending cleanups, and returns the
+    /// case.
     pub(crate) fn take_owed(&mut self, position: u32) -> CaseAttempt
         requires { is_among self.old.pending position ≡ true }
         ensures taken { (place : ℕ) × (slice_get self.old.pending place ≡ Some result)
@@ -160,8 +161,8 @@ impl RunningChildren {
         }
     }
 
-    /// Waits for the first child that has finished, removes it from the running children and
-    /// returns its record.
+    /// Polls the running children until one has finished, and removes that child. Returns its
+    /// outcome, evidence and outputs.
     pub(crate) fn wait<O: Os>(&mut self, alloc: Global, os: &mut O) -> Ended
         requires { 0 < length self.old.children }
         ensures waited { (calls : List Call) × Chain O.leads os.old calls os.new

@@ -29,7 +29,8 @@ pub(crate) fn read_kept<O: Os>(alloc: Global, os: &mut O, path: &Text) -> Bytes
     }
 }
 
-/// Reads the list of test cases that a program wrote to its standard output.
+/// Reads the list of test cases that a program wrote to the file `path`. Returns `TooLong` if the
+/// file has more than 1,048,576 bytes, and `Unreadable` if it is missing or a read fails.
 pub(crate) fn read_list<O: Os>(os: &mut O, path: &Text) -> ListBytes
     ensures asked { (answer : Result FileRead OsFault) × O.leads os.old (ReadFile path.now 1048576 answer) os.new
         × (result ≡ list_of answer) }
@@ -53,7 +54,7 @@ pub(crate) fn output_paths(role: Role, paths: &Paths) -> (&Text, &Text)
     }
 }
 
-/// Returns `true` if the case is finished when its current child ends, so no cleanup follows.
+/// Returns `true` if no cleanup follows the end of the case's current child.
 pub(crate) fn is_over(case: &CaseAttempt) -> bool
     ensures { result ≡ is_over case.now }
 {
@@ -70,8 +71,8 @@ pub(crate) fn remove_if<O: Os>(os: &mut O, removed: bool, dir: &Text)
     }
 }
 
-/// Creates the record of a finished child: reads the clock, the evidence and the outputs. Removes
-/// the directory of the attempt if no cleanup follows.
+/// Reads the clock, the evidence and the outputs of a finished child, and returns them with its
+/// outcome. Removes the directory of the attempt if no cleanup follows.
 pub(crate) fn finish_child<O: Os>(
     alloc: Global,
     os: &mut O,

@@ -8,20 +8,20 @@ use kt_base::{Interface, Role, Text};
 use kt_claim::{Claim, ClaimFault, ClaimReader, Evidence, Tap, TapFault, TapReader};
 use std::alloc::Global;
 
-/// The size of a read of a result file, in bytes (this profile).
+/// The greatest size of one read of a result file, in bytes (this profile).
 const RESULT_PART: u64 = 4096;
 
 /// The greatest size of a result file, in bytes (this profile). It equals `LIMIT` of kt_claim.
 const RESULT_LIMIT: u64 = 65_536;
 
-/// The size of a read of a TAP stream, in bytes (this profile).
+/// The greatest size of one read of a TAP stream, in bytes (this profile).
 const STREAM_PART: u64 = 65_536;
 
 /// The greatest size of a TAP stream, in bytes (this profile).
 const STREAM_LIMIT: u64 = 16_777_216;
 
 /// Reads the result file of an ATF body and returns its claim. Returns `Unreadable` if a read or an
-/// allocation fails.
+/// allocation fails, and a malformed claim if the file has more than 65,536 bytes.
 fn read_claim<O: Os>(alloc: Global, os: &mut O, path: &Text) -> Claim
     ensures { (calls : List Call) × Chain O.leads os.old calls os.new
         × ReadsClaim path.now calls result }
@@ -38,8 +38,9 @@ fn read_claim<O: Os>(alloc: Global, os: &mut O, path: &Text) -> Claim
     }
 }
 
-/// Parses the output of a TAP body. Returns `TapFault::Unreadable` if the output is missing, or if
-/// a read or an allocation fails.
+/// Reads and parses the output of a TAP body. The result is `TapFault::Unreadable` if the output is
+/// missing, or if a read or an allocation fails. It is `TapFault::TooLong` for more than 16,777,216
+/// bytes.
 fn read_tap<O: Os>(alloc: Global, os: &mut O, path: &Text) -> Tap
     ensures { (calls : List Call) × Chain O.leads os.old calls os.new
         × ReadsTap path.now calls result }

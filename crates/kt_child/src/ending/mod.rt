@@ -9,7 +9,8 @@ pub(crate) mod parts;
 pub(crate) enum ReadEnd {
     /// The file is missing.
     Missing,
-    /// A read failed, or an allocation for a part failed.
+    /// A read or an allocation failed. The file was missing after its first part, or a read
+    /// returned no bytes before its end.
     Unreadable,
     /// The file has more bytes than the limit.
     TooLong,

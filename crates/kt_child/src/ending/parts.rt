@@ -11,7 +11,7 @@ pub(crate) trait PartReader {
     ghost use Rattle.std.specs.Prelude.{ℕ, List, OnOk};
     ghost use Rattle.kt_child.specs.Inner.Children.{TakesBytes};
 
-    /// `has_taken reader bytes`: the parts that `reader` was given are, joined, exactly `bytes`.
+    /// `has_taken reader bytes`: the parts that were fed to `reader` are, joined, exactly `bytes`.
     ghost has_taken: { Self → List ℕ → Type 0 };
 
     /// Feeds the next part of the file to the reader.
@@ -43,8 +43,8 @@ impl PartReader for TapReader {
     }
 }
 
-/// Reads the next part of a file, feeds it to the reader and adds its length to `got`. Returns how
-/// the read of the file ends, or `None` if more parts follow.
+/// Reads the next part of a file, at most `part` bytes, feeds it to the reader and adds its length
+/// to `got`. Returns how the read of the file ends, or `None` if more parts follow.
 fn read_next<O: Os, R: PartReader>(
     os: &mut O,
     path: &Text,

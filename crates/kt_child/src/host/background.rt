@@ -1,5 +1,5 @@
-/// An interface to work that the program does while children run.
+/// An interface to the program's other work while children run, such as writing its output.
 pub trait Background {
-    /// Advances the work without waiting.
+    /// Advances the work by one part, without waiting.
     fn advance(&self);
 }

@@ -35,7 +35,7 @@ pub(crate) fn take_out<P: OpenProcess + Drop>(
     Some((child, held))
 }
 
-/// Returns `true` if the next output file of a child is that for its standard error.
+/// Returns `true` if the next output file that is opened for a child is for its standard error.
 pub(crate) fn wants_errors<P: OpenProcess + Drop>(children: &Children<P>, child: Child) -> bool
     ensures { IsTrue result → stand_in children.now.entries child ≡ None }
 {
@@ -45,8 +45,8 @@ pub(crate) fn wants_errors<P: OpenProcess + Drop>(children: &Children<P>, child:
     }
 }
 
-/// Stores an opened output file of a child: for standard error if only standard output is open, and
-/// otherwise for the standard output of a new child.
+/// Stores an opened output file of a child. The file is for standard error if only standard output
+/// is open. Otherwise, it is for the standard output of a new child.
 pub(crate) fn keep_output<P: OpenProcess + Drop, C: Clock>(
     children: &mut Children<P>,
     child: Child,
@@ -83,7 +83,8 @@ pub(crate) fn launch<P: OpenProcess + Drop, R: Processes<Started = P> + Clock + 
     }
 }
 
-/// Returns `true` if a child of the map is polled late. Returns `false` if the clock fails.
+/// Returns `true` if some child of the map has missed more than two polls, at 100 polls a second.
+/// Returns `false` if the clock fails.
 pub(crate) fn is_any_late<P: OpenProcess + Drop, C: Clock>(children: &Children<P>, rt: &C) -> bool
     ensures { (time : Result Time Error) × Sees children.now.entries time result }
 {
@@ -113,8 +114,8 @@ pub(crate) fn kill<P: OpenProcess + Drop, C: Clock>(
     }
 }
 
-/// Returns `true` if it finds a child that has ended and whose end is not known yet. The search
-/// starts at the index `from`.
+/// Returns `true` if a child at the index `from` or later has ended and no earlier check found its
+/// end. The search stops at the first such child.
 fn has_new_end<P: OpenProcess + Drop>(children: &mut Children<P>, from: usize) -> bool
     ensures { AllProceed (stand_in children.old.entries) (stand_in children.new.entries) }
 {
@@ -127,7 +128,8 @@ fn has_new_end<P: OpenProcess + Drop>(children: &mut Children<P>, from: usize) -
     false
 }
 
-/// Waits until a child has ended, for at most one pause, and returns `true` if it found an end.
+/// Waits at most one pause, nominally 10 milliseconds, until a child has ended. Returns `true` if
+/// an end was found.
 ///
 /// `pauses` is the number of pauses since the last end. A pause has slices, in which removals
 /// continue. The newest children are checked after each slice, and all children at longer

@@ -114,7 +114,8 @@ impl<P: OpenProcess + Drop> HostChild<P> {
 
     /// Returns the exit status of the child, or `None` if it is running.
     ///
-    /// Later calls return the same status. Fails if the child was not started.
+    /// Once the child has ended, later calls return the same status. Fails if the child was not
+    /// started.
     fn status(&mut self) -> Result<Option<ExitStatus>, OsFault>
         ensures proceeds { Proceeds (stand_of self.old) (stand_of self.new) }
         ensures stands { IfOk result (λ status. stand_of self.new ≡ Some status) }
@@ -131,8 +132,8 @@ impl<P: OpenProcess + Drop> HostChild<P> {
         answer
     }
 
-    /// Returns `true` if the child is polled late at `now`. A child that was not started or whose
-    /// end was found is never late.
+    /// Returns `true` if the child has missed more than two polls at `now`, at 100 polls a second.
+    /// A child that was not started or whose end was found has missed none.
     pub(crate) fn is_late_at(&self, now: Instant) -> bool
         ensures { IsTrue result ↔ IsLateAt now self.now }
     {
@@ -153,8 +154,8 @@ impl<P: OpenProcess + Drop> HostChild<P> {
 
     /// Returns the exit status of the child, or `None` if it is running.
     ///
-    /// `None` is counted as a response; the poll sleeps first while that response is too early. If
-    /// `late` is `true`, `None` may be returned without a check.
+    /// `None` is counted as a response; the poll sleeps first while that response is too early.
+    /// `late` is `true` if some child is polled late. `None` may then be returned without a check.
     pub(crate) fn poll<C: Clock>(
         &mut self,
         late: bool,
@@ -185,7 +186,8 @@ impl<P: OpenProcess + Drop> HostChild<P> {
         Ok(status)
     }
 
-    /// Kills the child. Its 500 polls after the kill have the pace of a timeout of 5 seconds.
+    /// Kills the child. Its 500 polls after the kill have the pace of a timeout of 5 seconds. Fails
+    /// if the child was not started or the system can't kill it.
     pub(crate) fn kill<C: Clock>(&mut self, clock: &C) -> Result<(), OsFault>
         ensures stands { stand_of self.new ≡ stand_of self.old }
         ensures had { OnOk result (IsSome (stand_of self.old)) }
@@ -201,8 +203,8 @@ impl<P: OpenProcess + Drop> HostChild<P> {
         Ok(())
     }
 
-    /// Returns `true` if the child has ended and its end is not known yet. The next poll returns
-    /// the same status.
+    /// Returns `true` if the child has ended and no earlier call found its end. The next poll
+    /// returns the exit status.
     pub(crate) fn has_new_end(&mut self) -> bool
         ensures proceeds { Proceeds (stand_of self.old) (stand_of self.new) }
         ensures unseen { IsTrue result → self.old.seen ≡ false }

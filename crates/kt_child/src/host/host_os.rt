@@ -48,7 +48,8 @@ pub struct HostOs<R: Processes, B> {
     last: Option<(Child, HostChild<R::Started>)>,
     /// The number of pauses since an end was last found.
     quiet: u32,
-    /// `true` if some child is polled late (`IsLate`), or `None` before the next check.
+    /// The result of the last check for a child that is polled late (`IsLate`), or `None` if the
+    /// check must be repeated.
     late: Option<bool>,
 }
 

@@ -31,7 +31,8 @@ fn lock_name(alloc: Global, file: &Metadata) -> Option<String> {
 /// Returns `true` if a process holds a lease on a file (fcntl(2), `F_SETLEASE`).
 ///
 /// Opening such a file would wait for that process. Returns `true`, too, if the list of locks can't
-/// be read or an allocation fails. Returns `false` if the list can't be opened.
+/// be read or an allocation fails. Returns `false` if the list can't be opened. Only the first
+/// 1,048,576 bytes of the list are searched.
 pub(crate) fn is_leased<R: Files>(rt: &R, alloc: Global, file: &Metadata) -> bool {
     let Ok(mut list) = File::open(rt, "/proc/locks") else {
         return false;

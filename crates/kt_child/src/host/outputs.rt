@@ -15,8 +15,8 @@ use std::{fs, io};
 /// The mode of a directory that only its owner may enter (this profile).
 const PRIVATE_MODE: u32 = 0o700;
 
-/// The mode of a directory of root that other users may pass through, since a case may change its
-/// user (this profile).
+/// The mode of a directory that the user root owns. Other users may pass through it, since a case
+/// may change its user (this profile).
 const PASSABLE_MODE: u32 = 0o711;
 
 /// The mode of a work directory if root runs the cases (this profile).
@@ -25,7 +25,8 @@ const WORK_MODE: u32 = 0o755;
 /// The mode of an output file (this profile).
 const OUTPUT_MODE: u32 = 0o600;
 
-/// A summary of the first directories: their owner and the effect of the umask.
+/// A pair of facts that decide the modes of new directories and files: whether root owns the root
+/// directory, and the effect of the umask.
 #[derive(Clone, Copy)]
 pub(crate) struct Rights {
     /// `true` if root owns the directories.
@@ -63,8 +64,8 @@ fn create_with<R: Files>(rt: &R, dir: &str, mode: u32, narrow: bool) -> io::Resu
     }
 }
 
-/// Creates the directory of an attempt or its work directory, with the mode that the owner of the
-/// root directory requires.
+/// Creates the directory of an attempt or its work directory. The mode is 0700, or, if root owns
+/// the root directory, 0711 for the attempt and 0755 for the work directory.
 pub(crate) fn create_directory<R: Files>(rt: &R, dir: &str, rights: Rights) -> io::Result<()> {
     let mode = if !rights.of_root {
         PRIVATE_MODE
@@ -81,7 +82,8 @@ fn has_rights(made: &Metadata, mode: u32) -> bool {
     made.permissions().mode() & mode == mode
 }
 
-/// Creates the root directory and returns its owner and the effect of the umask.
+/// Creates the root directory, with the mode 0711 if root owns it and otherwise 0700. Returns its
+/// owner and the effect of the umask.
 fn create_first<R: Files>(rt: &R, path: &str) -> io::Result<Rights> {
     create_with(rt, path, PRIVATE_MODE, false)?;
     let rights = match fs::symlink_metadata(rt, path) {
@@ -102,8 +104,9 @@ fn create_first<R: Files>(rt: &R, path: &str) -> io::Result<Rights> {
     Ok(rights)
 }
 
-/// Creates the private directory to which removals move other directories. Returns `rights`, with
-/// the effect of the umask on other users' permissions if root owns the directory.
+/// Creates the directory to which removals move other directories, with the mode 0700, and returns
+/// `rights`. If root owns the root directory, `narrow` is set anew: for permissions of other users,
+/// too.
 fn create_place<R: Files>(rt: &R, place: &str, rights: Rights) -> io::Result<Rights> {
     if !rights.of_root {
         create_with(rt, place, PRIVATE_MODE, rights.narrow)?;

@@ -56,11 +56,12 @@ pub(crate) fn is_due(children: usize, pauses: u32, micros: u64, unlooked: u64) -
     unlooked >= whole_slice(children, PAUSE * u64::from(pauses) + micros)
 }
 
-/// The interval between two `Running` responses in the second half of a timeout, in milliseconds.
+/// The interval between two `Running` responses in the second half of a timeout's responses, in
+/// milliseconds.
 const PERIOD: u128 = 20;
 
-/// A pace of a child: the time of its start, and its number of `Running` responses, which are the
-/// polls that reported it as running.
+/// A measure of how fast a child is polled: its start time, its timeout and its `Running`
+/// responses. These are the polls that reported it as running.
 #[derive(Clone, Copy)]
 pub(crate) struct Pace {
     /// The time of the start, or `None` if the clock failed. Without a start time, no response is
@@ -89,8 +90,8 @@ impl Pace {
         }
     }
 
-    /// Returns `true` if the child is polled late: at `now` it has missed more than two polls, of
-    /// which 100 are expected in a second. Returns `false` after the last poll of its timeout.
+    /// Returns `true` if the child has missed more than two polls at `now`, at 100 polls a second.
+    /// Returns `false` after the last poll of its timeout, and without a start time.
     pub(crate) fn is_late_at(&self, now: Instant) -> bool
         ensures { IsTrue result ↔ IsSomeAnd self.now.started (λ start.
             IsLate self.now.limit self.now.answers
@@ -112,7 +113,8 @@ impl Pace {
         u128::from(self.answers) + 1 <= u128::from(self.limit) * 50
     }
 
-    /// Returns `true` if a `Running` response at `now` would be too early for the timeout.
+    /// Returns `true` if a `Running` response at `now` would make the timeout expire early. Returns
+    /// `false` without a start time.
     fn is_early_at(&self, now: Instant) -> bool
         ensures { IsTrue result ↔ IsSomeAnd self.now.started (λ start.
             IsEarly self.now.limit self.now.answers
@@ -127,8 +129,8 @@ impl Pace {
         due > free && due - free > millis
     }
 
-    /// Returns `true` if a `Running` response now would be too early for the timeout. A response of
-    /// the first half is never early, so the clock is not read for it.
+    /// Returns `true` if a `Running` response now would make the timeout expire early. A response
+    /// of the first half is never early, so the clock is not read for it.
     pub(crate) fn is_early<C: Clock>(&self, clock: &C) -> bool
         ensures { IsTrue result → (now : Moment) × IsSomeAnd self.now.started (λ start.
             IsEarly self.now.limit self.now.answers

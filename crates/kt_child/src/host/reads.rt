@@ -13,10 +13,11 @@ use std::os::unix::fs::MetadataExt;
 use std::rt::Files;
 use std::{fs, io};
 
-/// The size of a read, in bytes.
+/// The greatest size of one read, in bytes.
 const PIECE: usize = 8_192;
 
-/// Reads a file to its end, at most `limit` bytes. An interrupted read is an error, too.
+/// Reads at most `limit` bytes of a file, from its current position. An interrupted read is an
+/// error, too.
 ///
 /// # Errors
 ///
@@ -50,7 +51,8 @@ pub fn read_start<F: Read>(alloc: Global, file: &mut F, limit: usize) -> Result<
     Ok(bytes)
 }
 
-/// Reads a file to its end, at most `limit` bytes, and returns whether more bytes follow.
+/// Reads at most `limit` bytes of a file, from its current position, and returns whether more bytes
+/// follow.
 ///
 /// At most one byte after the limit is read. An interrupted read is an error, too.
 ///
@@ -84,8 +86,8 @@ fn look_at<R: Files>(rt: &R, path: &str) -> io::Result<Metadata> {
     Ok(seen)
 }
 
-/// Opens a file for reading. Fails if the path leads to another file than `seen`, its metadata from
-/// an earlier check.
+/// Opens a file for reading. Fails if the path now leads to another file than at an earlier check,
+/// which returned the metadata `seen`.
 fn open_seen<R: Files>(rt: &R, path: &str, seen: &Metadata) -> io::Result<R::File> {
     // Open the file for writing, too, if its permissions allow that: such a call never waits for
     // the other end of a FIFO.

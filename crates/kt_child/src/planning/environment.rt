@@ -6,7 +6,7 @@ use crate::planning::words::{joined, push_text};
 use kt_base::{Interface, Items, NoMemory, Text, Variable, Variables};
 use std::alloc::Global;
 
-/// The names of the environment variables that choose a language.
+/// The names of the environment variables that set the locale (environ(7)).
 const LANGUAGE: [&str; 8] = [
     "LANG",
     "LC_ALL",
@@ -18,8 +18,7 @@ const LANGUAGE: [&str; 8] = [
     "LC_TIME",
 ];
 
-/// Appends the names of the variables that are removed for each child: those that choose a
-/// language.
+/// Appends the names of the locale variables, which are removed from each child's environment.
 fn push_removed(alloc: Global, names: &mut Items<Text>) -> Result<(), NoMemory>
     requires { names.old ≡ [] }
     ensures { OnOk result (names.new ≡ removed_names) }
@@ -30,7 +29,7 @@ fn push_removed(alloc: Global, names: &mut Items<Text>) -> Result<(), NoMemory>
     Ok(())
 }
 
-/// Appends a variable with a name and a value to a list of variables.
+/// Appends the environment variable `name` with the value `text` to `set`.
 fn push_variable(alloc: Global, set: &mut Variables, name: &str, text: &str) -> Result<(), NoMemory>
     ensures { OnOk result (set.new ≡ set.old ++ variable (chars name.now) (chars text.now) ∷ []) }
 {
@@ -39,7 +38,8 @@ fn push_variable(alloc: Global, set: &mut Variables, name: &str, text: &str) -> 
     set.push(Variable { name, value })
 }
 
-/// Returns a suite's variable as a TAP or plain program gets it, with the prefix `TEST_ENV_`.
+/// Returns a copy of a suite's variable for a TAP or plain program: its name has the prefix
+/// `TEST_ENV_`.
 fn for_test(alloc: Global, variable: &Variable) -> Result<Variable, NoMemory>
     ensures { IfOk result (λ v. v ≡ test_variable variable.now) }
 {
@@ -48,7 +48,7 @@ fn for_test(alloc: Global, variable: &Variable) -> Result<Variable, NoMemory>
     Ok(Variable { name, value })
 }
 
-/// Appends a suite's variables with the prefix `TEST_ENV_`, for a TAP or plain program.
+/// Appends a suite's variables for a TAP or plain program: each name has the prefix `TEST_ENV_`.
 fn push_for_test(alloc: Global, set: &mut Variables, variables: &Variables) -> Result<(), NoMemory>
     ensures { OnOk result (set.new ≡ set.old ++ map test_variable variables.now) }
 {
@@ -59,8 +59,8 @@ fn push_for_test(alloc: Global, set: &mut Variables, variables: &Variables) -> R
     Ok(())
 }
 
-/// Appends the variables that each child gets: `TZ`, and `HOME` and `TMPDIR` with the path of its
-/// work directory.
+/// Appends the variables that each child gets: `TZ` with `UTC`, and `HOME` and `TMPDIR` with the
+/// path of the child's work directory.
 fn push_common(alloc: Global, set: &mut Variables, work: &Text) -> Result<(), NoMemory>
     requires { set.old ≡ [] }
     ensures { OnOk result (set.new ≡ common_variables work.now) }
@@ -70,8 +70,8 @@ fn push_common(alloc: Global, set: &mut Variables, work: &Text) -> Result<(), No
     push_variable(alloc, set, "TMPDIR", work.as_str())
 }
 
-/// Appends the variables that depend on the interface: one constant for ATF, the suite's variables
-/// for TAP and plain programs.
+/// Appends the variables that depend on the interface: `__RUNNING_INSIDE_ATF_RUN` for an ATF
+/// program, and the suite's variables for TAP and plain programs.
 fn push_own(
     alloc: Global,
     set: &mut Variables,
@@ -93,7 +93,7 @@ fn push_own(
 
 /// Returns the plan of a child's environment (this profile).
 ///
-/// Variables that choose a language are removed from the runner's environment. `TZ`, `HOME`,
+/// Locale variables, such as `LANG`, are removed from the runner's environment. `TZ`, `HOME`,
 /// `TMPDIR` and the interface's variables are set. `work` is the absolute path of the child's work
 /// directory.
 ///

@@ -34,12 +34,13 @@ pub(crate) struct ChildPurpose<'a> {
     pub limit: u64,
 }
 
-/// A case, or a list of cases, with a running child or a pending cleanup.
+/// A case with a running child or a pending cleanup, and its attempt. It also represents a running
+/// program that lists its test cases.
 #[derive(Drop)]
 pub(crate) struct CaseAttempt {
     /// The position of the case in the plan, counted from 0, or 0 for a list.
     pub position: u32,
-    /// The number of the attempt, which is the start of the case's body or the list.
+    /// The number of the attempt, counted from 0. A cleanup has the number of its body.
     pub attempt: u64,
     /// The role of the child that runs or ran last.
     pub role: Role,
@@ -55,7 +56,7 @@ impl CaseAttempt {
     ghost use Rattle.std.specs.Prelude.{◌≡◌};
     ghost use Rattle.kt_child.specs.Common.{child_of};
 
-    /// Returns the name of the case's current child.
+    /// Returns the name, attempt and role, of the child that runs or ran last.
     pub(crate) fn child(&self) -> Child
         ensures { result ≡ child_of self.now }
     {
@@ -66,7 +67,7 @@ impl CaseAttempt {
     }
 }
 
-/// A plan of a child's start: all values that its calls need.
+/// A plan of a child's start, with the values for all calls to the system.
 #[derive(Drop)]
 pub(crate) struct Spawning {
     /// The name of the child.
@@ -75,11 +76,11 @@ pub(crate) struct Spawning {
     pub limit: u64,
     /// The absolute path of the program.
     pub program: Text,
-    /// The arguments of the program.
+    /// The arguments of the program, without its name.
     pub words: Items<Text>,
     /// The changes to the runner's environment.
     pub env: EnvPlan,
-    /// The directory of the attempt, which contains the other paths.
+    /// The directory of the attempt, which contains `work`, `out` and `err`.
     pub dir: Text,
     /// The working directory of the child.
     pub work: Text,

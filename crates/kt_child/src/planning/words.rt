@@ -6,7 +6,8 @@ use kt_base::{Interface, Items, NoMemory, Text, Variable, Variables};
 use kt_suite::parent_path;
 use std::alloc::Global;
 
-/// Returns the absolute path of a program, given the absolute directory of the root Kyuafile.
+/// Returns the absolute path of `program`, which is relative to `source`, the absolute directory of
+/// the root Kyuafile.
 pub(crate) fn absolute_path(alloc: Global, source: &Text, program: &Text) -> Result<Text, NoMemory>
     ensures { IfOk result (λ path. path ≡ program_path source.now program.now) }
 {

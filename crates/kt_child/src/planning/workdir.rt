@@ -39,7 +39,7 @@ impl Drop for Paths {
     }
 }
 
-/// Returns the path of a name in the directory of an attempt.
+/// Returns `ROOT/NUMBER/NAME`, the path of `name` in the directory of an attempt.
 fn path_below(alloc: Global, root: &Text, number: u64, name: &str) -> Result<Text, NoMemory>
     ensures { IfOk result (λ path. path ≡ below root.now number (chars name.now)) }
 {
@@ -49,7 +49,7 @@ fn path_below(alloc: Global, root: &Text, number: u64, name: &str) -> Result<Tex
     Ok(path)
 }
 
-/// Returns the paths of two names in the directory of an attempt.
+/// Returns `ROOT/NUMBER/FIRST` and `ROOT/NUMBER/SECOND`, two paths in the directory of an attempt.
 fn join_two(
     alloc: Global,
     root: &Text,

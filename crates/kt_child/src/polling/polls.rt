@@ -30,7 +30,7 @@ pub(crate) fn poll_once<O: Os>(os: &mut O, child: Child, limit: u64, watch: &mut
             AfterPoll::Ended(Outcome::WaitFailed)
         }
         Ok(Polled::Running) => still_running(os, child, limit, watch),
-        // After a kill, each exit status counts as a timeout.
+        // After a kill, any end of the child counts as a timeout.
         Ok(_) if watch.killed => AfterPoll::Ended(Outcome::TimedOut),
         Ok(Polled::Exited(code)) => AfterPoll::Ended(Outcome::Exited(code)),
         Ok(Polled::Signaled(signal, core)) => AfterPoll::Ended(Outcome::Signaled(signal, core)),
@@ -67,7 +67,7 @@ fn still_running<O: Os>(os: &mut O, child: Child, limit: u64, watch: &mut Watch)
     AfterPoll::More
 }
 
-/// A finished child, by its index among the running children, with its outcome.
+/// A finished child: its index among the running children, and its outcome.
 #[derive(Clone, Copy)]
 pub(crate) struct Over {
     /// The index of the child among the running children, counted from 0.

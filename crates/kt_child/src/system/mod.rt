@@ -39,7 +39,7 @@ pub struct Child {
     pub role: Role,
 }
 
-/// A plan of the changes to the runner's environment that give a child's environment.
+/// A set of changes that turn the runner's environment into a child's.
 #[derive(Drop)]
 pub struct EnvPlan {
     /// The names of the variables that are removed.

@@ -63,8 +63,8 @@ pub trait Os {
     ) -> Result<(), OsFault>
         ensures { leads self.old (Spawn child program.now words.now env.now dir.now result) self.new };
 
-    /// Returns the state of a child without waiting for its end. A poll may sleep, so that the
-    /// timeout is not used up early.
+    /// Returns the state of a child without waiting for its end. The driver counts a timeout in
+    /// polls, so a poll may sleep while the count is ahead of the clock.
     ///
     /// # Errors
     ///
