@@ -13,7 +13,7 @@ stays_then a b c first second =
       moved = λ m. second.moved (first.moved m);
     }
 
--- A directory that a step may empty may be emptied after the step, too.
+-- A directory that may be emptied before a step may be emptied after it.
 pub may_stays : (a b : Removals) (path : List ℕ) → Stays a b → MayEmpty a path → MayEmpty b path
 may_stays a b path s (inl root) = inl (root ∙ sym s.root)
 may_stays a b path s (inr (inl (name, is, number))) = inr (inl (name, rw s.root is, number))

@@ -39,7 +39,7 @@ fn is_spent(micros: u64, steps: u64, taken: Option<u128>) -> bool
 
 /// Returns the time limit for the removal of the root directory, in microseconds.
 ///
-/// The limit is 5 seconds, and 10 milliseconds for each of the `waiting` directories in the queue.
+/// The limit is 5 seconds, plus 10 milliseconds for each of the `waiting` directories in the queue.
 fn closing_micros(waiting: u32) -> u64
     ensures { result ≡ at_close waiting }
 {
@@ -48,7 +48,8 @@ fn closing_micros(waiting: u32) -> u64
 
 /// Returns the minimum number of steps for the removal of the root directory.
 ///
-/// The minimum lets a slow machine finish the removal after the time limit.
+/// The minimum is 20,000, plus 50 for each of the `waiting` directories in the queue. It lets a
+/// slow machine finish the removal after the time limit.
 fn closing_steps(waiting: u32) -> u64
     ensures { result ≡ steps_at_close waiting }
 {

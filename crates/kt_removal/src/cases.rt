@@ -10,8 +10,8 @@ fn is_number(name: &[u8]) -> bool
     !name.is_empty() && name.iter().all(|c| is_digit(*c))
 }
 
-/// Returns `true` if `path` is an entry of `root` whose name is a number, as the directory of each
-/// case.
+/// Returns `true` if `path` has the form of a case's directory: an entry of `root` whose name is a
+/// number.
 pub(crate) fn is_case(root: &Text, path: &Text) -> bool
     ensures { IsTrue result → IsCaseOf root.now path.now }
 {

@@ -82,21 +82,21 @@ impl Removals {
         }
     }
 
-    /// Gives the owner of a directory all permissions. Returns `true` on success.
+    /// Sets the mode of a directory to 0700. Returns `true` on success.
     ///
-    /// The caller has found `path` to be a directory with entries, so it is not a link.
+    /// The caller has found `path` to be a directory with entries, so it is not a symbolic link.
     pub(crate) fn give_rights(&self, path: &[u8]) -> bool
         requires { MayRemove self.now path.now }
     {
         os::chmod(path, OWNER_RIGHTS) == 0
     }
 
-    /// Gives the owner of a directory all permissions, and returns `true` if the directory may be
-    /// emptied.
+    /// Sets the mode of a directory to 0700 if its owner lacks a permission, and returns `true` if
+    /// the directory may be emptied.
     ///
     /// Returns `false` if the status of `path` can't be read, or if `path` is not a directory. A
-    /// link is not a directory. Returns `false`, too, if `path` is on another device than the root,
-    /// since then a file system is mounted there.
+    /// symbolic link is not a directory. Returns `false`, too, if `path` is on another device than
+    /// the root, since then a file system is mounted there.
     pub(crate) fn open_up<R: Files>(&self, rt: &R, path: &Text) -> bool
         requires { MayEmpty self.now path.now }
     {

@@ -3,7 +3,7 @@ use std::os::unix::fs::MetadataExt;
 use std::rt::Files;
 use std::{fs, io};
 
-/// The identity of a directory, which doesn't depend on its path.
+/// An identity of a directory: its device and inode number, which don't depend on its path.
 #[derive(Clone, Copy)]
 pub struct Identity {
     /// The device number.
@@ -19,7 +19,7 @@ impl Identity {
     ///
     /// # Errors
     ///
-    /// - `NotADirectory`: the path is a link or another file.
+    /// - `NotADirectory`: the path is a symbolic link or a file of another type.
     /// - Any other error: the status of the path can't be read.
     pub fn of<R: Files>(rt: &R, path: &str) -> io::Result<Identity> {
         let found = fs::symlink_metadata(rt, path)?;
@@ -39,7 +39,8 @@ impl Identity {
         self.device == other.device && self.number == other.number
     }
 
-    /// Returns `true` if `path` is this directory. A link to the directory doesn't count.
+    /// Returns `true` if `path` is this directory. Returns `false` for a symbolic link to the
+    /// directory, and if the status of `path` can't be read.
     pub(crate) fn is_at<R: Files>(self, rt: &R, path: &str) -> bool {
         match Identity::of(rt, path) {
             Ok(found) => self.is_same(found),

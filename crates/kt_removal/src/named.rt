@@ -6,10 +6,10 @@ use crate::entries::entry_path;
 use kt_base::Text;
 use std::rt::Files;
 
-/// The name of the file for a child's standard output, in the directory of its case (this profile).
+/// The name of the file for a body's standard output, in the directory of its case (this profile).
 const OUT: &[u8] = b"out";
 
-/// The name of the file for a child's standard error, in the directory of its case (this profile).
+/// The name of the file for a body's standard error, in the directory of its case (this profile).
 const ERR: &[u8] = b"err";
 
 /// The name of the result file that the body of an ATF case writes.

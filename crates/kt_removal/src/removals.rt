@@ -16,15 +16,16 @@ use std::{fs, io, thread};
 /// The size of the buffer for the names of entries, in bytes.
 const PIECE: usize = 1_024;
 
-/// The removals below a root directory, which proceed in short steps.
+/// A queue of removals below a root directory, which proceeds in short steps.
 ///
 /// A subdirectory with entries is moved into the queue directory, and renamed to `0`, `1` and so on
 /// there. So is the directory of a case that takes too long to empty. The directories of the queue
 /// are emptied in this order. So each path stays short, even for deeply nested directories.
 ///
 /// If the root was removed or replaced by another directory, nothing is removed. If the queue
-/// directory was, no directory is moved into it, and its entries are left until the root is
-/// removed.
+/// directory was removed or replaced, no directory is moved into it, and its entries are left. The
+/// removal of the root then fails if a directory with entries is at the path of the queue
+/// directory.
 #[derive(Drop)]
 pub struct Removals {
     /// The path of the root directory.
@@ -35,7 +36,7 @@ pub struct Removals {
     pub(crate) root_itself: Identity,
     /// The identity of the queue directory when it was created.
     place_itself: Identity,
-    /// The number of the directory that is moved next.
+    /// The number that the next moved directory gets.
     moved: u64,
     /// The number of the directory that is emptied next.
     done: u64,
@@ -53,7 +54,8 @@ fn moved_path(alloc: Global, place: &Text, number: u64) -> Result<Text, NoMemory
     Ok(path)
 }
 
-/// Splits off the first of several names that each end with byte 0. Returns the name and the rest.
+/// Splits off the first of several names that each end with byte 0. Returns the name and the rest,
+/// or `None` if there is no byte 0.
 fn split_name(names: &[u8]) -> Option<(&[u8], &[u8])>
     ensures { IfSome result (λ parts. names.now ≡ parts.0.now ++ 0 ∷ parts.1.now) }
 {
@@ -64,8 +66,8 @@ fn split_name(names: &[u8]) -> Option<(&[u8], &[u8])>
 impl Removals {
     ghost use Rattle.std.specs.Prelude.{◌<◌, ◌↔◌, ◌+◌, ◌-◌, ◌^◌, ◌⊎◌, min, true, IsTrue};
 
-    /// Creates the removals below `root`, with the queue directory `place`. Both directories were
-    /// just created.
+    /// Creates an empty queue for the removals below `root`, with the queue directory `place`. The
+    /// caller has just created both directories.
     ///
     /// # Errors
     ///
@@ -151,7 +153,8 @@ impl Removals {
         }
     }
 
-    /// Moves the directory `path` into the queue. Returns `true` on success.
+    /// Moves the directory `path` into the queue. Returns `true` on success. If the move fails, its
+    /// number is skipped.
     fn take<R: Files + AllocGlobal>(&mut self, rt: &R, path: &[u8]) -> bool
         requires { MayRemove self.old path.now }
         ensures stays { Stays self.old self.new }
@@ -205,7 +208,7 @@ impl Removals {
         }
     }
 
-    /// Removes the entries of a directory that `names` lists. Each name ends with byte 0.
+    /// Removes the entries of `directory` whose names are in `names`. Each name ends with byte 0.
     fn remove_names<R: Files + AllocGlobal>(&mut self, rt: &R, directory: &Text, names: &[u8])
         requires { MayEmpty self.old directory.now }
         ensures stays { Stays self.old self.new }
@@ -222,7 +225,7 @@ impl Removals {
         }
     }
 
-    /// Reads the next names of a directory and removes these entries.
+    /// Reads the next names of `directory` from `names` and removes the entries with these names.
     ///
     /// Returns `false` at the end of the directory, or if the read fails.
     fn remove_piece<R: Files + AllocGlobal>(
@@ -246,8 +249,8 @@ impl Removals {
 
     /// Removes an emptied directory of the queue and moves on to the next number.
     ///
-    /// If the directory has new entries, it is moved to the end of the queue. If nothing was
-    /// removed from it before, it is left.
+    /// If the directory still has entries, it is moved to the end of the queue. It is left if
+    /// nothing could be removed from it.
     fn finish<R: Files + AllocGlobal>(&mut self, rt: &R, path: &Text)
         requires moved { IsMoved self.old }
         requires path { path.now ≡ moved_dir self.old.place self.old.done }
@@ -273,7 +276,8 @@ impl Removals {
         self.done = self.done.saturating_add(1);
     }
 
-    /// Removes the entries of a directory until its end or until the bound is over.
+    /// Removes the entries of a directory until its end is reached or the bound is over. An entry
+    /// that has entries itself is moved into the queue.
     ///
     /// Returns `true` if the end was reached, or if the directory can't be opened. The names of the
     /// first read are removed even if the bound is over.
@@ -328,8 +332,8 @@ impl Removals {
         ended
     }
 
-    /// Empties the next directory of the queue, or skips a number without one. Returns `true` if
-    /// time is left.
+    /// Empties the next directory of the queue, or skips a number without a directory. Returns
+    /// `true` if another step may follow within the bound.
     ///
     /// If the allocation of the path fails, the next step tries the directory again.
     fn step<R: Files + Clock + AllocGlobal>(&mut self, rt: &R, bound: &mut Bound) -> bool
@@ -368,7 +372,8 @@ impl Removals {
         }
     }
 
-    /// Creates the queue directory again if a test removed or replaced it.
+    /// Creates the queue directory again if a test removed or replaced it. That fails if another
+    /// directory with entries is at its path.
     ///
     /// The directories of the old queue are left.
     fn renew_place<R: Files + AllocGlobal>(&mut self, rt: &R)
@@ -421,7 +426,7 @@ impl Removals {
 
     /// Empties the queue directory once more, for directories that were skipped.
     ///
-    /// For example, the allocation of an entry's path failed.
+    /// A directory is skipped, for example, if the allocation of an entry's path failed.
     fn try_again<R: Files + Clock + AllocGlobal>(&mut self, rt: &R, bound: &mut Bound)
         ensures root { self.new.root ≡ self.old.root }
         ensures place { self.new.place ≡ self.old.place }
@@ -452,8 +457,8 @@ impl Removals {
         self.remove_held(rt, tree) || self.take(rt, tree.as_bytes())
     }
 
-    /// Removes the directory of a case or moves it into the queue, then empties the queue within
-    /// the bound. Returns `true` if the path no longer exists.
+    /// Removes the directory of a case or moves it into the queue, and then empties the queue, for
+    /// 5 milliseconds in all. Returns `true` if the path no longer exists.
     fn remove_case<R: Files + Clock + AllocGlobal>(&mut self, rt: &R, tree: &Text) -> bool
         requires { IsCaseOf self.old.root tree.now }
         ensures place { self.new.place ≡ self.old.place }

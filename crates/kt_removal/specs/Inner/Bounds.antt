@@ -1,4 +1,4 @@
--- The limits of removals.
+-- The limits on the time and the steps of removals.
 use Rattle.std.specs.Prelude.{ℕ, ◌+◌, ◌*◌, ◌/◌, ◌≤◌, Option, Some, None}
 
 -- `IsSpent micros steps taken`: `taken` microseconds use up a limit of `micros`. If the clock fails

@@ -15,23 +15,23 @@ moved_dir place number = place ++ codes "/" ++ decimal number
 abbrev pub IsNumber : List ℕ → Type 0
 IsNumber name = (0 < length name) × (list_all is_digit name ≡ true)
 
--- `IsCaseOf root path`: `path` is an entry of `root` whose name is a number, as the directory of
--- each case.
+-- `IsCaseOf root path`: `path` has the form of a case's directory: an entry of `root` whose name is
+-- a number.
 abbrev pub IsCaseOf : List ℕ → List ℕ → Type 0
 IsCaseOf root path = (name : List ℕ) × (utf8 path ≡ utf8 root ++ 47 ∷ name) × IsNumber name
 
--- `IsMoved r`: a directory was moved to the number `r.done`, which is less than `r.moved` and is
--- not a gap.
+-- `IsMoved r`: the queue `r` has a next directory: its number `r.done` is less than `r.moved`, and
+-- the move to it did not fail.
 abbrev pub IsMoved : Removals → Type 0
 IsMoved r = (r.done < r.moved) × (list_any (λ n. n == r.done) r.gaps.items ≡ false)
 
--- `IsHeld r path`: `path` is a case's directory, the queue directory or the next directory of the
--- queue.
+-- `IsHeld r path`: for the removals `r`, `path` is a case's directory, the queue directory or the
+-- next directory of the queue.
 abbrev pub IsHeld : Removals → List ℕ → Type 0
 IsHeld r path = IsCaseOf r.root path ⊎ (path ≡ r.place) ⊎ (IsMoved r × (path ≡ moved_dir r.place r.done))
 
--- `MayEmpty r path`: a step may remove the entries of `path`. The path is the root, or `IsHeld`
--- holds.
+-- `MayEmpty r path`: a step of the removals `r` may remove the entries of `path`. It is the root, a
+-- case's directory, the queue directory or the next directory of the queue.
 abbrev pub MayEmpty : Removals → List ℕ → Type 0
 MayEmpty r path = (path ≡ r.root) ⊎ IsHeld r path
 
@@ -44,19 +44,20 @@ is_name name = not (bytes_eq name []) && not (bytes_eq name (codes ".")) && not 
 abbrev pub IsEntryOf : List ℕ → List ℕ → Type 0
 IsEntryOf directory path = (name : List ℕ) × (path ≡ utf8 directory ++ 47 ∷ name) × (is_name name ≡ true)
 
--- `MayRemove r path`: a step may remove or move `path`: an entry of a directory that it may empty,
--- or such a directory other than the root.
+-- `MayRemove r path`: a step of the removals `r` may remove or move `path`. It is an entry of a
+-- directory that the step may empty (`MayEmpty`), or that directory itself if it isn't the root.
 abbrev pub MayRemove : Removals → List ℕ → Type 0
 MayRemove r path = (directory : List ℕ) × ((IsHeld r directory × (path ≡ utf8 directory)) ⊎ (MayEmpty r directory × IsEntryOf directory path))
 
--- `Stays old new`: a step keeps the root, the queue directory and the next number. A directory that
--- was moved to this number is still moved.
+-- `Stays old new`: a step takes the removals from `old` to `new`, with the same root, queue
+-- directory and next number. A directory that was moved to this number is still there.
 pub record Stays (old new : Removals) : Type 0 where
   pub root : new.root ≡ old.root
   pub place : new.place ≡ old.place
   pub done : new.done ≡ old.done
   pub moved : IsMoved old → IsMoved new
 
--- `waiting moved done`: the number of directories in the queue, counted up to 2^32 - 1.
+-- `waiting moved done`: the number of directories in the queue, at most 2^32 - 1. `moved` is the
+-- number of the next move, and `done` that of the next directory to empty.
 abbrev pub waiting : ℕ → ℕ → ℕ
 waiting moved done = min (moved - done) (2 ^ 32 - 1)
