@@ -21,13 +21,14 @@ fn after_header(alloc: Global, blocks: &str) -> Result<Vec<u8>> {
     Ok(text)
 }
 
-/// Creates the listing of a program that printed `text` and ended with the outcome `ending`.
+/// Creates the listing of a program that printed `text` and whose outcome is `ending`, such as
+/// `exited 0`.
 fn ended(ending: &str, text: Result<Vec<u8>>) -> Result<Listing> {
     let (text, ending) = both(text, ending_of(ending))?;
     Ok(Listing::Ended(ending, ListBytes::Read(Bytes::from_vec(text))))
 }
 
-/// Parses the listing of a program: `refused WHY`, or an outcome and then `blocks TEXT`,
+/// Parses the listing of a program: `refused CAUSE`, or an outcome and then `blocks TEXT`,
 /// `list TEXT`, `unreadable` or `too-long`.
 fn listing_of(alloc: Global, text: &str) -> Result<Listing> {
     if let Some(cause) = text.strip_prefix("refused ") {
@@ -108,6 +109,11 @@ fn program_cases(alloc: Global, row: &Example<'_>, word: &str) -> Result<Items<C
 }
 
 /// Appends the cases of a program or of a list, or the error's message for an invalid list.
+///
+/// # Errors
+///
+/// - `Misspelled`: a line is missing or invalid.
+/// - `NoMemory`: an allocation failed.
 pub fn answer(out: &mut ExampleOutput, row: &Example<'_>) -> Result<()> {
     if let Some(word) = row.text("program") {
         return push_cases(out, row, program_cases(out.alloc, row, word)?);

@@ -17,7 +17,8 @@ fn push_suite(out: &mut ExampleOutput, config: &Config, word: &str, suite: &str)
     Ok(())
 }
 
-/// Returns the value of a suite's variable, or a text if the suite or the variable isn't defined.
+/// Returns the value of a suite's variable. Returns `no suite` or `no variable` if the suite or the
+/// variable isn't defined.
 fn value_of<'a>(config: &'a Config, suite: &Text, name: &Text) -> &'a str {
     match config.suite_vars(suite) {
         None => "no suite",
@@ -72,6 +73,11 @@ fn push_answers(out: &mut ExampleOutput, mut config: Config, row: &Example<'_>) 
 /// Executes the lines of an example on a new configuration, or on the configuration in `file TEXT`.
 /// The lines `numbered COUNT STATEMENT` add statements to the file. If the file is rejected, only
 /// the error's message is appended.
+///
+/// # Errors
+///
+/// - `Misspelled`: a line is invalid.
+/// - `NoMemory`: an allocation failed.
 pub fn answer(out: &mut ExampleOutput, row: &Example<'_>) -> Result<()> {
     let Some(file) = row.text("file") else {
         return push_answers(out, Config::new(out.alloc), row);

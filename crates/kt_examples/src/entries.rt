@@ -41,6 +41,11 @@ pub fn kind_of(word: &str) -> Result<Kind> {
 }
 
 /// Parses the kinds of verdicts in `words`, which are separated by white space.
+///
+/// # Errors
+///
+/// - `Misspelled`: an element isn't a verdict's kind.
+/// - `NoMemory`: an allocation failed.
 pub fn kinds_of(alloc: Global, words: &str) -> Result<Vec<Kind>> {
     let mut kinds = Vec::new(alloc);
     for word in words.split_whitespace() {
@@ -110,7 +115,7 @@ pub fn storable_entry(
     Ok(entry)
 }
 
-/// Returns `true` if a line describes the entry above it.
+/// Returns `true` if a line describes the entry above it, by a keyword such as `program` or `out`.
 pub fn is_content(line: &ExampleLine<'_>) -> bool {
     match line.word {
         "program" | "case" | "started" | "took" | "meta" | "times" => true,
@@ -126,7 +131,7 @@ pub fn content_at<'a, 'b>(lines: &'b [ExampleLine<'a>], place: usize) -> &'b [Ex
     rest.split_at(length.min(rest.len())).0
 }
 
-/// Returns the number of entries, which must be below 2^32.
+/// Returns the number of entries. Fails if it is 2^32 or more.
 fn count_of(entries: &Items<Entry>) -> Result<u32> {
     due(u32::try_from(entries.len()).ok(), "too many entries")
 }
@@ -157,7 +162,12 @@ fn entries_in(alloc: Global, lines: &[ExampleLine<'_>]) -> Result<Items<Entry>> 
 }
 
 /// Creates the run of an example from the lines `run NUMBER`, `at MILLISECONDS`, `unfinished` and
-/// `entry VERDICT`.
+/// `entry VERDICT`. The lines below an entry describe it.
+///
+/// # Errors
+///
+/// - `Misspelled`: a line is invalid, or there are 2^32 entries or more.
+/// - `NoMemory`: an allocation failed.
 pub fn run_of(alloc: Global, row: &Example<'_>) -> Result<Run> {
     let (number, started) = both(row.number("run", 1), row.number("at", 0))?;
     let entries = entries_in(alloc, row.entries.as_slice())?;

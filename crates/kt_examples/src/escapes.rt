@@ -35,7 +35,7 @@ fn push_times(text: &mut Vec<u8>, piece: &[u8], times: usize) -> Result<()> {
     Ok(())
 }
 
-/// Replaces the bytes of `text` from index `from` on by `times` copies.
+/// Replaces the bytes of `text` from index `from` on by `times` copies of these bytes.
 fn repeat(alloc: Global, text: &mut Vec<u8>, from: usize, times: usize) -> Result<()> {
     let piece = text.get(from..).unwrap_or(&[]).to_vec(alloc)?;
     text.truncate(from);
@@ -50,7 +50,7 @@ impl Unescaper<'_> {
         Some(*b)
     }
 
-    /// Decodes the two hexadecimal digits after `\x`.
+    /// Decodes the two hexadecimal digits after `\x`, and appends their byte.
     fn pair(&mut self) -> Result<()> {
         let high = hex(self.next())?;
         let low = hex(self.next())?;
@@ -58,7 +58,7 @@ impl Unescaper<'_> {
         asked(self.text.push(b.unwrap_or(0)))
     }
 
-    /// Decodes the number and the open brace after `\*`.
+    /// Decodes the number and the open brace after `\*`, and opens this repetition.
     fn times(&mut self) -> Result<()> {
         let mut count: usize = 0;
         for _ in 0..self.rest.len() {

@@ -21,7 +21,11 @@ pub fn count(text: &str) -> Result<u32> {
     due(text.parse::<u32>().ok(), "a number below 2^32 is due")
 }
 
-/// Parses a number from 0 to 2^64 - 1, and stores it in `place`.
+/// Parses a number from 0 to 2^64 - 1, and stores it in `place`. Allocates nothing.
+///
+/// # Errors
+///
+/// - `Misspelled`: `text` isn't such a number.
 pub fn set_number(place: &mut Option<u64>, text: &str) -> Result<()> {
     *place = Some(number(text)?);
     Ok(())
@@ -63,7 +67,8 @@ pub fn numbered(alloc: Global, raw: &str) -> Result<Vec<String>> {
     Ok(texts)
 }
 
-/// Parses `COUNT TEXT`, and appends the numbered copies of the text, with their escapes decoded.
+/// Parses `COUNT TEXT`, and appends COUNT copies of the text, with their escapes decoded. Each `#`
+/// in a copy is replaced by the copy's number, from 0.
 fn append_numbered(alloc: Global, bytes: &mut Vec<u8>, raw: &str) -> Result<()> {
     for text in numbered(alloc, raw)?.as_slice() {
         append(alloc, bytes, text.as_str())?;
@@ -71,7 +76,13 @@ fn append_numbered(alloc: Global, bytes: &mut Vec<u8>, raw: &str) -> Result<()> 
     Ok(())
 }
 
-/// Returns `bytes` with the numbered copies of each line `numbered COUNT TEXT` appended.
+/// Returns `bytes`, to which each line `numbered COUNT TEXT` of the example appends COUNT copies of
+/// its text. Each `#` in a copy is replaced by the copy's number, from 0.
+///
+/// # Errors
+///
+/// - `Misspelled`: a line or an escape is invalid, or `bytes` is this error.
+/// - `NoMemory`: an allocation failed, or `bytes` is this error.
 pub fn with_numbered(alloc: Global, bytes: Result<Vec<u8>>, row: &Example<'_>) -> Result<Vec<u8>> {
     let mut bytes = bytes?;
     for line in row.entries.as_slice() {

@@ -29,14 +29,20 @@ fn set_property(out: &mut ExampleOutput, props: &mut Props, raw: &str) -> Result
     Ok(())
 }
 
-/// Sets the property `NAME=VALUE`, which must be valid.
+/// Sets the property `NAME=VALUE`.
+///
+/// # Errors
+///
+/// - `Misspelled`: the property is rejected, or an escape is invalid.
+/// - `NoMemory`: an allocation failed.
 pub fn set_known(alloc: Global, props: &mut Props, raw: &str) -> Result<()> {
     let pair = pair_of(alloc, raw)?;
     let set = retried!(PropFault, props.set(&pair.name, &pair.value)).ok();
     due(set, "there is no such property or value")
 }
 
-/// Sets the properties of `COUNT NAME=VALUE`, in which `#` is the number. All must be valid.
+/// Parses `COUNT NAME=VALUE`, and sets COUNT properties. Each `#` is replaced by the number of the
+/// property, from 0. Fails if a property is rejected.
 fn set_numbered(alloc: Global, props: &mut Props, raw: &str) -> Result<()> {
     for text in numbered(alloc, raw)?.as_slice() {
         set_known(alloc, props, text.as_str())?;
@@ -65,7 +71,7 @@ pub fn push_props(out: &mut ExampleOutput, props: &Props) -> Result<()> {
     Ok(())
 }
 
-/// Sets the variable `NAME=VALUE` of a configuration, which must be valid.
+/// Sets the variable `NAME=VALUE` of a configuration. Fails if the variable is rejected.
 fn set_variable(alloc: Global, config: &mut Config, raw: &str) -> Result<()> {
     let pair = pair_of(alloc, raw)?;
     let set = retried!(ConfigFault, config.set(&pair.name, &pair.value)).ok();
@@ -158,6 +164,11 @@ impl PropertyExample {
 
 /// Executes the lines of an example about properties and requirements in order, and appends the
 /// outputs.
+///
+/// # Errors
+///
+/// - `Misspelled`: a line is invalid.
+/// - `NoMemory`: an allocation failed.
 pub fn answer(out: &mut ExampleOutput, row: &Example<'_>) -> Result<()> {
     let mut example = PropertyExample {
         program: Props::new(out.alloc),

@@ -6,7 +6,7 @@ use kt_base::Run;
 use kt_report::ReportFault;
 use std::alloc::Global;
 
-/// Appends the start time in a text report, or the whole report if it has none.
+/// Appends the start time that a text report prints, or the whole report if it prints none.
 fn push_moment(out: &mut ExampleOutput, report: &str) {
     let rest = report.split_once("started ");
     let moment = rest.and_then(|(_, rest)| rest.split_once('\n'));
@@ -75,6 +75,11 @@ fn push_report(out: &mut ExampleOutput, row: &Example<'_>, run: &Run) -> Result<
 
 /// Appends a report of the run that an example describes: `report line`, `report text`,
 /// `report junit` or `report moment`. `report fault` is a JUnit report whose first write fails.
+///
+/// # Errors
+///
+/// - `Misspelled`: a line is missing or invalid.
+/// - `NoMemory`: an allocation failed.
 pub fn answer(out: &mut ExampleOutput, row: &Example<'_>) -> Result<()> {
     push_report(out, row, &run_of(out.alloc, row)?)
 }

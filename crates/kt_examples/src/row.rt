@@ -45,7 +45,7 @@ impl ExampleFault {
     }
 }
 
-/// Converts the errors of failed allocations, which kt_base converts to `NoMemory`.
+/// Converts each error type of a failed allocation that kt_base can convert to `NoMemory`.
 impl<E: Drop> From<E> for ExampleFault
 where
     NoMemory: From<E>,
@@ -55,7 +55,7 @@ where
     }
 }
 
-/// Returns the value of `made`, with a failed allocation converted to a `ExampleFault`. Allocates
+/// Returns the value of `made`, with a failed allocation converted to an `ExampleFault`. Allocates
 /// nothing.
 ///
 /// # Errors
@@ -117,7 +117,7 @@ pub fn number_in(lines: &[ExampleLine<'_>], word: &str, other: u64) -> Result<u6
 ///
 /// # Errors
 ///
-/// - `Misspelled`: an escape is invalid, or a repetition makes more than 32 MiB.
+/// - `Misspelled`: an escape or a repetition is invalid.
 /// - `NoMemory`: an allocation failed.
 pub fn append(alloc: Global, bytes: &mut Vec<u8>, raw: &str) -> Result<()> {
     asked(bytes.extend_from_slice(&unescaped(alloc, raw)?))
@@ -134,6 +134,11 @@ pub fn both<A: Drop, B: Drop>(first: Result<A>, second: Result<B>) -> Result<(A,
 
 /// Parses `NAME=VALUE`, split at the first `=`, and decodes the escapes of both parts. The value is
 /// empty without `=`.
+///
+/// # Errors
+///
+/// - `Misspelled`: an escape or a repetition is invalid.
+/// - `NoMemory`: an allocation failed.
 pub fn pair_of(alloc: Global, raw: &str) -> Result<Variable> {
     let (name, value) = raw.split_once('=').unwrap_or((raw, ""));
     let (name, value) = both(lossy_of(alloc, name), lossy_of(alloc, value))?;
@@ -144,7 +149,7 @@ pub fn pair_of(alloc: Global, raw: &str) -> Result<Variable> {
 ///
 /// # Errors
 ///
-/// - `Misspelled`: an escape is invalid, or a repetition makes more than 32 MiB.
+/// - `Misspelled`: an escape or a repetition is invalid.
 /// - `NoMemory`: an allocation failed.
 pub fn pairs_of(alloc: Global, lines: &[ExampleLine<'_>], word: &str) -> Result<Variables> {
     let mut pairs = Variables::new(alloc);
@@ -187,7 +192,7 @@ impl<'a> Example<'a> {
     ///
     /// # Errors
     ///
-    /// - `Misspelled`: an escape is invalid, or a repetition makes more than 32 MiB.
+    /// - `Misspelled`: an escape or a repetition is invalid.
     /// - `NoMemory`: an allocation failed.
     pub fn bytes(&self, alloc: Global, word: &str) -> Result<Option<Vec<u8>>> {
         self.text(word).map(|raw| unescaped(alloc, raw)).transpose()
@@ -197,8 +202,8 @@ impl<'a> Example<'a> {
     ///
     /// # Errors
     ///
-    /// - `Misspelled`: no line has the keyword (the error's text is `fault`), an escape is invalid,
-    ///   or a repetition makes more than 32 MiB.
+    /// - `Misspelled`: no line has the keyword (the error's text is `fault`), or an escape or a
+    ///   repetition is invalid.
     /// - `NoMemory`: an allocation failed.
     pub fn due_bytes(&self, alloc: Global, word: &str, fault: &'static str) -> Result<Vec<u8>> {
         unescaped(alloc, due(self.text(word), fault)?)
@@ -208,7 +213,7 @@ impl<'a> Example<'a> {
     ///
     /// # Errors
     ///
-    /// - `Misspelled`: an escape is invalid, or a repetition makes more than 32 MiB.
+    /// - `Misspelled`: an escape or a repetition is invalid.
     /// - `NoMemory`: an allocation failed.
     pub fn wanted(&self, alloc: Global) -> Result<Vec<u8>> {
         unescaped(alloc, self.wanted.as_slice().join(alloc, "\n")?.as_str())

@@ -51,6 +51,11 @@ fn push_stmts(out: &mut ExampleOutput, stmts: &[Stmt]) {
 }
 
 /// Parses the script of the line `script TEXT`, and appends its statements or the error.
+///
+/// # Errors
+///
+/// - `Misspelled`: the line is missing, or an escape is invalid.
+/// - `NoMemory`: an allocation failed.
 pub fn answer(out: &mut ExampleOutput, row: &Example<'_>) -> Result<()> {
     match parse(out.alloc, &row.due_bytes(out.alloc, "script", "no script")?) {
         Ok(stmts) => push_stmts(out, stmts.as_slice()),

@@ -10,7 +10,7 @@ use std::alloc::Global;
 /// The maximum length, in bytes, of an input that is split at each position.
 const LONG: usize = 1_000;
 
-/// A reader of a result file or of a TAP stream that comes in pieces.
+/// A reader of a result file or of a TAP stream in pieces.
 #[derive(Drop)]
 enum Reader {
     Claim(ClaimReader),
@@ -160,6 +160,11 @@ fn push_pieces(out: &mut ExampleOutput, row: &Example<'_>, word: &str) -> Result
 
 /// Appends the claim of a result file (`file TEXT`) or the result of a TAP stream (`tap TEXT`).
 /// Without such a line, the input consists of the pieces in the lines `piece TEXT`.
+///
+/// # Errors
+///
+/// - `Misspelled`: an escape is invalid.
+/// - `NoMemory`: an allocation failed.
 pub fn answer(out: &mut ExampleOutput, row: &Example<'_>, word: &str) -> Result<()> {
     let Some(bytes) = row.bytes(out.alloc, word)? else {
         return push_pieces(out, row, word);

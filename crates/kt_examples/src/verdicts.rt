@@ -54,7 +54,12 @@ pub fn push_reason(out: &mut ExampleOutput, verdict: &Verdict) -> Result<()> {
     Ok(())
 }
 
-/// Parses the cause of a failed start: `directory`, `output`, `spawn` or `memory`.
+/// Parses the cause of a failed start: `directory`, `output`, `spawn` or `memory`. Allocates
+/// nothing.
+///
+/// # Errors
+///
+/// - `Misspelled`: `text` isn't one of these causes.
 pub fn refused_of(text: &str) -> Result<Refused> {
     match text {
         "directory" => Ok(Refused::Directory),
@@ -115,8 +120,13 @@ fn verdict_of_body(alloc: Global, row: &Example<'_>) -> Result<Verdict> {
 }
 
 /// Appends the verdict of the case that an example describes. The example has the evidence,
-/// `body ENDING`, and for a case with a cleanup `cleanup ENDING` or `cleanup refused`. An example
-/// of a body that can't be started has only `refused WHY`.
+/// `body OUTCOME`, and for a case with a cleanup `cleanup OUTCOME` or `cleanup refused`. An example
+/// of a body that can't be started has only `refused CAUSE`.
+///
+/// # Errors
+///
+/// - `Misspelled`: a line is missing or invalid.
+/// - `NoMemory`: an allocation failed.
 pub fn answer(out: &mut ExampleOutput, row: &Example<'_>) -> Result<()> {
     let verdict = match row.text("refused") {
         Some(refused) => refused_verdict(refused_of(refused)?),
