@@ -1,4 +1,4 @@
--- Children and pending cleanups of a launcher that keeps a state (`ChildSlot`) for each case.
+-- Children and pending cleanups of a launcher that stores a state (`ChildSlot`) for each case.
 use Rattle.std.specs.Prelude.{ℕ, Bool, true, false, List, Option, Some, None, slice_index_or}
 use Rattle.kt_base.specs.declared.child.Role.{Role}
 use Rattle.kt_base.specs.declared.child.Role.TheVariants.{Body, Cleanup}
@@ -6,21 +6,22 @@ use Rattle.kt_sched.specs.Children.{Child}
 use Rattle.kt_doubles.specs.declared.children.ChildSlot.{ChildSlot}
 use Rattle.kt_doubles.specs.declared.children.ChildSlot.TheVariants.{Free, Running, Owed, Cleaning}
 
--- `child_in place role` is the running child in `role` of a case with the state `place`, or `None`.
+-- `child_in place role`: the running child in `role` of a case with the state `place`, or `None`.
 abbrev pub child_in : ChildSlot → Role → Option Child
 child_in (Running interface cleanup) Body = Some (record { interface = interface; cleanup = cleanup })
 child_in (Cleaning interface cleanup) Cleanup = Some (record { interface = interface; cleanup = cleanup })
 child_in place role = None
 
--- `is_owed place` is `true` if a case with the state `place` has a pending cleanup.
+-- `is_owed place`: a case with the state `place` has a pending cleanup.
 abbrev pub is_owed : ChildSlot → Bool
 is_owed Owed = true
 is_owed place = false
 
--- `shown places k role` is the running child in `role` of the case at position `k`, or `None`.
+-- `shown places k role`: the running child in `role` of the case at position `k` of `places`, or
+-- `None`.
 abbrev pub shown : List ChildSlot → ℕ → Role → Option Child
 shown places k role = child_in (slice_index_or places k Free) role
 
--- `owed places k` is `true` if the case at position `k` has a pending cleanup.
+-- `owed places k`: the case at position `k` of `places` has a pending cleanup.
 abbrev pub owed : List ChildSlot → ℕ → Bool
 owed places k = is_owed (slice_index_or places k Free)

@@ -60,7 +60,8 @@ fn child_at(places: &ChildSlots, at: u32) -> Option<Known>
     }
 }
 
-/// Returns the running child at position `named`, or else the first running child.
+/// Returns the running child at position `named`, or else the first running child, each with its
+/// position. The caller guarantees that a child is running.
 pub fn next_child(places: &ChildSlots, named: u32) -> (u32, Known)
     requires { (i : ℕ) × (role : Role) × (child : Child)
         × (shown places.now i role ≡ Some child) }

@@ -20,7 +20,7 @@ fn item_of(alloc: Global, raw: &str) -> Result<Item> {
     Ok(Item { path, case_name })
 }
 
-/// Parses a filter, which must be valid.
+/// Parses a filter. Fails if the filter is rejected.
 fn filter_of(alloc: Global, raw: &str) -> Result<Filter> {
     let filter = Filter::parse(alloc, &text_of(alloc, raw)?).ok();
     due(filter, "a filter that is refused is asked for by `read`")
@@ -135,6 +135,11 @@ impl FilterExample {
 }
 
 /// Executes the lines of an example about filters in order, and appends a line for each query.
+///
+/// # Errors
+///
+/// - `Misspelled`: a line is invalid.
+/// - `NoMemory`: an allocation failed.
 pub fn answer(out: &mut ExampleOutput, row: &Example<'_>) -> Result<()> {
     let mut example = FilterExample {
         items: Vec::new(out.alloc),

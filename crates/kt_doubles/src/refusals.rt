@@ -11,10 +11,10 @@ pub struct Refusals {
     calls: u64,
     /// The numbers of the first and the last call that fail, counted from 1.
     refused: (u64, u64),
-    /// The error of the calls in the range of `refused`.
+    /// The error of the calls that a line `refused` makes fail.
     failed: FailedStatement,
-    /// The error of the calls in the range of `refused-memory`, or `None` for the range of
-    /// `refused`.
+    /// The error of the calls that a line `refused-memory` makes fail, or `None` without such a
+    /// line.
     shortage: Option<NoMemory>,
 }
 

@@ -2,16 +2,16 @@ use kt_base::NoMemory;
 use kt_child::Polled;
 use std::alloc::Global;
 
-/// The life of a scripted child: how long it runs, and its outcome.
+/// A script of a child: the number of polls that find it running, and how it then ends.
 #[derive(Clone, Copy)]
 pub struct Life {
     /// The number of polls that find the child running.
     pub running: u32,
-    /// The status that later polls return.
+    /// The end that later polls return.
     pub ending: Polled,
 }
 
-/// A fault of the scripted system in reading a file in parts, which a real system never has.
+/// A fault in reading a file in parts, which the scripted system has and a real system never has.
 #[derive(Clone, Copy)]
 pub enum PartFault {
     /// Parts are read without a fault.
@@ -22,7 +22,7 @@ pub enum PartFault {
     Gone,
 }
 
-/// A file of a scripted system or machine.
+/// A file of a scripted system (`Os`) or of scripted host files (`HostFiles`).
 #[derive(Drop)]
 pub struct Holding {
     /// The path, in which the first `*` represents any text without `/`.
@@ -31,18 +31,21 @@ pub struct Holding {
     pub bytes: Vec<u8>,
 }
 
-/// A script of a system and a machine: their files, children, timestamps and failing calls.
+/// A script for a system (`Os`) and for host files (`HostFiles`): the files, children, timestamps
+/// and failing calls.
 #[derive(Drop)]
 pub struct Scene {
     /// The allocator of the scene and of the test doubles that follow it.
     pub alloc: Global,
-    /// The lives of the children, in the order of their starts. Later children have the last life.
+    /// The scripts of the children, in the order of their starts. The last is that of all later
+    /// children, too.
     pub lives: Vec<Life>,
     /// The files that can be read.
     pub files: Vec<Holding>,
     /// The contents of every other file, or `None` if other files are missing.
     pub others: Option<Vec<u8>>,
-    /// The calls of the system that fail, counted from 0: the first of them, and the last plus 1.
+    /// The range of calls of the system that fail: the number of the first, counted from 0, and
+    /// that of the last plus 1.
     pub failing: (u32, u32),
     /// The failed allocation that is the error of these calls, or `None` for another error.
     pub shortage: Option<NoMemory>,
@@ -50,10 +53,10 @@ pub struct Scene {
     pub part_fault: PartFault,
     /// The timestamps that the system returns, in milliseconds since 1970 in UTC.
     pub moments: Vec<u64>,
-    /// The difference, in milliseconds, between two later timestamps of the system.
+    /// The difference between two timestamps of the system after those in `moments`, in
+    /// milliseconds.
     pub step: u64,
-    /// The timestamps that the machine returns, in milliseconds since 1970 in UTC. The last is
-    /// repeated.
+    /// The timestamps of the host's clock, in milliseconds since 1970 in UTC. The last is repeated.
     pub clock: Vec<u64>,
     /// Keywords with paths. `program`: the test program exists. `locked`: the file can't be read.
     /// `dear`: an allocation fails when the file is read. `found-file`, `found-program`: the
@@ -107,7 +110,7 @@ fn is_path_of(pattern: &str, path: &str) -> bool {
     name.is_some_and(|name| !name.contains('/'))
 }
 
-/// Requests an allocation that no machine can satisfy, to provoke its error.
+/// Requests 2^64 - 1 bytes, which no computer has, to provoke the error of a failed allocation.
 ///
 /// # Errors
 ///

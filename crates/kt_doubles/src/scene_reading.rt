@@ -1,4 +1,4 @@
-//! Parses the lines of an example into a scene, the script of a machine and a system.
+//! Parses the lines of an example into a scene, the script for a system and host files.
 
 use crate::scene::{Holding, Life, PartFault};
 use crate::{Scene, ask_too_much};
@@ -37,7 +37,8 @@ pub fn failure(alloc: Global) -> Result<FailedStatement> {
     }
 }
 
-/// Parses the life of a scripted child: an outcome, or `running xN, ` and an outcome.
+/// Parses the script of a child: an outcome, or `running xN, ` and an outcome. The outcome is an
+/// exit or a signal.
 fn life_of(text: &str) -> Result<Life> {
     let (running, ending) = match text.strip_prefix("running x") {
         None => ("0", text),
@@ -78,14 +79,18 @@ fn take_path(scene: &mut Scene, line: &ExampleLine<'_>) -> Result<()> {
 }
 
 /// Parses the calls that fail: `N` for one call, or `N M` for the calls from `N` to `M`. Returns
-/// the first number, and the last number plus 1.
+/// the first number, and the last number plus 1. Allocates nothing.
+///
+/// # Errors
+///
+/// - `Misspelled`: `text` isn't one or two numbers from 0 to 2^32 - 1.
 pub fn failing_of(text: &str) -> Result<(u32, u32)> {
     let (first, last) = text.split_once(' ').unwrap_or((text, text));
     Ok((count(first)?, count(last)?.saturating_add(1)))
 }
 
-/// Adds the part of a machine or a system that a line describes to a scene. Other lines are
-/// ignored.
+/// Adds the file, the script of a child, the path or the calls that a line describes to a scene.
+/// Other lines are ignored.
 fn take(scene: &mut Scene, line: &ExampleLine<'_>) -> Result<()> {
     let text = line.text;
     let (path, rest) = text.split_once(' ').unwrap_or((text, ""));
@@ -124,8 +129,8 @@ fn take_calls(scene: &mut Scene, word: &str, text: &str) -> Result<()> {
     Ok(())
 }
 
-/// Parses the lines of an example into a scene, and ignores lines that aren't about a machine or
-/// system.
+/// Parses the lines of an example into a scene, and ignores lines that don't describe a system or
+/// host files.
 ///
 /// # Errors
 ///

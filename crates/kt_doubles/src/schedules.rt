@@ -67,6 +67,11 @@ fn push_end(
 
 /// Executes a plan over a scripted launcher and a sink in memory, and appends the calls and totals.
 /// The line `brief` replaces the calls and puts by a summary.
+///
+/// # Errors
+///
+/// - `Misspelled`: a line is missing or invalid.
+/// - `NoMemory`: an allocation failed.
 pub fn answer(out: &mut ExampleOutput, row: &Example<'_>) -> Result<()> {
     let alloc = out.alloc;
     let width = number_to(row.text("width"), MAX_WIDTH)?;

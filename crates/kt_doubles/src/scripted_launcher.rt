@@ -29,7 +29,8 @@ pub struct ScriptedLauncher<'a> {
     pub places: ChildSlots,
 }
 
-/// Returns the evidence of a child that passed.
+/// Returns the evidence of a child that passed: that of the interface for a body, and `Plain` for a
+/// cleanup.
 fn evidence_of(interface: Interface, role: Role) -> Evidence
     ensures { IsEvidence interface role result }
 {

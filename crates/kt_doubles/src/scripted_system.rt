@@ -29,15 +29,15 @@ pub struct ScriptedSystem<'a> {
     pub spawned: ExampleOutput,
 }
 
-/// Returns the scripted life of the child with index `number` in the order of starts.
+/// Returns the script of the child with index `number` in the order of starts.
 fn life_of(lives: &[Life], number: usize) -> Life {
     let ending = Polled::Exited(0);
     let life = lives.get(number).or(lives.last());
     life.copied().unwrap_or(Life { running: 0, ending })
 }
 
-/// Returns the status of a child in a poll, and counts the poll if the child runs. A child that
-/// wasn't started has exited with 99.
+/// Returns the result of a poll of a child, and counts the poll if the child is running. A child
+/// that wasn't started has exited with 99.
 fn status_of(lives: &[Life], children: &mut [(Child, u32)], child: Child) -> Polled {
     for (number, (known, told)) in children.iter_mut().enumerate() {
         if *known == child {
@@ -52,8 +52,8 @@ fn status_of(lives: &[Life], children: &mut [(Child, u32)], child: Child) -> Pol
     Polled::Exited(99)
 }
 
-/// Returns at most `limit` bytes of a scripted file, from the byte at index `from` on. Parts after
-/// the first have the scene's `PartFault`.
+/// Returns at most `limit` bytes of a scripted file, from the byte at index `from` on. Reads with
+/// `from` above 0 have the scene's `PartFault`.
 fn read(scene: &Scene, path: &Text, from: u64, limit: u64) -> Result<FileRead, OsFault>
     ensures { IsReadWithin limit result }
 {
@@ -97,7 +97,7 @@ impl<'a> ScriptedSystem<'a> {
         }
     }
 
-    /// Ends the log line of a call, and fails if the scene makes this call fail.
+    /// Counts a call and ends its log line. Fails if the scene makes this call fail.
     fn end_call(&mut self) -> Result<(), OsFault> {
         let call = self.calls;
         self.calls = call.saturating_add(1);

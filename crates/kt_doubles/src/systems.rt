@@ -20,7 +20,8 @@ use kt_sched::{Job, MAX_TIMEOUT, MAX_WIDTH, RunFault, SinkFault};
 use kt_suite::Program;
 use std::alloc::Global;
 
-/// The maximum number of bytes that a machine reads of a file: one more than a script may have.
+/// The maximum number of bytes that are read of a Kyuafile or a configuration: one more than either
+/// may have.
 const MACHINE_LIMIT: usize = 1_048_577;
 
 /// The result of a run over a driver.
@@ -95,7 +96,9 @@ fn push_left(out: &mut ExampleOutput, log: &str) {
     write!(out, "{killed} killed, {left} left");
 }
 
-/// Appends the part of a run that `word` selects.
+/// Appends the part of a run that `word` selects. `calls`, `words` and `watching` select calls, and
+/// `spawns` and `spawned` the started programs. `left` and `totals` select numbers, and other words
+/// parts of the entries.
 fn push_shown(out: &mut ExampleOutput, word: &str, run: &Driven<ScriptedSystem<'_>>) -> Result<()> {
     let (log, spawned) = (run.os.log.so_far()?, run.os.spawned.so_far()?);
     match word {
@@ -215,8 +218,8 @@ fn asked_for_list<O: Os + Drop>(
     }
 }
 
-/// Appends the result of a listing: its outcome with the length of the list or the error, or the
-/// cause of a failed start.
+/// Appends the result of a listing. It is the outcome with the length of the list or the error, or
+/// the cause of a failed start.
 fn push_listing(out: &mut ExampleOutput, listing: &Option<Listing>) {
     match listing {
         None => out.push("no driver"),
@@ -239,8 +242,8 @@ fn program_of(alloc: Global) -> Result<Program> {
     })
 }
 
-/// Lists the cases of a program over a scripted system. The example has the directory of the driver
-/// (`base PATH`) and the variables of the configuration (`variable NAME=VALUE`).
+/// Lists the cases of a program over a scripted system. The example has the directory below which
+/// the driver works (`base PATH`), and the suite's variables (`variable NAME=VALUE`).
 fn listed<'a>(
     row: &Example<'_>,
     scene: &'a Scene,
@@ -266,8 +269,9 @@ fn list(out: &mut ExampleOutput, row: &Example<'_>, scene: &Scene) -> Result<()>
     Ok(())
 }
 
-/// Returns the number of bytes that are read of an endless file, and `true` if more bytes follow. A
-/// system reads up to `limit`; without a limit, a machine reads. Returns `None` if the read fails.
+/// Returns the number of bytes that are read of an endless file, and `true` if more bytes follow.
+/// With `limit`, `read_front` reads the file as an output. Without it, `read_start` reads the file
+/// as a Kyuafile. Returns `None` if the read fails.
 fn front(alloc: Global, file: &mut EndlessReader, limit: Option<u64>) -> Option<(usize, bool)> {
     let Some(limit) = limit else {
         let bytes = read_start(alloc, file, MACHINE_LIMIT).ok()?;
@@ -279,8 +283,8 @@ fn front(alloc: Global, file: &mut EndlessReader, limit: Option<u64>) -> Option<
     }
 }
 
-/// Reads an endless file, and appends the result. The line `limit BYTES` makes a system read the
-/// file. Without that line, a machine reads the file.
+/// Reads an endless file, and appends the result. With the line `limit BYTES`, the file is read as
+/// an output, and otherwise as a Kyuafile.
 fn read(out: &mut ExampleOutput, row: &Example<'_>) -> Result<()> {
     let mut file = EndlessReader {
         piece: row.number("piece", 1)? as usize,
@@ -303,6 +307,11 @@ fn read(out: &mut ExampleOutput, row: &Example<'_>) -> Result<()> {
 }
 
 /// Executes an example of a scripted system. Its first line is `plan LETTERS`, `list` or `reader`.
+///
+/// # Errors
+///
+/// - `Misspelled`: a line is missing or invalid.
+/// - `NoMemory`: an allocation failed.
 pub fn answer(out: &mut ExampleOutput, row: &Example<'_>) -> Result<()> {
     let scene = scene_of(out.alloc, row)?;
     match row.first()?.word {
