@@ -1,4 +1,4 @@
-//! Command lines over a scripted platform, machine and system.
+//! Command lines over a scripted results host, scripted files and a scripted system.
 
 use crate::disk_tests;
 use crate::played::Played;
@@ -56,7 +56,8 @@ fn results_of(alloc: Global, row: &Example<'_>) -> Result<RefusingStore> {
     Ok(results)
 }
 
-/// Sets an error or a variable of a platform as a line requires. Other lines are ignored.
+/// Sets an error or an environment variable of a results host as a line requires. Other lines are
+/// ignored.
 fn take(platform: &mut ScriptedResultsHost<RefusingStore>, line: &ExampleLine<'_>) -> Result<()> {
     let alloc = platform.calls.alloc;
     match line.word {
@@ -70,7 +71,7 @@ fn take(platform: &mut ScriptedResultsHost<RefusingStore>, line: &ExampleLine<'_
     Ok(())
 }
 
-/// Creates the platform of an example.
+/// Creates the results host of an example.
 fn platform_of(alloc: Global, row: &Example<'_>) -> Result<ScriptedResultsHost<RefusingStore>> {
     let mut platform = ScriptedResultsHost::new(alloc, results_of(alloc, row)?);
     for line in row.entries.as_slice() {
@@ -166,8 +167,8 @@ fn push_each_failing(out: &mut ExampleOutput, row: &Example<'_>, scene: &Scene) 
 }
 
 /// Executes the command lines of an example, and appends the outputs and exit statuses. If
-/// `is_asked` is set, the calls on the platform precede them. With `writes each`, each write fails
-/// in turn, and the calls aren't appended.
+/// `is_asked` is set, the calls on the results host precede them. With `writes each`, each write
+/// fails in turn, and the calls aren't appended.
 fn done(out: &mut ExampleOutput, row: &Example<'_>, is_asked: bool) -> Result<()> {
     let scene = scene_of(out.alloc, row)?;
     let writes = row.text("writes").unwrap_or("0");
@@ -192,8 +193,14 @@ fn push_source(out: &mut ExampleOutput, text: &str) -> Result<()> {
     Ok(())
 }
 
-/// Executes the command lines of an example, and appends the outputs and exit statuses. Examples
-/// with `disk`, `piece TEXT` or `source HERE KYUAFILE` try a disk, a line buffer or a path.
+/// Executes the command lines of an example, and appends the outputs and exit statuses. The lines
+/// `disk KIND`, `piece TEXT` and `source HERE KYUAFILE` select an example of a failing disk, a line
+/// buffer or a path instead.
+///
+/// # Errors
+///
+/// - `Misspelled`: a line is missing or invalid.
+/// - `NoMemory`: an allocation outside the command failed.
 pub fn answer(out: &mut ExampleOutput, row: &Example<'_>) -> Result<()> {
     if let Some(disk) = row.text("disk") {
         return disk_tests::answer(out, row, disk);
@@ -206,7 +213,13 @@ pub fn answer(out: &mut ExampleOutput, row: &Example<'_>) -> Result<()> {
     }
 }
 
-/// Executes the command lines of an example, and appends the calls on the platform and the outputs.
+/// Executes the command lines of an example, and appends the calls on the results host, the outputs
+/// and the exit statuses.
+///
+/// # Errors
+///
+/// - `Misspelled`: a line is missing or invalid.
+/// - `NoMemory`: an allocation outside the command failed.
 pub fn opening(out: &mut ExampleOutput, row: &Example<'_>) -> Result<()> {
     done(out, row, true)
 }

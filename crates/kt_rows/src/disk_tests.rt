@@ -138,7 +138,7 @@ fn push_tested(out: &mut ExampleOutput, word: &str, tested: Option<&Tested>, lef
 struct Trial<'a> {
     /// The example.
     row: &'a Example<'a>,
-    /// The script of the machine and the systems.
+    /// The script of the host files and the systems.
     scene: &'a Scene,
     /// `true` if the log fails, `false` if the database file fails.
     in_log: bool,
@@ -275,6 +275,11 @@ impl Work for Trial<'_> {
 /// Executes command lines, the last of them `test`, on a disk that fails at each of its calls in
 /// turn. Appends the store calls at which the disk stopped `test`. For a `sound` disk, appends the
 /// output, the exit status and the runs that a crash leaves.
+///
+/// # Errors
+///
+/// - `Misspelled`: a line is missing or invalid, or the store can't be created or read.
+/// - `NoMemory`: an allocation outside the command failed.
 pub fn answer(out: &mut ExampleOutput, row: &Example<'_>, disk: &str) -> Result<()> {
     let scene = scene_of(out.alloc, row)?;
     let trial = Trial {

@@ -30,6 +30,10 @@ pub trait Work {
 /// Executes an operation on the database in `files`, and closes the files. Returns the result and
 /// the files, or `None` if the files can't be opened. The log is copied into the database file once
 /// it has `frames` frames.
+///
+/// # Errors
+///
+/// - `Misspelled` or `NoMemory`: `work` fails with this error.
 pub fn work_over<D: Disk + Drop, W: Work + Drop>(
     alloc: Global,
     files: Files<D>,
@@ -82,7 +86,13 @@ pub fn empty_files(alloc: Global) -> Files<Memory> {
     }
 }
 
-/// Creates database files in memory that contain a store of schema 1.
+/// Creates database files in memory that contain a store of schema 1. The log is copied into the
+/// database file once it has `frames` frames.
+///
+/// # Errors
+///
+/// - `Misspelled`: the store can't be created.
+/// - `NoMemory`: an allocation failed.
 pub fn old_files(alloc: Global, frames: usize) -> Result<Files<Memory>> {
     let empty = fused(empty_files(alloc), true, u64::MAX);
     let made = work_over(alloc, empty, frames, OldStore)?;
@@ -92,7 +102,8 @@ pub fn old_files(alloc: Global, frames: usize) -> Result<Files<Memory>> {
     Ok(Files { log, db })
 }
 
-/// Makes either the log or the database file fail after `calls` calls, and returns both files.
+/// Returns both files, of which one fails after `calls` calls: the log if `in_log` is set, and
+/// otherwise the database file.
 pub fn fused(files: Files<Memory>, in_log: bool, calls: u64) -> Files<Fuse<Memory>> {
     Files {
         log: Fuse::new(files.log, if in_log { calls } else { u64::MAX }),
@@ -175,7 +186,13 @@ impl Work for Telling {
     }
 }
 
-/// Simulates a crash, and returns the schema number and the runs that are left in the files.
+/// Simulates a crash, and returns the schema number and the runs that are left in the files. The
+/// schema number is 0 if there is none.
+///
+/// # Errors
+///
+/// - `Misspelled`: the files can't be opened, or the results tables can't be attached or read.
+/// - `NoMemory`: an allocation outside the database failed.
 pub fn left_by<D: Crash + Drop>(
     alloc: Global,
     mut files: Files<D>,

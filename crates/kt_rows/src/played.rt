@@ -1,4 +1,5 @@
-//! Executes each command line as a process over a scripted platform, machine and system.
+//! Executes each command line as a process over a scripted results host, scripted files and a
+//! scripted system.
 
 use crate::printing::push_page;
 use crate::scripted_files::ScriptedFiles;
@@ -12,9 +13,10 @@ use kt_store::ResultStore;
 use std::alloc::Global;
 use std::io::Write;
 
-/// The state after command lines: the platform, both outputs and the exit statuses.
+/// A state after command lines: the results host, both outputs, the exit statuses and the calls on
+/// systems.
 pub struct Played<R: ResultStore + Drop> {
-    /// The platform, which has the results store.
+    /// The results host, which has the results store.
     pub platform: ScriptedResultsHost<R>,
     /// Standard output.
     pub page: ScriptedWriter,
@@ -38,8 +40,8 @@ impl<R: ResultStore + Drop> Drop for Played<R> {
     }
 }
 
-/// Executes a command over a new system, and returns its exit status and the machine. The calls on
-/// the system are appended to `log`.
+/// Executes a command over a new system, and returns its exit status and the host files. The calls
+/// on the system are appended to `log`.
 fn carried<'a, R: ResultStore + Drop, W: Write, E: Write>(
     log: &mut ExampleOutput,
     scene: &'a Scene,

@@ -37,7 +37,8 @@ fn print_whole(pieces: &[Vec<u8>], to_lines: bool, out: &mut ScriptedWriter) -> 
     }
 }
 
-/// Returns what is wrong with a writer after one of its writes failed, or `None`.
+/// Returns what is wrong with a writer after one of its writes failed, or `None`. The failure must
+/// be reported, no write may follow it, and the written bytes must be a proper prefix of `whole`.
 fn wrong(whole: &[u8], cut: &ScriptedWriter, well: bool) -> Result<Option<&'static str>, NoMemory> {
     let kept = cut.kept()?;
     if well {
@@ -86,6 +87,10 @@ fn push_wrong(
 /// Prints pieces into several writers, and appends the text after a line for each error. The
 /// writers accept all bytes, 7 bytes or 1 byte per write, and may fail at one of the first writes.
 /// If `to_lines` is set, a line buffer precedes each writer.
+///
+/// # Errors
+///
+/// - `NoMemory`: an allocation failed.
 pub fn push_printed(out: &mut ExampleOutput, pieces: &[Vec<u8>], to_lines: bool) -> Result<()> {
     let mut page = ScriptedWriter::new(out.alloc);
     print_whole(pieces, to_lines, &mut page);
@@ -100,6 +105,11 @@ pub fn push_printed(out: &mut ExampleOutput, pieces: &[Vec<u8>], to_lines: bool)
 /// Prints the pieces of an example, `piece TEXT` each, to a line buffer, and appends the written
 /// text. With `unflushed` the buffer isn't flushed, and with `held` it doesn't write complete lines
 /// either.
+///
+/// # Errors
+///
+/// - `Misspelled`: an escape is invalid.
+/// - `NoMemory`: an allocation failed.
 pub fn push_pieces(out: &mut ExampleOutput, row: &Example<'_>) -> Result<()> {
     let mut pieces = Vec::new(out.alloc);
     for line in row.entries.as_slice() {
@@ -118,6 +128,10 @@ pub fn push_pieces(out: &mut ExampleOutput, row: &Example<'_>) -> Result<()> {
 }
 
 /// Appends the text that was written to `page`, and `(cut)` if its last line is incomplete.
+///
+/// # Errors
+///
+/// - `NoMemory`: an allocation failed.
 pub fn push_page(out: &mut ExampleOutput, page: &ScriptedWriter) -> Result<()> {
     let bytes = page.kept()?;
     out.bytes(bytes);

@@ -6,7 +6,7 @@ use kt_examples::{
 };
 use std::alloc::Global;
 
-/// Appends a verdict's kind, and `good` or `bad`.
+/// Appends a verdict's kind, and `good` if it counts as a success or else `bad`.
 fn push_kind(out: &mut ExampleOutput, word: &str) -> Result<()> {
     let kind = kind_of(word)?;
     let quality = if kind.good() { "good" } else { "bad" };
@@ -67,9 +67,14 @@ fn push_told(out: &mut ExampleOutput, row: &Example<'_>, word: &str, bytes: Vec<
     }
 }
 
-/// Executes an example of a kind, a number, a reason or bytes, and appends the text. It has one of
-/// the lines `kind WORD`, `number N`, `words TEXT`, `nothing`, `bytes TEXT`, `send TEXT` and
+/// Executes an example of a verdict's kind, a number, a reason or bytes, and appends the output.
+/// The first line is `kind WORD`, `number N`, `words TEXT`, `nothing`, `bytes TEXT`, `send TEXT` or
 /// `emit TEXT`.
+///
+/// # Errors
+///
+/// - `Misspelled`: a line is missing or invalid.
+/// - `NoMemory`: an allocation failed.
 pub fn answer(out: &mut ExampleOutput, row: &Example<'_>) -> Result<()> {
     let ExampleLine { word, text } = row.first()?;
     match word {

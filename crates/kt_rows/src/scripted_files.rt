@@ -7,7 +7,7 @@ use kt_doubles::{Scene, ask_too_much};
 use kt_suite::ReadFault;
 use std::alloc::Global;
 
-/// The maximum number of bytes that are read of a file.
+/// The maximum number of bytes that are read of a file: one more than a Kyuafile may have.
 const READ_LIMIT: usize = 1_048_577;
 
 /// A `HostFiles` with the files, programs and clock of a scene.

@@ -14,18 +14,18 @@ pub struct ScriptedResultsHost<R: ResultStore + Drop> {
     pub not_opened: Option<StoreFault>,
     /// The error of closing the results store, if it fails.
     pub not_closed: Option<StoreFault>,
-    /// The error of reading the surroundings, if it fails.
+    /// The error of reading the process environment (`ProcessEnv`), if it fails.
     pub not_found: Option<DriverFault>,
     /// The value of `PATH`, if it is set.
     pub path: Option<Text>,
     /// The value of `USER`, if it is set.
     pub user: Option<Text>,
-    /// The calls, separated by commas: `open FILE`, `process_env` and `close`.
+    /// The calls, separated by commas: `open FILE`, `close`, and `surroundings` for `process_env`.
     pub calls: ExampleOutput,
 }
 
 impl<R: ResultStore + Drop> ScriptedResultsHost<R> {
-    /// Creates a platform with the results store `results`, whose calls don't fail.
+    /// Creates a results host with the closed results store `results`. Its calls don't fail.
     pub fn new(alloc: Global, results: R) -> ScriptedResultsHost<R> {
         ScriptedResultsHost {
             results: Some(results),
@@ -49,7 +49,7 @@ impl<R: ResultStore + Drop> ScriptedResultsHost<R> {
         Ok(())
     }
 
-    /// Returns the surroundings of the process: the directory `/here`, and the variables `PATH` and
+    /// Returns the process environment: the working directory `/here`, and the variables `PATH` and
     /// `USER`.
     fn around(&self) -> Result<ProcessEnv, NoMemory> {
         let here = Text::from_str(self.calls.alloc, "/here")?;

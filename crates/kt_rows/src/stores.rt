@@ -181,6 +181,11 @@ fn over_memory(
 
 /// Executes store calls over a database in memory, by SQL and through its trees, and appends the
 /// common output. After the line `memory`, the calls are executed over a store in memory alone.
+///
+/// # Errors
+///
+/// - `Misspelled`: a line is invalid, or an SQL statement fails.
+/// - `NoMemory`: an allocation outside the store failed.
 pub fn answer(out: &mut ExampleOutput, row: &Example<'_>) -> Result<()> {
     let lines = row.entries.as_slice();
     if let Some((first, calls)) = lines.split_first() {

@@ -5,6 +5,11 @@ use std::alloc::Global;
 use std::slice;
 
 /// Splits a command line into arguments at white space, and decodes the escapes of each argument.
+///
+/// # Errors
+///
+/// - `Misspelled`: an escape is invalid, or an argument isn't UTF-8.
+/// - `NoMemory`: an allocation failed.
 pub fn words_of(alloc: Global, line: &str) -> Result<Vec<String>> {
     let mut words = Vec::new(alloc);
     for word in line.split_whitespace() {
@@ -14,6 +19,11 @@ pub fn words_of(alloc: Global, line: &str) -> Result<Vec<String>> {
 }
 
 /// Parses a command line, and returns the command or the error in its arguments.
+///
+/// # Errors
+///
+/// - `Misspelled`: an escape is invalid, or an argument isn't UTF-8.
+/// - `NoMemory`: an allocation outside `read_command` failed.
 pub fn read_line(alloc: Global, line: &str) -> Result<Result<Command, CommandFault>> {
     let words = words_of(alloc, line)?;
     Ok(read_command(alloc, words.as_slice()))
@@ -95,6 +105,11 @@ fn all_words(alloc: Global, row: &Example<'_>) -> Result<Vec<String>> {
 
 /// Parses the command line of an example, and appends the command or the error. The example has
 /// `line WORDS`, and may have `times N WORD` for N more arguments.
+///
+/// # Errors
+///
+/// - `Misspelled`: a line is missing or invalid.
+/// - `NoMemory`: an allocation outside `read_command` failed.
 pub fn answer(out: &mut ExampleOutput, row: &Example<'_>) -> Result<()> {
     match read_command(out.alloc, all_words(out.alloc, row)?.as_slice()) {
         Ok(command) => push_command(out, &command),
