@@ -3,7 +3,7 @@ use Rattle.std.proofs.Common.{Result, Ok, Err, ◌≡◌, ◌⊎◌, ℕ, List, 
 use Rattle.kt_atflist.proofs.Common.{Phrase, Reason, Fixed, Counted, ended_reason, fault_phrase, IsRead, no_list, Lists, unstarted, unreadable, too_long, read, Outcome, IsOutOfMemory, fault_at, IsAnswer, Listing, NoMemory, ListFault, CaseDef}
 use Rattle.kt_base.specs.declared.child.Outcome.{Outcome as Ending}
 use Rattle.kt_base.specs.declared.phrase.Phrase.TheVariants.{ListUnreadable, ListTooLong}
-use Rattle.kt_base.specs.declared.child.Refused.{Refused}
+use Rattle.kt_base.specs.declared.failed_start.Refused.{Refused}
 use Rattle.kt_base.specs.Reasons.{refused_reason}
 use Rattle.kt_atflist.specs.Listings.{listed, unlisted}
 use Rattle.kt_atflist.specs.declared.listing.ListBytes.{ListBytes}

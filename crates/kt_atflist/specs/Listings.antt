@@ -7,7 +7,7 @@ use Rattle.kt_base.specs.declared.phrase.Phrase.{Phrase}
 use Rattle.kt_base.specs.declared.phrase.Phrase.TheVariants.{ListTimedOut, ListNotWaitedFor, NoList, ListUnreadable, ListTooLong, ListBadHeader, ListBadLine, ListNoIdent, ListRepeatedKey, ListRepeatedIdent, ListUnknownKey, ListBadValue, ListEmpty, ListNotUtf8}
 use Rattle.kt_base.specs.declared.verdict.Reason.{Reason}
 use Rattle.kt_base.specs.declared.verdict.Reason.TheVariants.{Fixed, Ended, Counted}
-use Rattle.kt_base.specs.declared.child.Refused.{Refused}
+use Rattle.kt_base.specs.declared.failed_start.Refused.{Refused}
 use Rattle.kt_base.specs.Reasons.{refused_reason}
 use Rattle.kt_atflist.specs.declared.listing.ListBytes.{ListBytes}
 use Rattle.kt_atflist.specs.declared.listing.ListBytes.TheVariants as bytes

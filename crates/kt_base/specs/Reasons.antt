@@ -7,8 +7,8 @@ use Rattle.kt_base.specs.declared.phrase.Phrase.{Phrase}
 use Rattle.kt_base.specs.declared.phrase.Phrase.TheVariants.{OtherExitCode, OtherSignal, TestsFailed, MemoryNeeded, DiskNeeded, NoDirectory, NoOutput, NotSpawned, NoMemoryToStart}
 use Rattle.kt_base.specs.declared.verdict.Reason.{Reason}
 use Rattle.kt_base.specs.declared.verdict.Reason.TheVariants.{Nothing, Fixed, Ended, Counted, Owned}
-use Rattle.kt_base.specs.declared.child.Refused.{Refused}
-use Rattle.kt_base.specs.declared.child.Refused.TheVariants.{Directory, Output, Spawn, Memory}
+use Rattle.kt_base.specs.declared.failed_start.Refused.{Refused}
+use Rattle.kt_base.specs.declared.failed_start.Refused.TheVariants.{Directory, Output, Spawn, Memory}
 use Rattle.kt_base.specs.Phrases.{phrase_text}
 
 -- `core_text core`: the text that follows the number of a signal: a remark on the core dump if

@@ -1,5 +1,3 @@
-use crate::{Phrase, Reason};
-
 /// An interface by which a test program reports its results, see kyuafile(5).
 #[derive(Clone, Copy)]
 pub enum Interface {
@@ -31,34 +29,4 @@ pub enum Outcome {
     TimedOut,
     /// The system failed to report the outcome.
     WaitFailed,
-}
-
-/// A cause of a failed start of a child process.
-#[derive(Clone, Copy, Debug)]
-pub enum Refused {
-    /// The work directory could not be created.
-    Directory,
-    /// The files for the output could not be created.
-    Output,
-    /// The system failed to start the program.
-    Spawn,
-    /// An allocation failed.
-    Memory,
-}
-
-impl Refused {
-    ghost use Rattle.std.specs.Prelude.{◌≡◌};
-    ghost use Rattle.kt_base.specs.Common.{refused_reason};
-
-    /// Returns the reason of a `broken` verdict: a child process failed to start for this cause.
-    pub fn reason(self) -> Reason
-        ensures { result ≡ refused_reason self }
-    {
-        Reason::Fixed(match self {
-            Refused::Directory => Phrase::NoDirectory,
-            Refused::Output => Phrase::NoOutput,
-            Refused::Spawn => Phrase::NotSpawned,
-            Refused::Memory => Phrase::NoMemoryToStart,
-        })
-    }
 }

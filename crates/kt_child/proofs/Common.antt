@@ -11,7 +11,7 @@ pub use Rattle.std.specs.Str.{bytes_eq}
 unfoldable pub use Rattle.std.specs.Str.{chars}
 pub use Rattle.kt_child.specs.Types.{Body, CaseAttempt, Chain, Child, Cleanup, Ended, FileRead, Job, OsFault, Outcome, Paths, Polled, Role, Spawning, StartAnswer, Watch, Watched}
 pub use Rattle.kt_base.specs.Utf8.{utf8}
-pub use Rattle.kt_base.specs.declared.child.Refused.{Refused}
+pub use Rattle.kt_base.specs.declared.failed_start.Refused.{Refused}
 pub use Rattle.kt_sched.specs.Children.{IsEvidence, pending_after_end, running_after_end, same_role, with_cleanup_declared}
 pub use Rattle.kt_sched.specs.Trace.{End, Leads, NoEvent, Start, Then, Trace}
 pub use Rattle.kt_child.specs.Driving.Starting.{Ask, Begun, SetUpAs, Started, Tried, cause_of, child_asks, open_ask, spawn_ask, spawned, work_ask}

@@ -1,13 +1,11 @@
-ghost use Rattle.std.specs.Prelude.{◌≡◌, ◌≤◌, [], List, OnOk, OnErr, IfOk, Ok, Err, unwrap_or, codes, chars};
-ghost use Rattle.kt_config.specs.Common.{option_copied, Spells, Stmt, Definition, ConfigFault, largest_width, definition_named, Values, variables_of, Holds, Adds, outcome_of, IsDue, IsRead, IfFault, Answers, Refuses, Becomes};
+ghost use Rattle.std.specs.Prelude.{◌≡◌, ◌≤◌, [], OnOk, OnErr, Ok, Err, unwrap_or, codes, chars};
+ghost use Rattle.kt_config.specs.Common.{option_copied, Definition, ConfigFault, largest_width, definition_named, Values, variables_of, Holds, Adds, IfFault, Becomes};
 
 use crate::meaning::{Definition, definition_of};
-use crate::reading::{read_script, script_fault};
 use crate::suites::Suites;
 use crate::width::Width;
 use crate::{ConfigFault, SuiteVariables};
 use kt_base::{NoMemory, Text};
-use kt_script::parse;
 use std::alloc::Global;
 use std::marker::Model;
 
@@ -156,34 +154,5 @@ impl Config {
         let definition = definition_of(parts.as_slice(), value.copy()?)??;
         self.define(definition)?;
         Ok(())
-    }
-
-    /// Parses `text` as a configuration file (kyua.conf(5) of this profile).
-    ///
-    /// # Errors
-    ///
-    /// The fault of the script comes first, then the fault of the first faulty statement.
-    ///
-    /// - `Script`: `text` is not a script of literals.
-    /// - `NoSyntax`: the first statement is missing or is not `syntax(2)`.
-    /// - `NotAssignment`: a later statement is a call.
-    /// - `UnknownVariable`: an assignment does not name a variable.
-    /// - `BadValue`: a variable does not accept its value.
-    /// - `NoMemory`: an allocation fails.
-    pub fn read(alloc: Global, text: &[u8]) -> Result<Config, ConfigFault>
-        // On success, the text is a configuration file with the returned values.
-        ensures accepted { IfOk result (λ config. IsRead text.now config) }
-        // Each configuration file is accepted, unless an allocation fails.
-        ensures only { (stmts : List Stmt) → (definitions : List Definition) → Spells text.now stmts
-            → outcome_of stmts ≡ Ok definitions → Answers result definitions }
-        // On another error than a failed allocation, the text has the returned fault.
-        ensures refused { IfFault result (λ fault. IsDue text.now fault) }
-        // A text with a fault is rejected with that fault, unless an allocation fails.
-        ensures due { (fault : ConfigFault) → IsDue text.now fault → Refuses result fault }
-    {
-        match parse(alloc, text) {
-            Err(fault) => Err(script_fault(fault)),
-            Ok(stmts) => read_script(alloc, stmts.as_slice())?,
-        }
     }
 }

@@ -1,10 +1,10 @@
-ghost use Rattle.std.specs.Prelude.{◌≡◌, IfOk, Err, MatchOption};
-ghost use Rattle.kt_config.specs.Common.{is_version, is_opening, meaning_of, definitions_in, outcome_of, fault_of_script, Becomes, Gives};
+ghost use Rattle.std.specs.Prelude.{◌≡◌, IfOk, Err, MatchOption, List, Ok};
+ghost use Rattle.kt_config.specs.Common.{is_version, is_opening, meaning_of, definitions_in, outcome_of, fault_of_script, Becomes, Gives, Spells, Stmt, Definition, ConfigFault, IsDue, IsRead, IfFault, Answers, Refuses};
 
 use crate::meaning::{Definition, definition_of};
 use crate::{Config, ConfigFault};
 use kt_base::NoMemory;
-use kt_script::{Action, Arg, Literal, ScriptFault, Stmt};
+use kt_script::{Action, Arg, Literal, ScriptFault, Stmt, parse};
 use std::alloc::Global;
 
 /// Converts the fault of a script to the fault of a configuration file.
@@ -103,6 +103,37 @@ pub fn read_script(alloc: Global, stmts: &[Stmt]) -> Result<Result<Config, Confi
                 return read_statements(alloc, rest);
             }
             Ok(Err(ConfigFault::NoSyntax))
+        }
+    }
+}
+
+impl Config {
+    /// Parses `text` as a configuration file (kyua.conf(5) of this profile).
+    ///
+    /// # Errors
+    ///
+    /// The fault of the script comes first, then the fault of the first faulty statement.
+    ///
+    /// - `Script`: `text` is not a script of literals.
+    /// - `NoSyntax`: the first statement is missing or is not `syntax(2)`.
+    /// - `NotAssignment`: a later statement is a call.
+    /// - `UnknownVariable`: an assignment does not name a variable.
+    /// - `BadValue`: a variable does not accept its value.
+    /// - `NoMemory`: an allocation fails.
+    pub fn read(alloc: Global, text: &[u8]) -> Result<Config, ConfigFault>
+        // On success, the text is a configuration file with the returned values.
+        ensures accepted { IfOk result (λ config. IsRead text.now config) }
+        // Each configuration file is accepted, unless an allocation fails.
+        ensures only { (stmts : List Stmt) → (definitions : List Definition) → Spells text.now stmts
+            → outcome_of stmts ≡ Ok definitions → Answers result definitions }
+        // On another error than a failed allocation, the text has the returned fault.
+        ensures refused { IfFault result (λ fault. IsDue text.now fault) }
+        // A text with a fault is rejected with that fault, unless an allocation fails.
+        ensures due { (fault : ConfigFault) → IsDue text.now fault → Refuses result fault }
+    {
+        match parse(alloc, text) {
+            Err(fault) => Err(script_fault(fault)),
+            Ok(stmts) => read_script(alloc, stmts.as_slice())?,
         }
     }
 }

@@ -2,9 +2,9 @@
 
 use crate::answer::ExampleOutput;
 use crate::escapes::unescaped;
-use crate::numbers::with_numbered;
+use crate::example_fault::{ExampleFault, Result, asked, both, due, halves};
 use crate::properties::{push_props, set_known};
-use crate::row::{Example, ExampleFault, Result, append, asked, both, due, halves};
+use crate::row::{Example, append, with_numbered};
 use crate::verdicts::{ending_of, push_reason, refused_of};
 use kt_atflist::{CaseDef, ListBytes, Listing, cases, parse_list};
 use kt_base::{Bytes, Interface, Items, Verdict};

@@ -1,8 +1,8 @@
 use crate::answer::ExampleOutput;
 use crate::escapes::{text_of, unescaped};
-use crate::numbers::with_numbered;
+use crate::example_fault::{ExampleFault, Result, both, halves};
 use crate::retried;
-use crate::row::{Example, ExampleFault, ExampleLine, Result, both, halves, pair_of};
+use crate::row::{Example, ExampleLine, pair_of, with_numbered};
 use kt_base::Text;
 use kt_config::{Config, ConfigFault, SuiteVariables};
 

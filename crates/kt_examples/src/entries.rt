@@ -4,9 +4,8 @@ ghost use Rattle.std.specs.Prelude.{◌≤◌, IfOk};
 
 use crate::answer::ExampleOutput;
 use crate::escapes::{lossy_of, unescaped};
-use crate::row::{
-    Example, ExampleFault, ExampleLine, Result, both, due, number_in, pairs_of, push_made, text_in,
-};
+use crate::example_fault::{ExampleFault, Result, both, due, push_made};
+use crate::row::{Example, ExampleLine, number_in, pairs_of, text_in};
 use crate::verdicts::push_verdict;
 use kt_base::{Bytes, Entry, Items, Kind, LATEST_MOMENT, Output, Run, Verdict};
 use std::alloc::Global;

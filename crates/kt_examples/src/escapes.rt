@@ -1,4 +1,4 @@
-use crate::row::{ExampleFault, Result, asked, due};
+use crate::example_fault::{ExampleFault, Result, asked, due};
 use kt_base::{Text, lossy};
 use std::alloc::Global;
 

@@ -6,6 +6,7 @@ mod case_lists;
 mod configurations;
 mod entries;
 mod escapes;
+mod example_fault;
 mod numbers;
 mod properties;
 mod reports;
@@ -21,12 +22,10 @@ pub use answer::ExampleOutput;
 pub use case_lists::HEADER;
 pub use entries::{content_at, is_content, kind_of, push_entries, storable_entry};
 pub use escapes::{lossy_of, text_of, unescaped};
+pub use example_fault::{ExampleFault, Result, asked, both, due, halves, push_made};
 pub use numbers::{count, number, number_to, numbered, numbers_of};
 pub use properties::push_props;
-pub use row::{
-    Example, ExampleFault, ExampleLine, Result, append, asked, both, due, halves, number_in,
-    pairs_of, push_made,
-};
+pub use row::{Example, ExampleLine, append, number_in, pairs_of};
 pub use row_file::read_rows;
 pub use scripted_writer::{ScriptedWriter, WriteFault};
 pub use verdicts::{ending_of, push_reason, push_verdict};

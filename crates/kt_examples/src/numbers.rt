@@ -1,6 +1,6 @@
 ghost use Rattle.std.specs.Prelude.{IfOk, ◌≤◌};
 
-use crate::row::{Example, ExampleFault, Result, append, asked, due, halves, push_made};
+use crate::example_fault::{ExampleFault, Result, asked, due, halves, push_made};
 use std::alloc::Global;
 
 /// Parses a number from 0 to 2^64 - 1. Allocates nothing.
@@ -65,32 +65,6 @@ pub fn numbered(alloc: Global, raw: &str) -> Result<Vec<String>> {
         push_made(&mut texts, numbered_text(alloc, text, number))?;
     }
     Ok(texts)
-}
-
-/// Parses `COUNT TEXT`, and appends COUNT copies of the text, with their escapes decoded. Each `#`
-/// in a copy is replaced by the copy's number, from 0.
-fn append_numbered(alloc: Global, bytes: &mut Vec<u8>, raw: &str) -> Result<()> {
-    for text in numbered(alloc, raw)?.as_slice() {
-        append(alloc, bytes, text.as_str())?;
-    }
-    Ok(())
-}
-
-/// Returns `bytes`, to which each line `numbered COUNT TEXT` of the example appends COUNT copies of
-/// its text. Each `#` in a copy is replaced by the copy's number, from 0.
-///
-/// # Errors
-///
-/// - `Misspelled`: a line or an escape is invalid, or `bytes` is this error.
-/// - `NoMemory`: an allocation failed, or `bytes` is this error.
-pub fn with_numbered(alloc: Global, bytes: Result<Vec<u8>>, row: &Example<'_>) -> Result<Vec<u8>> {
-    let mut bytes = bytes?;
-    for line in row.entries.as_slice() {
-        if line.word == "numbered" {
-            append_numbered(alloc, &mut bytes, line.text)?;
-        }
-    }
-    Ok(bytes)
 }
 
 /// Returns the number in `text`, from 1 to `most`, or 1 without a text. Allocates nothing.

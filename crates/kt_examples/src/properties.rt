@@ -1,8 +1,9 @@
 use crate::answer::ExampleOutput;
 use crate::escapes::text_of;
+use crate::example_fault::{ExampleFault, Result, asked, both, due};
 use crate::numbers::{numbered, set_number};
 use crate::retried;
-use crate::row::{Example, ExampleFault, ExampleLine, Result, asked, both, due, pair_of};
+use crate::row::{Example, ExampleLine, pair_of};
 use crate::verdicts::push_reason;
 use kt_base::{Text, Variables, Verdict};
 use kt_config::{Config, ConfigFault};

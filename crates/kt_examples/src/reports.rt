@@ -1,6 +1,7 @@
 use crate::answer::ExampleOutput;
 use crate::entries::{kinds_of, run_of};
-use crate::row::{Example, ExampleFault, Result};
+use crate::example_fault::{ExampleFault, Result};
+use crate::row::Example;
 use crate::scripted_writer::ScriptedWriter;
 use kt_base::Run;
 use kt_report::ReportFault;

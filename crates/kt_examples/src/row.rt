@@ -1,6 +1,7 @@
 use crate::escapes::{lossy_of, unescaped};
-use crate::numbers::number;
-use kt_base::{NoMemory, Variable, Variables};
+use crate::example_fault::{Result, asked, both, due};
+use crate::numbers::{number, numbered};
+use kt_base::{Variable, Variables};
 use std::alloc::Global;
 
 /// A line of input: its first word is the keyword, and the rest is the text.
@@ -21,79 +22,6 @@ pub struct Example<'a> {
     pub entries: Vec<ExampleLine<'a>>,
     /// The lines of the expected output. Their escapes are not decoded.
     pub wanted: Vec<&'a str>,
-}
-
-/// The result of a function that parses or runs an example.
-pub type Result<T, E = ExampleFault> = std::result::Result<T, E>;
-
-/// Errors returned by [`push_answer`](crate::push_answer) and the readers of examples.
-#[derive(Clone, Copy)]
-pub enum ExampleFault {
-    /// An allocation failed.
-    NoMemory(NoMemory),
-    /// The example doesn't have the format of its subject. The text describes the error.
-    Misspelled(&'static str),
-}
-
-impl ExampleFault {
-    /// Returns the message that is printed after the number of the example's line.
-    pub fn text(self) -> &'static str {
-        match self {
-            ExampleFault::NoMemory(_) => "out of memory",
-            ExampleFault::Misspelled(text) => text,
-        }
-    }
-}
-
-/// Converts each error type of a failed allocation that kt_base can convert to `NoMemory`.
-impl<E: Drop> From<E> for ExampleFault
-where
-    NoMemory: From<E>,
-{
-    fn from(refusal: E) -> ExampleFault {
-        ExampleFault::NoMemory(NoMemory::from(refusal))
-    }
-}
-
-/// Returns the value of `made`, with a failed allocation converted to an `ExampleFault`. Allocates
-/// nothing.
-///
-/// # Errors
-///
-/// - `NoMemory`: `made` is an error.
-pub fn asked<T: Drop, E: Drop>(made: Result<T, E>) -> Result<T>
-where
-    NoMemory: From<E>,
-{
-    Ok(made?)
-}
-
-/// Returns the value in `found`, which the format requires. Allocates nothing.
-///
-/// # Errors
-///
-/// - `Misspelled`: `found` is `None`. The error's text is `fault`.
-pub fn due<T>(found: Option<T>, fault: &'static str) -> Result<T> {
-    found.ok_or(ExampleFault::Misspelled(fault))
-}
-
-/// Returns the parts of `text` before and after the first `sign`. Allocates nothing.
-///
-/// # Errors
-///
-/// - `Misspelled`: `text` doesn't contain `sign`. The error's text is `fault`.
-pub fn halves<'a>(text: &'a str, sign: &str, fault: &'static str) -> Result<(&'a str, &'a str)> {
-    text.split_once(sign).ok_or(ExampleFault::Misspelled(fault))
-}
-
-/// Appends `value` to `values`, unless it is an error.
-///
-/// # Errors
-///
-/// - `Misspelled` or `NoMemory`: `value` is this error.
-/// - `NoMemory`: the allocation for `values` failed.
-pub fn push_made<T: Drop>(values: &mut Vec<T>, value: Result<T>) -> Result<()> {
-    asked(values.push(value?))
 }
 
 /// Returns the text of the first of `lines` with the keyword `word`, or `None` without such a line.
@@ -121,15 +49,6 @@ pub fn number_in(lines: &[ExampleLine<'_>], word: &str, other: u64) -> Result<u6
 /// - `NoMemory`: an allocation failed.
 pub fn append(alloc: Global, bytes: &mut Vec<u8>, raw: &str) -> Result<()> {
     asked(bytes.extend_from_slice(&unescaped(alloc, raw)?))
-}
-
-/// Returns the values of two results as a pair. Allocates nothing.
-///
-/// # Errors
-///
-/// - `Misspelled` or `NoMemory`: the error of `first`, or else that of `second`.
-pub fn both<A: Drop, B: Drop>(first: Result<A>, second: Result<B>) -> Result<(A, B)> {
-    Ok((first?, second?))
 }
 
 /// Parses `NAME=VALUE`, split at the first `=`, and decodes the escapes of both parts. The value is
@@ -218,4 +137,30 @@ impl<'a> Example<'a> {
     pub fn wanted(&self, alloc: Global) -> Result<Vec<u8>> {
         unescaped(alloc, self.wanted.as_slice().join(alloc, "\n")?.as_str())
     }
+}
+
+/// Parses `COUNT TEXT`, and appends COUNT copies of the text, with their escapes decoded. Each `#`
+/// in a copy is replaced by the copy's number, from 0.
+fn append_numbered(alloc: Global, bytes: &mut Vec<u8>, raw: &str) -> Result<()> {
+    for text in numbered(alloc, raw)?.as_slice() {
+        append(alloc, bytes, text.as_str())?;
+    }
+    Ok(())
+}
+
+/// Returns `bytes`, to which each line `numbered COUNT TEXT` of the example appends COUNT copies of
+/// its text. Each `#` in a copy is replaced by the copy's number, from 0.
+///
+/// # Errors
+///
+/// - `Misspelled`: a line or an escape is invalid, or `bytes` is this error.
+/// - `NoMemory`: an allocation failed, or `bytes` is this error.
+pub fn with_numbered(alloc: Global, bytes: Result<Vec<u8>>, row: &Example<'_>) -> Result<Vec<u8>> {
+    let mut bytes = bytes?;
+    for line in row.entries.as_slice() {
+        if line.word == "numbered" {
+            append_numbered(alloc, &mut bytes, line.text)?;
+        }
+    }
+    Ok(bytes)
 }

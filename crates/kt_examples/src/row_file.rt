@@ -1,4 +1,5 @@
-use crate::row::{Example, ExampleFault, ExampleLine, Result, asked};
+use crate::example_fault::{ExampleFault, Result, asked};
+use crate::row::{Example, ExampleLine};
 use std::alloc::Global;
 
 /// Splits a line of input at its first space into the keyword and the text.

@@ -1,5 +1,6 @@
 use crate::answer::ExampleOutput;
-use crate::row::{Example, Result};
+use crate::example_fault::Result;
+use crate::row::Example;
 use kt_script::{Action, Arg, Literal, Stmt, parse};
 
 /// Appends a literal between `before` and `after`, with quotes if it is a text.

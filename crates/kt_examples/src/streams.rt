@@ -2,7 +2,8 @@
 
 use crate::answer::ExampleOutput;
 use crate::escapes::unescaped;
-use crate::row::{Example, Result, asked};
+use crate::example_fault::{Result, asked};
+use crate::row::Example;
 use kt_base::NoMemory;
 use kt_claim::{Claim, ClaimReader, Tap, TapReader, read_claim, read_tap};
 use std::alloc::Global;

@@ -1,6 +1,7 @@
 use crate::answer::ExampleOutput;
 use crate::escapes::unescaped;
-use crate::row::{Example, ExampleFault, Result, asked, both, due};
+use crate::example_fault::{ExampleFault, Result, asked, both, due};
+use crate::row::Example;
 use crate::scripted_writer::ScriptedWriter;
 use kt_base::{Kind, Outcome, Refused, Text, Verdict};
 use kt_claim::{Claim, Evidence, Tap, TapFault, read_claim, read_tap};

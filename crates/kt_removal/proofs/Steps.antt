@@ -1,7 +1,7 @@
 -- Facts that each removal step keeps.
 use Rattle.std.proofs.Common.{◌∙◌, List, ℕ, sym, inl, inr}
 use Rattle.kt_removal.specs.Common.{MayEmpty, Stays}
-use Rattle.kt_removal.specs.declared.removals.Removals.{Removals}
+use Rattle.kt_removal.specs.declared.state.Removals.{Removals}
 
 -- `Stays` is transitive.
 pub stays_then : (a b c : Removals) → Stays a b → Stays b c → Stays a c

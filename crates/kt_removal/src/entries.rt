@@ -1,7 +1,7 @@
 ghost use Rattle.std.specs.Prelude.{◌≡◌, ◌++◌, ◌∷◌, IfOk};
 ghost use Rattle.kt_removal.specs.Common.{MayEmpty, MayRemove, is_name, moved_dir, utf8};
 
-use crate::Removals;
+use crate::state::Removals;
 use kt_base::{Bytes, NoMemory, Text};
 use std::alloc::Global;
 use std::fs::Permissions;

@@ -8,6 +8,8 @@ mod identity;
 mod named;
 mod numbers;
 mod removals;
+mod state;
 
 pub use numbers::numbered_path;
-pub use removals::{Removals, rest};
+pub use removals::rest;
+pub use state::Removals;

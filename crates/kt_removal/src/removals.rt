@@ -5,6 +5,7 @@ ghost use Rattle.kt_removal.specs.Common.{IsCaseOf, IsHeld, IsMoved, MayEmpty, M
 use crate::bounds::Bound;
 use crate::cases::is_case;
 use crate::identity::Identity;
+use crate::state::Removals;
 use crate::{entries, numbered_path};
 use kt_base::{NoMemory, Text};
 use std::alloc::Global;
@@ -15,36 +16,6 @@ use std::{fs, io, thread};
 
 /// The size of the buffer for the names of entries, in bytes.
 const PIECE: usize = 1_024;
-
-/// A queue of removals below a root directory, which proceeds in short steps.
-///
-/// A subdirectory with entries is moved into the queue directory, and renamed to `0`, `1` and so on
-/// there. So is the directory of a case that takes too long to empty. The directories of the queue
-/// are emptied in this order. So each path stays short, even for deeply nested directories.
-///
-/// If the root was removed or replaced by another directory, nothing is removed. If the queue
-/// directory was removed or replaced, no directory is moved into it, and its entries are left. The
-/// removal of the root then fails if a directory with entries is at the path of the queue
-/// directory.
-#[derive(Drop)]
-pub struct Removals {
-    /// The path of the root directory.
-    pub root: Text,
-    /// The path of the queue directory, which is an entry of the root.
-    pub place: Text,
-    /// The identity of the root directory at the start.
-    pub(crate) root_itself: Identity,
-    /// The identity of the queue directory when it was created.
-    place_itself: Identity,
-    /// The number that the next moved directory gets.
-    moved: u64,
-    /// The number of the directory that is emptied next.
-    done: u64,
-    /// The numbers without a directory, since the move to them failed.
-    gaps: Vec<u64>,
-    /// `true` if an entry was removed or moved since the work on the current directory began.
-    progress: bool,
-}
 
 /// Returns the path of the directory with this number in the queue directory `place`.
 fn moved_path(alloc: Global, place: &Text, number: u64) -> Result<Text, NoMemory>

@@ -1,7 +1,7 @@
 -- The entry of a case, from its job and its own events.
 use Rattle.std.specs.Prelude.{ℕ, true, List, [], ◌∷◌, ◌≡◌, ◌-◌, Some, Result, Ok, slice_get, ⊤}
 use Rattle.kt_sched.specs.Types.{Body, Cleanup, Ended, Entry, Job, Judged, Output, Refused, SinkFault, Started}
-use Rattle.kt_base.specs.declared.child.Refused.{Refused as Cause}
+use Rattle.kt_base.specs.declared.failed_start.Refused.{Refused as Cause}
 use Rattle.kt_status.specs.declared.cleanup_end.CleanupEnd.TheVariants as cleanup
 use Rattle.kt_status.specs.Tables.{IsVerdict, IsVerdictOfRefusal, IsVerdictAfter}
 use Rattle.kt_sched.specs.Trace.{Event, Start, End, Trace, of}

@@ -1,10 +1,10 @@
 -- The rows of the tables of failed starts and of cleanups.
 use Rattle.std.proofs.Common.{◌≡◌, ℕ, ◌<◌, Bool, true, false, refl, sym, subst, arith, codes, nat_eq, if◌then◌else◌}
 use Rattle.kt_status.proofs.Common.{Outcome, Exited, Signaled, TimedOut, WaitFailed, Judged, RefusalRow, CleanupRow, IsVerdictOfRefusal, IsVerdictAfter, verdict_of_refusal, cleaned, verdict_after_cleanup}
-use Rattle.kt_base.specs.declared.child.Refused.{Refused}
+use Rattle.kt_base.specs.declared.failed_start.Refused.{Refused}
 use Rattle.kt_base.specs.Kinds.{good}
 use Rattle.kt_status.specs.declared.cleanup_end.CleanupEnd.{CleanupEnd}
-use Rattle.kt_base.specs.declared.child.Refused.TheVariants as refused
+use Rattle.kt_base.specs.declared.failed_start.Refused.TheVariants as refused
 use Rattle.kt_base.specs.Verdicts as verdict
 use Rattle.kt_status.specs.Tables as row
 use Rattle.kt_status.specs.declared.cleanup_end.CleanupEnd.TheVariants as cleanup

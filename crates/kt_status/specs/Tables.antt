@@ -4,8 +4,8 @@ use Rattle.std.specs.Prelude.{◌≡◌, ℕ, ◌<◌, ◌≤◌, Bool, false, L
 use Rattle.std.specs.Fmt.{decimal}
 use Rattle.kt_base.specs.declared.child.Outcome.{Outcome}
 use Rattle.kt_base.specs.declared.child.Outcome.TheVariants.{Exited, Signaled, TimedOut, WaitFailed}
-use Rattle.kt_base.specs.declared.child.Refused.{Refused}
-use Rattle.kt_base.specs.declared.child.Refused.TheVariants as refused
+use Rattle.kt_base.specs.declared.failed_start.Refused.{Refused}
+use Rattle.kt_base.specs.declared.failed_start.Refused.TheVariants as refused
 use Rattle.kt_base.specs.Reasons.{ending_text}
 use Rattle.kt_base.specs.Kinds.{good}
 use Rattle.kt_base.specs.Verdicts as verdict

@@ -1,7 +1,7 @@
 -- Two lists of a tree's marks are equal up to a call with two results.
 use Rattle.std.proofs.Common.{Option, Some, None, Result, Ok, Err, Bool, ◌≡◌, ℕ, List, [], ◌∷◌, ◌++◌, refl, sym, subst, ap, ◌∙◌}
 use Rattle.kt_suite.proofs.Common.{ScriptFault, Stmt, Spells, IsDue, ReadFault, SuiteCause, NoSyntax, Script, Meaning, Program, Asked, Read, Exists, SameQuestion, fault_at, read_fault, script_line, meaning_of, opening_fault, beside, Site, site_fault, looked_up, Mark, Asks, File, Fault, Part, Says, Includes, said, suite_after, StatementsSay, none, one, FileSays, unread, no_script, no_statement, unopened, opened, Unfolds, end, says, refused, entered, TreeGives}
-use Rattle.kt_suite.specs.declared.statement.Meaning.TheVariants as meaning
+use Rattle.kt_suite.specs.declared.meaning.Meaning.TheVariants as meaning
 use Rattle.kt_script.proofs.OneAnswer.{two_spelled, two_due, not_both}
 
 -- `Agree ms ns`: the marks are equal up to a call with two results.

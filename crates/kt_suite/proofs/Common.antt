@@ -34,7 +34,7 @@ pub use Rattle.kt_suite.specs.Paths.{beside, directory_of, is_component}
 pub use Rattle.kt_suite.specs.Registered.{Decides, IsNext, IsUndecided, Outcome, Registered, Unfinished, all, faults_in, file_limit, file_too_many, files_in, is_fault, no_question, program_limit, program_too_many, programs_in, questions_in, stopped, thrown_away}
 pub use Rattle.kt_suite.specs.Selecting.{unmatched_places, is_unmatched, is_selected, matches_item, places, selected_places}
 pub use Rattle.kt_suite.specs.Tables.{declared, definition, definitions, first_fault, is_property, key_fault, pair_fault, table_of, unless, value_cause}
-pub use Rattle.kt_suite.specs.declared.loader.Registry.{Registry}
-pub use Rattle.kt_suite.specs.declared.loader.LoadStep.{LoadStep}
-pub use Rattle.kt_suite.specs.declared.loader.LoadStep.TheVariants.{Enter, Next}
+pub use Rattle.kt_suite.specs.declared.registry.Registry.{Registry}
+pub use Rattle.kt_suite.specs.declared.registry.LoadStep.{LoadStep}
+pub use Rattle.kt_suite.specs.declared.registry.LoadStep.TheVariants.{Enter, Next}
 pub use Rattle.kt_suite.specs.declared.tree.ReadFault.TheVariants.{Missing}

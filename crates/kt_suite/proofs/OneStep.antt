@@ -3,7 +3,7 @@ use Rattle.std.proofs.Common.{Bool, true, false, Some, None, Result, Ok, Err, â—
 use Rattle.kt_suite.proofs.Common.{Variable, SuiteCause, MissingProgram, TooMany, SuiteFault, Meaning, Program, Registry, Missing, LoadStep, Next, Enter, Asked, Exists, IsNoMemory, beside, Site, site_fault, looked_up, Mark, Asks, File, Listed, Fault, said, unread, entry_fault, Unfolds, end, says, refused, entered, file_limit, program_limit, is_fault, file_too_many, program_too_many, no_question, Walked, through, stops, short, Adds, Entered, Enters, refuses, exceeds, scant, MeaningGives, Stepped, goes, enters, fails}
 use Rattle.kt_base.specs.declared.child.Interface.{Interface}
 use Rattle.kt_suite.specs.Inner.Walks.{counts}
-use Rattle.kt_suite.specs.declared.statement.Meaning.TheVariants as meaning
+use Rattle.kt_suite.specs.declared.meaning.Meaning.TheVariants as meaning
 use Rattle.kt_suite.proofs.Unfolding.{some_file, some_marks}
 use Rattle.kt_suite.proofs.Walking.{walked-as}
 

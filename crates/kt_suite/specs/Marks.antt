@@ -3,7 +3,7 @@ use Rattle.std.specs.Prelude.{ℕ, Bool, true, false, List, [], ◌∷◌, ◌++
 use Rattle.std.specs.List.{list_any}
 use Rattle.kt_suite.specs.Types.{IncludeLoop, Meaning, MissingProgram, NoSyntax, Program, ReadFault, Script, ScriptFault, Stmt, SuiteCause, SuiteFault, TooDeep}
 use Rattle.kt_script.specs.Spelling.{Spells, IsDue}
-use Rattle.kt_suite.specs.declared.statement.Meaning.TheVariants as meaning
+use Rattle.kt_suite.specs.declared.meaning.Meaning.TheVariants as meaning
 use Rattle.kt_suite.specs.Answers.{Asked, Read, Exists}
 use Rattle.kt_suite.specs.Faults.{fault_at, read_fault, script_line}
 use Rattle.kt_suite.specs.Meanings.{meaning_of, opening_fault}

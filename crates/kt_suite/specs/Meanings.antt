@@ -10,7 +10,7 @@ use Rattle.kt_script.specs.declared.syntax.Literal.TheVariants.{Number}
 use Rattle.kt_script.specs.LiteralText.{text_of}
 use Rattle.kt_suite.specs.declared.call.Call.{Call as CallKind}
 use Rattle.kt_suite.specs.declared.call.Call.TheVariants as call
-use Rattle.kt_suite.specs.declared.statement.Meaning.TheVariants as meaning
+use Rattle.kt_suite.specs.declared.meaning.Meaning.TheVariants as meaning
 use Rattle.kt_suite.specs.Calls.{call_named}
 use Rattle.kt_suite.specs.Tables.{declared}
 use Rattle.kt_suite.specs.Paths.{has_directory, leads_down}

@@ -10,5 +10,5 @@ pub use Rattle.kt_suite.specs.declared.filter.FilterFault.{FilterFault}
 pub use Rattle.kt_suite.specs.declared.program.Program.{Program}
 pub use Rattle.kt_suite.specs.declared.table.ProgramTable.{ProgramTable}
 pub use Rattle.kt_suite.specs.declared.selecting.Item.{Item}
-pub use Rattle.kt_suite.specs.declared.statement.Meaning.{Meaning}
+pub use Rattle.kt_suite.specs.declared.meaning.Meaning.{Meaning}
 pub use Rattle.kt_suite.specs.declared.tree.ReadFault.{ReadFault}

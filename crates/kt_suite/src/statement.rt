@@ -3,28 +3,12 @@ ghost use Rattle.kt_suite.specs.Meanings.{opening_fault, suite_meaning, include_
 
 use crate::SuiteCause;
 use crate::call::{Call, call_of};
+use crate::meaning::Meaning;
 use crate::paths::leads_down;
 use crate::table::read_program;
-use kt_base::{Interface, NoMemory, Text};
-use kt_metadata::Props;
+use kt_base::{NoMemory, Text};
 use kt_script::{Action, Arg, Literal};
 use std::alloc::Global;
-
-/// A meaning of a statement after the first statement of a Kyuafile: its effect, or its error.
-///
-/// The meaning does not depend on the files of the tree.
-#[derive(Drop)]
-pub enum Meaning {
-    /// The test suite of the programs after the statement.
-    Suite(Text),
-    /// The path of the included file, relative to the directory of the including file.
-    Include(Text),
-    /// A program to register: its interface, its name in the directory of the file, its test suite
-    /// and its properties.
-    Program(Interface, Text, Text, Props),
-    /// The cause of the error in the statement.
-    Wrong(SuiteCause),
-}
 
 /// Returns the cause of the error if `action` is the first statement of a Kyuafile.
 ///

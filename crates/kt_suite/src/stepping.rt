@@ -2,9 +2,10 @@ ghost use Rattle.std.specs.Prelude.{◌≡◌, Err, IfErr, IfOk, OnOk};
 ghost use Rattle.kt_suite.specs.Common.{list_any, bytes_eq, beside, entry_fault, meaning_of, suite_after, Adds, Entered, Enters, Stepped};
 
 use crate::fault::{fault_at, no_memory};
-use crate::loader::{LoadStep, Registry};
+use crate::meaning::Meaning;
 use crate::paths::path_beside;
-use crate::statement::{Meaning, read_statement};
+use crate::registry::{LoadStep, Registry};
+use crate::statement::read_statement;
 use crate::{Program, SuiteCause, SuiteFault, Tree};
 use kt_base::Text;
 use kt_script::Stmt;

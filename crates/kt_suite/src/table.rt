@@ -4,8 +4,8 @@ ghost use Rattle.kt_suite.specs.Meanings.{program_meaning};
 ghost use Rattle.kt_suite.specs.Common.{Variable, last_values, props_with, with_props, table_with, definition, table_of, declared};
 
 use crate::SuiteCause;
+use crate::meaning::Meaning;
 use crate::paths::leads_away;
-use crate::statement::Meaning;
 use kt_base::{Interface, NoMemory, Text};
 use kt_metadata::{PropFault, Props, is_kyuafile_property};
 use kt_script::{Arg, Pair};

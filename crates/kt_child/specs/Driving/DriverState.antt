@@ -3,7 +3,7 @@
 use Rattle.std.specs.Prelude.{◌≡◌, ℕ, ◌+◌, ◌-◌, ◌<◌, ◌^◌, ◌⊎◌, List, [], ◌∷◌, ◌++◌, Bool, Option, Some, None, Result, map, remove, slice_get}
 use Rattle.kt_child.specs.Types.{Body, CaseAttempt, Chain, Cleanup, Ended, Job, OsFault, Outcome, Polled, Refused as RefusedFor, Role, StartAnswer, Started as StartedAt, Watched}
 use Rattle.kt_child.specs.declared.driving.driver.Driver.{Driver}
-use Rattle.kt_base.specs.declared.child.Refused.TheVariants.{Directory}
+use Rattle.kt_base.specs.declared.failed_start.Refused.TheVariants.{Directory}
 use Rattle.kt_child.specs.System.Calls.{Call, Kill, Pause, Poll}
 use Rattle.kt_child.specs.Planning.ChildPlan.{child_of, paths_of}
 use Rattle.kt_child.specs.Polling.ChildOutcome.{Heard, HeardKill, HeardPoll, Yields, answered}

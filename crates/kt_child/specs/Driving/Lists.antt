@@ -2,7 +2,7 @@
 use Rattle.std.specs.Prelude.{◌≡◌, ◌<◌, ◌+◌, ◌-◌, ◌^◌, ◌⊎◌, ℕ, List, [], ◌∷◌, ◌++◌, Bool, Result, Ok, Err}
 use Rattle.kt_child.specs.Types.{CaseAttempt, Chain, FileRead, ListBytes, Listing, OsFault, Outcome, Spawning, Variable, Watched}
 use Rattle.kt_child.specs.declared.driving.driver.Driver.{Driver}
-use Rattle.kt_base.specs.declared.child.Refused.TheVariants.{Memory, Directory}
+use Rattle.kt_base.specs.declared.failed_start.Refused.TheVariants.{Memory, Directory}
 use Rattle.kt_atflist.specs.declared.listing.Listing.TheVariants.{Refused as RefusedFor, Ended}
 use Rattle.kt_child.specs.System.Calls.{Call, ReadFile, RemoveTree}
 use Rattle.kt_child.specs.Driving.DriverState.{Alive, IsOver, alive_of}

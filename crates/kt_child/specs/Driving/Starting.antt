@@ -1,8 +1,8 @@
 -- The start of a child: its calls, and the cause of a refusal.
 use Rattle.std.specs.Prelude.{◌≡◌, ℕ, List, [], ◌∷◌, ◌++◌, Result, Ok, Err, is_err, ◌⊎◌}
 use Rattle.kt_child.specs.Types.{Body, CaseAttempt, Cleanup, OsFault, Refused as RefusedFor, Role, Spawning, StartAnswer, Started as StartedAt, Watched}
-use Rattle.kt_base.specs.declared.child.Refused.{Refused}
-use Rattle.kt_base.specs.declared.child.Refused.TheVariants.{Directory, Output, Spawn as NotSpawned, Memory as NoMemory}
+use Rattle.kt_base.specs.declared.failed_start.Refused.{Refused}
+use Rattle.kt_base.specs.declared.failed_start.Refused.TheVariants.{Directory, Output, Spawn as NotSpawned, Memory as NoMemory}
 use Rattle.kt_child.specs.declared.system.OsFault.TheVariants.{Failed, Memory}
 use Rattle.kt_child.specs.Polling.ChildOutcome.{fresh}
 use Rattle.kt_child.specs.Ending.Ends.{Removes}

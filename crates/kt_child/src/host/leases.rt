@@ -1,4 +1,4 @@
-use crate::host::reads::read_start;
+use crate::host::file_start::read_start;
 use std::alloc::Global;
 use std::fs::{File, Metadata};
 use std::os::unix::fs::MetadataExt;

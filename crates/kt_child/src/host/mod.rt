@@ -3,6 +3,7 @@
 pub(crate) mod background;
 pub(crate) mod children;
 pub(crate) mod command;
+pub(crate) mod file_start;
 pub(crate) mod host_child;
 pub(crate) mod host_os;
 pub(crate) mod leases;

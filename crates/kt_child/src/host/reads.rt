@@ -1,55 +1,16 @@
-ghost use Rattle.std.specs.Prelude.{◌≡◌, ◌+◌, ◌≤◌, ◌<◌, length, take, drop, Some, MatchResult, IfOk, OnOk, IfSome};
+ghost use Rattle.std.specs.Prelude.{◌≡◌, ◌+◌, ◌<◌, MatchResult, IfOk, OnOk, IfSome};
 ghost use Rattle.kt_child.specs.Common.{error_kind, IsAt, IsUnopened, IsFront, IsHostRead, IsOpened, TakesAtMost};
 
+use crate::host::file_start::read_start;
 use crate::host::leases::is_leased;
 use crate::host::or_fault;
 use crate::{FileRead, OsFault};
-use kt_base::Bytes;
-use kt_suite::ReadFault;
 use std::alloc::Global;
 use std::fs::{File, Metadata, OpenFile, OpenOptions};
 use std::io::{ErrorKind, Read, Seek, SeekFrom};
 use std::os::unix::fs::MetadataExt;
 use std::rt::Files;
 use std::{fs, io};
-
-/// The greatest size of one read, in bytes.
-const PIECE: usize = 8_192;
-
-/// Reads at most `limit` bytes of a file, from its current position. An interrupted read is an
-/// error, too.
-///
-/// # Errors
-///
-/// - `Failed`: a read fails.
-/// - `Memory`: an allocation fails.
-pub fn read_start<F: Read>(alloc: Global, file: &mut F, limit: usize) -> Result<Bytes, ReadFault>
-    ensures few { IfOk result (λ bytes. length bytes ≤ limit) }
-    // If the remaining bytes are known, the result is their prefix, and the others remain.
-    ensures front { IfOk result (λ bytes. IfSome (F.remaining file.old)
-        (λ all. bytes ≡ take limit all)) }
-    ensures rest { OnOk result (IfSome (F.remaining file.old)
-        (λ all. F.remaining file.new ≡ Some (drop limit all))) }
-    // At most `limit` bytes are consumed, even if the call fails.
-    ensures past { TakesAtMost limit (F.remaining file.old) (F.remaining file.new) }
-{
-    let mut bytes = Bytes::new(alloc);
-    let mut buffer = [0u8; PIECE];
-    while bytes.len() < limit {
-        let want = PIECE.min(limit - bytes.len());
-        let count = match file.read(&mut buffer[..want]) {
-            Ok(count) => count,
-            Err(_) => return Err(ReadFault::Failed),
-        };
-        if count == 0 {
-            return Ok(bytes);
-        }
-        if let Err(refusal) = bytes.append(&buffer[..count]) {
-            return Err(ReadFault::Memory(refusal));
-        }
-    }
-    Ok(bytes)
-}
 
 /// Reads at most `limit` bytes of a file, from its current position, and returns whether more bytes
 /// follow.

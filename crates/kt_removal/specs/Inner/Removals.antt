@@ -4,7 +4,7 @@ use Rattle.std.specs.List.{list_all, list_any}
 use Rattle.std.specs.Fmt.{decimal}
 use Rattle.kt_base.specs.Digits.{is_digit}
 use Rattle.kt_base.specs.Utf8.{utf8}
-use Rattle.kt_removal.specs.declared.removals.Removals.{Removals}
+use Rattle.kt_removal.specs.declared.state.Removals.{Removals}
 
 -- `moved_dir place number`: the path of the directory with this number in the queue directory
 -- `place`.

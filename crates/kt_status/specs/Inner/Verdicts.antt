@@ -4,7 +4,7 @@ use Rattle.std.specs.Prelude.{ℕ, Bool, false, List, ◌++◌, codes, if◌then
 use Rattle.std.specs.Fmt.{decimal}
 use Rattle.kt_base.specs.declared.child.Outcome.{Outcome}
 use Rattle.kt_base.specs.declared.child.Outcome.TheVariants.{Exited, Signaled, TimedOut, WaitFailed}
-use Rattle.kt_base.specs.declared.child.Refused.{Refused}
+use Rattle.kt_base.specs.declared.failed_start.Refused.{Refused}
 use Rattle.kt_base.specs.Reasons.{ending_text, reason_text, refused_reason}
 use Rattle.kt_base.specs.Kinds.{good}
 use Rattle.kt_base.specs.Verdicts.{Judged, passed, skipped, expected_failure, failed, broken}

@@ -3,9 +3,9 @@
 use Rattle.std.specs.Prelude.{ℕ, Bool, true, List, [], ◌∷◌, ◌++◌, ◌≡◌, ◌<◌, ◌≤◌, ◌+◌, length, Some, None, Result, Ok, Err}
 use Rattle.kt_suite.specs.Types.{Meaning, NoSyntax, Program, ReadFault, Stmt, SuiteCause, SuiteFault, TooMany}
 use Rattle.kt_script.specs.Spelling.{Spells}
-use Rattle.kt_suite.specs.declared.loader.Registry.{Registry}
-use Rattle.kt_suite.specs.declared.loader.LoadStep.{LoadStep}
-use Rattle.kt_suite.specs.declared.loader.LoadStep.TheVariants.{Next, Enter}
+use Rattle.kt_suite.specs.declared.registry.Registry.{Registry}
+use Rattle.kt_suite.specs.declared.registry.LoadStep.{LoadStep}
+use Rattle.kt_suite.specs.declared.registry.LoadStep.TheVariants.{Next, Enter}
 use Rattle.kt_base.specs.Chains.{Chain}
 use Rattle.kt_suite.specs.Answers.{Asked, Read, Exists}
 use Rattle.kt_suite.specs.Faults.{fault_at, IsNoMemory}

@@ -1,6 +1,6 @@
 use Rattle.std.proofs.Common.{rules, ◌≡◌}
 use Rattle.kt_suite.proofs.Common.{meaning_of}
-use Rattle.kt_suite.specs.declared.statement.Meaning.TheVariants as meaning
+use Rattle.kt_suite.specs.declared.meaning.Meaning.TheVariants as meaning
 use Rattle.kt_suite.proofs.OneStep.{step_short, step_wrong, step_suite, step_included, step_added, step_not_added}
 use Rattle.kt_suite.proofs.stepping.step.Goals as goal
 

@@ -1,0 +1,32 @@
+use crate::identity::Identity;
+use kt_base::Text;
+
+/// A queue of removals below a root directory, which proceeds in short steps.
+///
+/// A subdirectory with entries is moved into the queue directory, and renamed to `0`, `1` and so on
+/// there. So is the directory of a case that takes too long to empty. The directories of the queue
+/// are emptied in this order. So each path stays short, even for deeply nested directories.
+///
+/// If the root was removed or replaced by another directory, nothing is removed. If the queue
+/// directory was removed or replaced, no directory is moved into it, and its entries are left. The
+/// removal of the root then fails if a directory with entries is at the path of the queue
+/// directory.
+#[derive(Drop)]
+pub struct Removals {
+    /// The path of the root directory.
+    pub root: Text,
+    /// The path of the queue directory, which is an entry of the root.
+    pub place: Text,
+    /// The identity of the root directory at the start.
+    pub(crate) root_itself: Identity,
+    /// The identity of the queue directory when it was created.
+    pub(crate) place_itself: Identity,
+    /// The number that the next moved directory gets.
+    pub(crate) moved: u64,
+    /// The number of the directory that is emptied next.
+    pub(crate) done: u64,
+    /// The numbers without a directory, since the move to them failed.
+    pub(crate) gaps: Vec<u64>,
+    /// `true` if an entry was removed or moved since the work on the current directory began.
+    pub(crate) progress: bool,
+}

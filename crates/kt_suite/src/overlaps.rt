@@ -1,0 +1,77 @@
+ghost use Rattle.std.specs.Prelude.{◌≡◌, ◌↔◌, List, ℕ, IfErr, IsTrue, OnOk, option_copied, find};
+ghost use Rattle.kt_suite.specs.Common.{is_within, IsWithin, is_same_filter, covers, overlap, ShareCase, overlap_fault, IsDisjoint, IsFirstFault};
+ghost use Rattle.kt_suite.specs.declared.filter.Filter.{Filter as OneFilter};
+
+use crate::within::is_within;
+use crate::{Filter, FilterFault};
+
+/// Returns `true` if `filter` matches each case that `other` matches.
+fn covers(filter: &Filter, other: &Filter) -> bool
+    ensures { result ≡ covers filter.now other.now }
+{
+    match &filter.case_name {
+        None => is_within(&filter.program, &other.program),
+        Some(_) => *filter == *other,
+    }
+}
+
+/// Returns `true` if one of two filters matches each case that the other matches.
+fn overlap(filter: &Filter, other: &Filter) -> bool
+    ensures { result ≡ overlap filter.now other.now }
+{
+    covers(filter, other) || covers(other, filter)
+}
+
+/// Returns the first of the filters `earlier` that overlaps with `filter`, or `None` if no filter
+/// does.
+fn first_overlap<'a>(filter: &Filter, earlier: &'a [Filter]) -> Option<&'a Filter>
+    ensures { option_copied result ≡ find (overlap filter.now) earlier.now }
+{
+    earlier.iter().find(|other| overlap(filter, *other))
+}
+
+/// Returns the error of the filter at `position`, or `None` if it overlaps with no earlier filter.
+fn overlap_fault(filters: &[Filter], position: usize) -> Option<FilterFault>
+    ensures { result ≡ overlap_fault filters.now position }
+{
+    let filter = filters.get(position)?;
+    let earlier = first_overlap(filter, &filters[..position])?;
+    if *filter == *earlier {
+        return Some(FilterFault::Repeated(position));
+    }
+    Some(FilterFault::NotDisjoint(position))
+}
+
+/// Checks that no two filters match the same case.
+///
+/// The error has the position of the first filter that overlaps with an earlier filter: both
+/// filters match some case. Allocates nothing.
+///
+/// # Errors
+///
+/// - `Repeated`: the filter is equal to the first earlier filter that it overlaps with.
+/// - `NotDisjoint`: the filter is not equal to the first earlier filter that it overlaps with.
+pub fn check_disjoint(filters: &[Filter]) -> Result<(), FilterFault>
+    ensures ok { OnOk result (IsDisjoint filters.now) }
+    ensures first { IfErr result (IsFirstFault filters.now) }
+{
+    for position in 0..filters.len() {
+        if let Some(fault) = overlap_fault(filters, position) {
+            return Err(fault);
+        }
+    }
+    Ok(())
+}
+
+/// Theorem: two filters overlap if and only if there is a case that both of them match.
+///
+/// A path is within a directory if and only if it is the directory, or begins with the directory
+/// and a slash. A comparison of two filters by their parts decides whether the filters are equal.
+pub fn filter_laws()
+    ensures within { (directory path : List ℕ) → IsTrue (is_within directory path)
+        ↔ IsWithin directory path }
+    ensures same { (filter other : OneFilter)
+        → IsTrue (is_same_filter filter other) ↔ (filter ≡ other) }
+    ensures overlap { (filter other : OneFilter)
+        → IsTrue (overlap filter other) ↔ ShareCase filter other }
+{}
